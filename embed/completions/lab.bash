@@ -2,18 +2,19 @@
 _lab() {
     local word=${COMP_WORDS[COMP_CWORD]} part=${COMP_WORDS[1]} files='*.toml' words
     if [ "$COMP_CWORD" -eq 1 ]; then
-        mapfile -t COMPREPLY < <(compgen -W "check play live orders callers draw help --help --version" -- "$word")
+        mapfile -t COMPREPLY < <(compgen -W "check play convert live orders callers draw help --help --version" -- "$word")
         return
     fi
     case ${COMP_WORDS[COMP_CWORD - 1]} in
-        --limit | --most | --page) return ;;
+        --limit | --most | --outcome | --upto | --page) return ;;
         --against) mapfile -t COMPREPLY < <(compgen -d -- "$word"); return ;;
     esac
     case $part in
         check) words="--bank --help" ;;
         play) words="--bank --limit --json --against --help" ;;
+        convert) words="--lines --toml --help" files='*.@(toml|trace|txt)' ;;
         live | callers) words="--bank --limit --help" ;;
-        orders) words="--bank --most --help" ;;
+        orders) words="--bank --most --outcome --help" ;;
         help) mapfile -t COMPREPLY < <(compgen -W "$("${COMP_WORDS[0]}" help 2>/dev/null | cut -d' ' -f2)" -- "$word"); return ;;
         draw) words="--svg --perfetto --csv --lanes --down --across --upto --page --help" files='*.@(toml|trace)' ;;
         *) words=--help ;;

@@ -19,7 +19,11 @@ use Rattle.lab_drawing.specs.declared.frames.Shows.TheVariants.{Words}
 use Rattle.lab_drawing.specs.declared.marks.Mark.{Mark}
 use Rattle.lab_drawing.specs.declared.moments.Moment.{Moment}
 use Rattle.lab_reports.specs.Events.{events_text}
-use Rattle.lab.specs.Draws.{AreLinesOf, AreMomentsOf, DrawsIf, DrawsPage, DrawsPlayed, DrawsRead, DrawsText, IsPicture, Origin, callers, events_of, fault_words, goes_for, moments_at, neither_text, origin_of, page_at, page_text, picture_text, rows_of, scenario, table_of, trace}
+use Rattle.lab.specs.Draws.{AreLinesOf, AreMomentsOf, DrawsIf, DrawsPage, DrawsPlayed, DrawsText, IsPicture, Origin, callers, events_of, fault_words, goes_for, moments_at, undrawn_text, origin_of, page_at, page_text, picture_text, rows_of, scenario, table_of, trace}
+use Rattle.lab_kinds.specs.Kinds.{kind_of}
+use Rattle.lab_kinds.specs.declared.kinds.TextKind.{TextKind}
+use Rattle.lab_kinds.specs.declared.kinds.TextKind.TheVariants as kinds
+use Rattle.lab.specs.Endings.{kinded_words, line_about}
 use Rattle.lab.specs.Outputs.{Output, Writes, refuses}
 use Rattle.lab.specs.declared.draws.Source.{Source}
 use Rattle.lab.specs.declared.draws.Source.TheVariants as source
@@ -95,28 +99,56 @@ pub line_of_misread : (text : List ℕ) (m : ℕ) → (misread.Line m ≡ misrea
 line_of_misread text m (inl h) = cc
 line_of_misread text m (inr h) = let same : m ≡ h.0 = cc (h.1) in subst (λ (n : ℕ). IsMisread text n) (sym same) h.2
 
--- a fault for which a text isn't played
-pub unplayed : (E : Type 0) (drawing : Drawing) (text : List ℕ) (line : ℕ) (made : Result (List ℕ) Fault) (e : Fault) (old quiet spoken : Option (List ℕ)) (r : Result ℕ E) → Refuses made e
-    → OnOk r (IsSomeAnd (fault_words e) (λ words. Appends quiet spoken (neither_text line words))) → IfOk r (λ s. s ≡ 2)
+-- a fault for which a text of a kind isn't played
+pub unplayed : (E : Type 0) (drawing : Drawing) (text : List ℕ) (line : ℕ) (made : Result (List ℕ) Fault) (kind : TextKind) (e : Fault) (old quiet spoken : Option (List ℕ)) (r : Result ℕ E)
+    → kind ≡ kind_of text → Refuses made e → OnOk r (IsSomeAnd (fault_words e) (λ words. Appends quiet spoken (undrawn_text kind line words))) → IfOk r (λ s. s ≡ 2)
     → IfOk r (Writes (DrawsPlayed drawing text line made) old old quiet spoken)
-unplayed E drawing text line made e old quiet spoken r is says ends = said_of E (DrawsPlayed drawing text line made) old quiet spoken (neither_text line) (fault_words e) r (by e is) says ends
+unplayed E drawing text line made kind e old quiet spoken r same is says ends =
+    said_of E (DrawsPlayed drawing text line made) old quiet spoken (undrawn_text (kind_of text) line) (fault_words e) r (by e is)
+    (subst (λ (k : TextKind). OnOk r (IsSomeAnd (fault_words e) (λ words. Appends quiet spoken (undrawn_text k line words)))) same says) ends
   where
-    by : (f : Fault) → Refuses made f → (output : Output) → IsSomeAnd (fault_words f) (λ w. output ≡ refuses 2 (neither_text line w)) → DrawsPlayed drawing text line made output
+    by : (f : Fault) → Refuses made f → (output : Output) → IsSomeAnd (fault_words f) (λ w. output ≡ refuses 2 (undrawn_text (kind_of text) line w)) → DrawsPlayed drawing text line made output
     by Text h output o = rw h o
     by Board h output o = rw h o
     by (Step n) h output o = rw h o
     by Memory h output o = absurd o
     by Write h output o = absurd o
 
+-- for which part a text is
+pub other_told : (kind : TextKind) (line : ℕ) (e : Fault) (quiet spoken : Option (List ℕ)) → (kind ≡ kinds.Scenario → ⊥)
+    → IsSomeAnd (kinded_words kind e) (λ words. Appends quiet spoken (line_about (codes "lab") words)) → IsSomeAnd (fault_words e) (λ words. Appends quiet spoken (undrawn_text kind line words))
+other_told kinds.Scenario line e quiet spoken other says = absurd (other refl)
+other_told kinds.Orders line Text quiet spoken other says = says
+other_told kinds.Orders line Board quiet spoken other says = says
+other_told kinds.Orders line (Step n) quiet spoken other says = says
+other_told kinds.Orders line Memory quiet spoken other says = says
+other_told kinds.Orders line Write quiet spoken other says = says
+other_told kinds.Callers line Text quiet spoken other says = says
+other_told kinds.Callers line Board quiet spoken other says = says
+other_told kinds.Callers line (Step n) quiet spoken other says = says
+other_told kinds.Callers line Memory quiet spoken other says = says
+other_told kinds.Callers line Write quiet spoken other says = says
+other_told kinds.Bank line Text quiet spoken other says = says
+other_told kinds.Bank line Board quiet spoken other says = says
+other_told kinds.Bank line (Step n) quiet spoken other says = says
+other_told kinds.Bank line Memory quiet spoken other says = says
+other_told kinds.Bank line Write quiet spoken other says = says
+
+pub others_told : {E : Type 0} (kind : TextKind) (line : ℕ) (e : Fault) (quiet spoken : Option (List ℕ)) (r : Result ℕ E) → (kind ≡ kinds.Scenario → ⊥)
+    → OnOk r (IsSomeAnd (kinded_words kind e) (λ words. Appends quiet spoken (line_about (codes "lab") words)))
+    → OnOk r (IsSomeAnd (fault_words e) (λ words. Appends quiet spoken (undrawn_text kind line words)))
+others_told kind line e quiet spoken (Ok s) other says = other_told kind line e quiet spoken other says
+others_told kind line e quiet spoken (Err x) other says = tt
+
 -- a text in UTF-8, and another
 pub of_text : (E : Type 0) (drawing : Drawing) (bytes text : List ℕ) (old new quiet spoken : Option (List ℕ)) (r : Result ℕ E) → text ≡ bytes → is_utf8 bytes ≡ true
-    → IfOk r (Writes (DrawsText drawing text) old new quiet spoken) → IfOk r (Writes (DrawsRead drawing (Some bytes)) old new quiet spoken)
+    → IfOk r (Writes (DrawsText drawing text) old new quiet spoken) → IfOk r (Writes (DrawsIf (is_utf8 bytes) drawing bytes) old new quiet spoken)
 of_text E drawing bytes text old new quiet spoken r same utf8 w =
-    written_as E (DrawsRead drawing (Some bytes)) old new quiet spoken (DrawsText drawing text) r
+    written_as E (DrawsIf (is_utf8 bytes) drawing bytes) old new quiet spoken (DrawsText drawing text) r
     (λ output h. subst (λ (b : Bool). DrawsIf b drawing bytes output) (sym utf8) (subst (λ (t : List ℕ). DrawsText drawing t output) same h)) w
 
 pub of_no_text : (E : Type 0) (drawing : Drawing) (bytes : List ℕ) (old quiet spoken : Option (List ℕ)) (r : Result ℕ E) → is_utf8 bytes ≡ false
-    → OnOk r (Appends quiet spoken (codes "lab: the text is no UTF-8\n")) → IfOk r (λ s. s ≡ 2) → IfOk r (Writes (DrawsRead drawing (Some bytes)) old old quiet spoken)
+    → OnOk r (Appends quiet spoken (codes "lab: the text is no UTF-8\n")) → IfOk r (λ s. s ≡ 2) → IfOk r (Writes (DrawsIf (is_utf8 bytes) drawing bytes) old old quiet spoken)
 of_no_text E drawing bytes old quiet spoken r utf8 says ends =
     let text = codes "lab: the text is no UTF-8\n" in
-    said E (DrawsRead drawing (Some bytes)) old quiet spoken 2 text r (subst (λ (b : Bool). DrawsIf b drawing bytes (refuses 2 text)) (sym utf8) refl) says ends
+    said E (DrawsIf (is_utf8 bytes) drawing bytes) old quiet spoken 2 text r (subst (λ (b : Bool). DrawsIf b drawing bytes (refuses 2 text)) (sym utf8) refl) says ends

@@ -1,11 +1,12 @@
 -- What is told of a word, whether it is a call's or not.
 use Rattle.std.proofs.Common.{◌≡◌, ℕ, List, Bool, true, false, refl}
+use Rattle.lab_live.specs.Helps.{call_help}
 use Rattle.lab.specs.Helps.{HelpsWith, no_call_text}
 use Rattle.lab.specs.Outputs.{prints, refuses}
 
-pub is_helped : (is_call : Bool) (word form : List ℕ) → is_call ≡ true → HelpsWith is_call word (prints form)
-is_helped true word form is = (form, refl)
-is_helped false word form is = cc
+pub is_helped : (is_call : Bool) (word : List ℕ) → is_call ≡ true → HelpsWith is_call word (prints (call_help word))
+is_helped true word is = refl
+is_helped false word is = cc
 
 pub is_no_call : (is_call : Bool) (word : List ℕ) → is_call ≡ false → HelpsWith is_call word (refuses 3 (no_call_text word))
 is_no_call false word isnt = refl

@@ -1,9 +1,12 @@
+pub mod BankLemmas
 pub mod CheckLemmas
+pub mod ConvertLemmas
 pub mod DrawLemmas
 pub mod HelpLemmas
 pub mod LiveLemmas
 pub mod OrderLemmas
 pub mod OutputLemmas
 pub mod PlayLemmas
+pub mod StreamLemmas
 pub mod TextLemmas
 pub mod WordLemmas

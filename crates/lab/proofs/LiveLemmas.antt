@@ -1,5 +1,5 @@
 -- What a driven machine answers, line by line and part by part of the input.
-use Rattle.std.proofs.Common.{◌≡◌, ◌≢◌, ◌∙◌, ◌⊎◌, inl, inr, ℕ, ◌<◌, ◌==◌, List, [], ◌∷◌, ◌++◌, append-nil, append_assoc, length, take, Bool, true, false, not, Option, Some, None, Result, Err, IfOk, OnOk, refl, sym, ap, subst}
+use Rattle.std.proofs.Common.{◌≡◌, ◌≢◌, ◌∙◌, ◌⊎◌, inl, inr, ℕ, ◌<◌, ◌≤◌, ◌==◌, List, [], ◌∷◌, ◌++◌, append-nil, append_assoc, length, take, Bool, true, false, not, Option, Some, None, Result, Ok, Err, IfOk, OnOk, option_map, refl, sym, ap, subst}
 use Rattle.std.specs.Prelude.{IsSomeAnd, codes, is_ok}
 use Rattle.std.specs.List.{All}
 use Rattle.std.specs.Io.KnownBytes.{Appends, Consumes, IsAtEnd}
@@ -22,11 +22,17 @@ use Rattle.lab_live.specs.Answers.{Answers, Does, TellsScenario, comment_text, m
 use Rattle.lab_lines.specs.Lines.{step_of_line}
 use Rattle.lab_live.specs.Sessions.{Driven, TellsEntry, TellsFull}
 use Rattle.lab_live.specs.States.{state_text}
-use Rattle.lab.specs.Endings.{fault_words, line_about}
-use Rattle.lab.specs.Lives.{AnswersAll, AnswersEach, AnswersInput, AnswersLine, Drives, DrivesText, Hears}
+use Rattle.lab_kinds.specs.Kinds.{kind_of}
+use Rattle.lab_kinds.specs.declared.kinds.TextKind.{TextKind}
+use Rattle.lab.specs.Endings.{kinded_words, line_about}
+use Rattle.lab_lines.specs.Kinds.{IsPlain}
+use Rattle.lab.specs.Lives.{AnswersAll, AnswersEach, AnswersInput, AnswersLine, Drives, DrivesGiven, DrivesText, DrivesUnlessRefused, Hears, Lives, SaysUndriven, SaysUnopened, default_text}
+use Rattle.lab.specs.Readings.{most_bytes}
+use Rattle.lab.specs.declared.texts.Unread.{Unread}
+use Rattle.lab.specs.declared.words.Driving.{Driving}
 use Rattle.lab.specs.Outputs.{Output, Writes, prints, refuses}
 use Rattle.lab.specs.Texts.{IsAllOf}
-use Rattle.lab.proofs.OutputLemmas.{told_of}
+use Rattle.lab.proofs.OutputLemmas.{told_kinded}
 
 -- ---- what is told behind a text, by itself
 
@@ -147,12 +153,62 @@ machine_driven known start end old mid new first h =
     (prints (trace ++ h.0), record { end = end; answers = h.0; answered = h.1; output_is = refl }, Appends-trans old mid new trace h.0 first h.2)
 
 -- a text for which there is no machine
-pub undriven : (E : Type 0) (bank : List Handler) (limit : Option ℕ) (known : Option (List ℕ)) (text : List ℕ) (fault : Fault) (old quiet spoken : Option (List ℕ)) (was : Result Bool E)
-    (r : Result ℕ E) → (fault ≡ Memory) ⊎ (scenario_of limit text ≡ Err fault)
-    → OnOk was (IsSomeAnd (fault_words fault) (λ words. Appends quiet spoken (line_about (codes "lab") words))) → IfOk r (λ s. (s ≡ 2) × (is_ok was ≡ true))
+pub undriven : (E : Type 0) (bank : List Handler) (limit : Option ℕ) (known : Option (List ℕ)) (text : List ℕ) (kind : TextKind) (fault : Fault) (old quiet spoken : Option (List ℕ)) (was : Result Bool E)
+    (r : Result ℕ E) → kind ≡ kind_of text → (fault ≡ Memory) ⊎ (scenario_of limit text ≡ Err fault)
+    → OnOk was (IsSomeAnd (kinded_words kind fault) (λ words. Appends quiet spoken (line_about (codes "lab") words))) → IfOk r (λ s. (s ≡ 2) × (is_ok was ≡ true))
     → IfOk r (Writes (DrivesText bank limit known text) old old quiet spoken)
-undriven E bank limit known text fault old quiet spoken was r (inl is) says ends =
-    told_of E (DrivesText bank limit known text) old quiet spoken (line_about (codes "lab")) (fault_words fault) was r
-    (λ output h. absurd (subst (λ (f : Fault). IsSomeAnd (fault_words f) (λ words. output ≡ refuses 2 (line_about (codes "lab") words))) is h)) says ends
-undriven E bank limit known text fault old quiet spoken was r (inr is) says ends =
-    told_of E (DrivesText bank limit known text) old quiet spoken (line_about (codes "lab")) (fault_words fault) was r (λ output h. inr (fault, is, h)) says ends
+undriven E bank limit known text kind fault old quiet spoken was r same is says ends =
+    told_kinded E (DrivesText bank limit known text) old quiet spoken (codes "lab") kind (kind_of text) fault was r same (λ output h. by is output h) says ends
+  where
+    by : (fault ≡ Memory) ⊎ (scenario_of limit text ≡ Err fault) → (output : Output) → IsSomeAnd (kinded_words (kind_of text) fault) (λ words. output ≡ refuses 2 (line_about (codes "lab") words))
+        → DrivesText bank limit known text output
+    by (inl is) output h = absurd (subst (λ (f : Fault). IsSomeAnd (kinded_words (kind_of text) f) (λ words. output ≡ refuses 2 (line_about (codes "lab") words))) is h)
+    by (inr is) output h = inr (fault, is, h)
+
+-- ---- what stands for a text
+
+pub given_read : (E : Type 0) (driving : Driving) (given plain : List ℕ) (known old new quiet spoken : Option (List ℕ)) (r : Result ℕ E) → IsPlain given plain
+    → IfOk r (DrivesUnlessRefused driving plain known old new quiet spoken) → IfOk r (DrivesGiven driving given known old new quiet spoken)
+given_read E driving given plain known old new quiet spoken (Ok s) is drives = inl (plain, is, drives)
+given_read E driving given plain known old new quiet spoken (Err e) is drives = tt
+
+pub given_unread : (E : Type 0) (driving : Driving) (given : List ℕ) (known old new quiet spoken : Option (List ℕ)) (r : Result ℕ E)
+    → IfOk r (Writes (SaysUndriven given) old new quiet spoken) → IfOk r (DrivesGiven driving given known old new quiet spoken)
+given_unread E driving given known old new quiet spoken (Ok s) says = inr says
+given_unread E driving given known old new quiet spoken (Err e) says = tt
+
+-- of a file
+of_plain : (driving : Driving) (path given plain : List ℕ) (known old new quiet spoken : Option (List ℕ)) (s : ℕ) → length given ≤ most_bytes → IsPlain given plain
+    → DrivesUnlessRefused driving plain known old new quiet spoken s → Lives (option_map (λ file. file.now) driving.bank) (Some path) driving.limit known old new quiet spoken s
+of_plain driving path given plain known old new quiet spoken s few is (inl refuses) = inl refuses
+of_plain driving path given plain known old new quiet spoken s few is (inr drives) = inr (inl (plain, (given, few, is), drives))
+
+of_given : (driving : Driving) (path given : List ℕ) (known old new quiet spoken : Option (List ℕ)) (s : ℕ) → length given ≤ most_bytes → DrivesGiven driving given known old new quiet spoken s
+    → Lives (option_map (λ file. file.now) driving.bank) (Some path) driving.limit known old new quiet spoken s
+of_given driving path given known old new quiet spoken s few (inl d) = of_plain driving path given d.0 known old new quiet spoken s few d.1 d.2
+of_given driving path given known old new quiet spoken s few (inr says) = inr (inr (inr (refl, given, few, says)))
+
+pub file_given : (E : Type 0) (driving : Driving) (path given : List ℕ) (known old new quiet spoken : Option (List ℕ)) (r : Result ℕ E) → length given ≤ most_bytes
+    → IfOk r (DrivesGiven driving given known old new quiet spoken)
+    → IfOk r (Lives (option_map (λ file. file.now) driving.bank) (Some path) driving.limit known old new quiet spoken)
+file_given E driving path given known old new quiet spoken (Ok s) few drives = of_given driving path given known old new quiet spoken s few drives
+file_given E driving path given known old new quiet spoken (Err e) few drives = tt
+
+-- of a file that isn't read
+pub file_unread : (E : Type 0) (driving : Driving) (path : List ℕ) (why : Unread) (known old new quiet spoken : Option (List ℕ)) (r : Result ℕ E)
+    → IfOk r (Writes (SaysUnopened path why) old new quiet spoken)
+    → IfOk r (Lives (option_map (λ file. file.now) driving.bank) (Some path) driving.limit known old new quiet spoken)
+file_unread E driving path why known old new quiet spoken (Ok s) says = inr (inr (inl (path, refl, why, says)))
+file_unread E driving path why known old new quiet spoken (Err e) says = tt
+
+-- without a file
+of_default : (driving : Driving) (text : List ℕ) (known old new quiet spoken : Option (List ℕ)) (s : ℕ) → text ≡ default_text
+    → DrivesUnlessRefused driving text known old new quiet spoken s → Lives (option_map (λ file. file.now) driving.bank) None driving.limit known old new quiet spoken s
+of_default driving text known old new quiet spoken s is (inl refuses) = inl refuses
+of_default driving text known old new quiet spoken s is (inr drives) = inr (inl (text, is, drives))
+
+pub no_file : (E : Type 0) (driving : Driving) (text : List ℕ) (known old new quiet spoken : Option (List ℕ)) (r : Result ℕ E) → text ≡ default_text
+    → IfOk r (DrivesUnlessRefused driving text known old new quiet spoken)
+    → IfOk r (Lives (option_map (λ file. file.now) driving.bank) None driving.limit known old new quiet spoken)
+no_file E driving text known old new quiet spoken (Ok s) is drives = of_default driving text known old new quiet spoken s is drives
+no_file E driving text known old new quiet spoken (Err e) is drives = tt

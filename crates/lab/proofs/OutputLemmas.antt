@@ -1,10 +1,20 @@
 -- What is written, by what each call of the body writes.
-use Rattle.std.proofs.Common.{◌≡◌, ◌≢◌, ℕ, List, [], Bool, true, Option, Some, None, Result, Ok, Err, IfOk, OnOk, refl}
+use Rattle.std.proofs.Common.{◌≡◌, ◌≢◌, ◌≤◌, length, subst, ℕ, List, [], Bool, true, Option, Some, None, Result, Ok, Err, IfOk, OnOk, refl}
 use Rattle.std.specs.Prelude.{IsSomeAnd, is_ok}
 use Rattle.std.specs.Io.KnownBytes.{Appends}
 use Rattle.std.proofs.KnownBytes.{Appends-nil}
-use Rattle.lab.specs.Outputs.{Output, Writes, WritesOfText, prints, refuses}
-use Rattle.lab.specs.Texts.{IsReadOf, reads_input}
+use Rattle.evl_scenario.specs.declared.faults.Fault.{Fault}
+use Rattle.lab_kinds.specs.declared.kinds.TextKind.{TextKind}
+use Rattle.lab_lines.specs.Kinds.{IsUnread}
+use Rattle.lab_lines.specs.declared.texts.LinesFault.{LinesFault}
+use Rattle.lab.specs.Endings.{kinded_words, line_about}
+use Rattle.lab.specs.Lines.{SaysUnread, place_text}
+use Rattle.lab.specs.Outputs.{OfRead, Output, Writes, WritesOfText, prints, refuses}
+use Rattle.lab.specs.Readings.{IsReadOf, IsTooLong, most_bytes, unread_words}
+use Rattle.lab.specs.Texts.{IsAllOf, reads_input}
+use Rattle.lab.specs.declared.texts.Unread.{Unread}
+use Rattle.lab.specs.declared.texts.Unread.TheVariants as unread
+use Rattle.lab.specs.declared.texts.Unread.TheVariants.{NoFile, TooLong}
 
 module _ (E : Type 0) (Is : Output → Type 0) (old new quiet spoken : Option (List ℕ)) where
   -- the output last, or the error stream
@@ -65,8 +75,49 @@ module _ (E : Type 0) (Is : Output → Type 0) (old quiet spoken : Option (List 
   told_of line words (Err d) (Ok s) is says ends = let no = ends.1 in cc
   told_of line words was (Err e) is says ends = tt
 
+-- a fault of a text of a kind
+pub told_kinded : (E : Type 0) (Is : Output → Type 0) (old quiet spoken : Option (List ℕ)) (name : List ℕ) (kind other : TextKind) (fault : Fault) (was : Result Bool E) (r : Result ℕ E) → kind ≡ other
+    → ((output : Output) → IsSomeAnd (kinded_words other fault) (λ w. output ≡ refuses 2 (line_about name w)) → Is output)
+    → OnOk was (IsSomeAnd (kinded_words kind fault) (λ w. Appends quiet spoken (line_about name w))) → IfOk r (λ s. (s ≡ 2) × (is_ok was ≡ true))
+    → IfOk r (Writes Is old old quiet spoken)
+told_kinded E Is old quiet spoken name kind other fault was r same is says ends =
+    told_of E Is old quiet spoken (line_about name) (kinded_words other fault) was r is
+    (subst (λ (k : TextKind). OnOk was (IsSomeAnd (kinded_words k fault) (λ w. Appends quiet spoken (line_about name w)))) same says) ends
+
+-- once it is told
+pub once_told : (E : Type 0) (P : Type 0) (was : Result Bool E) (r : Result ℕ E) → OnOk was P → IfOk r (λ s. (s ≡ 2) × (is_ok was ≡ true)) → OnOk r P
+once_told E P (Ok b) (Ok s) is ends = is
+once_told E P (Err d) (Ok s) is ends = let no = ends.1 in cc
+once_told E P was (Err e) is ends = tt
+
+-- a text of lines that can't be read
+some_said : (line : Option (List ℕ)) (output : Output) → IsSomeAnd line (λ l. output ≡ refuses 2 l) → (said : List ℕ) × IsSomeAnd line (λ l. said ≡ l) × (output ≡ refuses 2 said)
+some_said (Some l) output h = (l, refl, h)
+some_said None output h = absurd h
+
+pub unread_said : (name text : List ℕ) (e : LinesFault) (output : Output) → IsUnread text e → IsSomeAnd (place_text name e) (λ l. output ≡ refuses 2 l)
+    → (said : List ℕ) × SaysUnread name text said × (output ≡ refuses 2 said)
+unread_said name text e output is h = let s = some_said (place_text name e) output h in (s.0, (e, is, s.1), s.2)
+
 -- by what was read of a file
-pub of_text : (E : Type 0) (Is : Option (List ℕ) → Output → Type 0) (file known old new quiet spoken text : Option (List ℕ)) (r : Result ℕ E)
-    → (reads_input file ≡ true → IsReadOf known text) → IfOk r (Writes (Is text) old new quiet spoken) → IfOk r (WritesOfText Is file known old new quiet spoken)
-of_text E Is file known old new quiet spoken text (Ok s) read w = record { text = text; read = read; writes = w }
-of_text E Is file known old new quiet spoken text (Err e) read w = tt
+pub unread_is : (known : Option (List ℕ)) (why : Unread) → (why ≡ TooLong → IsTooLong known) → IsReadOf known (Err why)
+unread_is known NoFile long = tt
+unread_is known TooLong long = long refl
+unread_is known unread.Memory long = tt
+
+module _ (E : Type 0) (Is : List ℕ → Output → Type 0) (name : List ℕ) (file known old quiet spoken : Option (List ℕ)) where
+  pub of_read : (new : Option (List ℕ)) (text : List ℕ) (r : Result ℕ E) → length text ≤ most_bytes → (reads_input file ≡ true → IsAllOf known text)
+      → IfOk r (Writes (Is text) old new quiet spoken) → IfOk r (WritesOfText (OfRead Is name) file known old new quiet spoken)
+  of_read new text (Ok s) few read w =
+      record { text = Ok text; read = read; writes = record { output = w.output; is = (few, w.is); printed = w.printed; said = w.said; ended = w.ended } }
+  of_read new text (Err e) few read w = tt
+
+  pub of_unread : (why : Unread) (was : Result Bool E) (r : Result ℕ E) → (why ≡ TooLong → reads_input file ≡ true → IsTooLong known)
+      → OnOk was (IsSomeAnd (unread_words why) (λ w. Appends quiet spoken (line_about name w))) → IfOk r (λ s. (s ≡ 2) × (is_ok was ≡ true))
+      → IfOk r (WritesOfText (OfRead Is name) file known old old quiet spoken)
+  of_unread why was (Ok s) long says ends = record {
+    text = Err why;
+    read = λ reads. unread_is known why (λ is. long is reads);
+    writes = told_of E (OfRead Is name (Err why)) old quiet spoken (line_about name) (unread_words why) was (Ok s) (λ output h. h) says ends;
+  }
+  of_unread why was (Err e) long says ends = tt

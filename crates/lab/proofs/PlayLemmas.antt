@@ -19,8 +19,9 @@ use Rattle.lab_traces.specs.declared.traces.TraceLine.{TraceLine}
 use Rattle.lab_reports.specs.Json.{trace_json}
 use Rattle.lab_kinds.specs.declared.kinds.TextKind.{TextKind}
 use Rattle.lab.specs.Endings.{kinded_words, line_about, words_by}
-use Rattle.lab.specs.Texts.{IsReadOf, is_input, names_or_input}
-use Rattle.lab.specs.Plays.{IsJsonOf, IsReadFrom, IsTrace, Played, PlaysEach, Tells, TellsPlayed, Told, ends_ill, ends_well}
+use Rattle.lab.specs.Readings.{IsReadOf, Reading}
+use Rattle.lab.specs.Texts.{is_input, names_or_input}
+use Rattle.lab.specs.Plays.{IsJsonOf, IsReadFrom, IsTrace, Played, PlaysEach, Tells, TellsPlayed, Told, ends_ill, ends_well, says_ill}
 use Rattle.lab.specs.declared.words.Telling.{Telling}
 
 -- the texts of lines, and what they say
@@ -49,6 +50,23 @@ pub told_as : (E : Type 0) (Is Was : Told → Type 0) (old new quiet spoken : Op
 told_as E Is Was old new quiet spoken (Ok b) same t = record { told = t.told; is = same t.told t.is; prints = t.prints; says = t.says; answers = t.answers }
 told_as E Is Was old new quiet spoken (Err e) same t = tt
 
+-- of what has words, just that is said
+pub ill_told_of : (E : Type 0) (Is : Told → Type 0) (name : List ℕ) (words : Option (List ℕ)) (old quiet spoken : Option (List ℕ)) (r : Result Bool E)
+    → ((told : Told) → IsSomeAnd words (λ w. told ≡ ends_ill name [] w) → Is told) → IfOk r (λ b. b ≡ true)
+    → OnOk r (IsSomeAnd words (λ w. Appends quiet spoken (line_about name w))) → IfOk r (Tells Is old old quiet spoken)
+ill_told_of E Is name (Some w) old quiet spoken (Ok b) is answers says =
+    record { told = ends_ill name [] w; is = is _ refl; prints = Appends-nil old; says = says; answers = answers }
+ill_told_of E Is name None old quiet spoken (Ok b) is answers says = absurd says
+ill_told_of E Is name words old quiet spoken (Err e) is answers says = tt
+
+-- of a fault that has a line, just that is said
+pub told_of_line : (E : Type 0) (Is : Told → Type 0) (line : Option (List ℕ)) (old quiet spoken : Option (List ℕ)) (r : Result Bool E)
+    → ((said : List ℕ) → IsSomeAnd line (λ l. said ≡ l) → Is (says_ill said)) → IfOk r (λ b. b ≡ true) → OnOk r (IsSomeAnd line (λ l. Appends quiet spoken l))
+    → IfOk r (Tells Is old old quiet spoken)
+told_of_line E Is (Some l) old quiet spoken (Ok b) is answers says = record { told = says_ill l; is = is l refl; prints = Appends-nil old; says = says; answers = answers }
+told_of_line E Is None old quiet spoken (Ok b) is answers says = absurd says
+told_of_line E Is line old quiet spoken (Err e) is answers says = tt
+
 -- ---- several
 
 module _ (Is : Played → Type 0) where
@@ -63,7 +81,7 @@ module _ (Is : Played → Type 0) where
   or_false true = refl
   or_false false = refl
 
-  pub each_one : (name : List ℕ) (text known old new quiet spoken : Option (List ℕ)) (answer : Bool)
+  pub each_one : (name : List ℕ) (text : Reading) (known old new quiet spoken : Option (List ℕ)) (answer : Bool)
       → (is_input name ≡ true → IsReadOf known text) → Tells (λ told. Is (record { name = name; text = text; told = told })) old new quiet spoken answer
       → PlaysEach Is (name ∷ []) known old new quiet spoken answer
   each_one name text known old new quiet spoken answer read t =
@@ -123,7 +141,7 @@ module _ (Is : Played → Type 0) where
       )
 
   -- of a result
-  pub each_file : (E : Type 0) (name : List ℕ) (text known old new quiet spoken : Option (List ℕ)) (r : Result Bool E)
+  pub each_file : (E : Type 0) (name : List ℕ) (text : Reading) (known old new quiet spoken : Option (List ℕ)) (r : Result Bool E)
       → (is_input name ≡ true → IsReadOf known text) → IfOk r (Tells (λ told. Is (record { name = name; text = text; told = told })) old new quiet spoken)
       → IfOk r (PlaysEach Is (name ∷ []) known old new quiet spoken)
   each_file E name text known old new quiet spoken (Ok b) read t = each_one name text known old new quiet spoken b read t

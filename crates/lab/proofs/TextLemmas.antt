@@ -1,5 +1,5 @@
 -- The name at the end of a path.
-use Rattle.std.proofs.Common.{◌≡◌, ◌≢◌, ◌∙◌, ◌⊎◌, inl, inr, ℕ, suc, ◌-◌, ◌<◌, nat_eq, codes, ◌==◌, true, false, arith, List, [], ◌∷◌, ◌++◌, append_assoc, length, take, drop, get_or, Some, None, refl, sym, ap, subst}
+use Rattle.std.proofs.Common.{◌≡◌, ◌≢◌, ◌∙◌, ◌⊎◌, inl, inr, ℕ, suc, ◌-◌, ◌<◌, ◌≤◌, min, nat_eq, codes, ◌==◌, true, false, arith, List, [], ◌∷◌, ◌++◌, append_assoc, length, take, drop, get_or, length-take, take_all, Option, Some, None, Result, Ok, Err, IfOk, IfErr, refl, sym, ap, subst}
 use Rattle.std.proofs.lemmas.Bool.Decides.{eqb_tells}
 use Rattle.std.proofs.lemmas.List.{take-append-drop}
 use Rattle.std.proofs.lemmas.Str.Pattern.{NoCharPasses-char, drop_at_char, ends_text}
@@ -9,7 +9,9 @@ use Rattle.std.specs.Str.Pattern.{FindsTextSuffix, RFindsChar, SplitsAroundMatch
 use Rattle.std.specs.Prelude.{unwrap_or}
 use Rattle.std.proofs.lemmas.Bool.{ne_eqb}
 use Rattle.lab_traces.specs.Parts.{Lacks}
-use Rattle.lab.specs.Texts.{IsNameOf, stem_in}
+use Rattle.evl_shell.specs.Readings.{IsFrontOf}
+use Rattle.lab.specs.Readings.{IsTooLong, most_bytes}
+use Rattle.lab.specs.Texts.{IsAllOf, IsNameOf, stem_in}
 
 lacks_by : (c : ℕ) (text : List ℕ) → ((i : ℕ) → i < length text → get_or text i 0 ≢ c) → Lacks c text
 lacks_by c [] h = refl
@@ -52,3 +54,33 @@ pub stem_whole : (name : List ℕ) → FindsTextSuffix (codes ".toml") name None
 stem_whole name missing =
     let ends : false ≡ ends_with nat_eq name (codes ".toml") = ends_text false (codes ".toml") name missing in
     rw (← ends) refl
+
+-- ---- up to a bound
+
+-- what is read up to a bound and doesn't reach it is all
+all_read : (most : ℕ) (known : Option (List ℕ)) (read text : List ℕ) → text ≡ read → length text < most → IsFrontOf most known read → IsAllOf known text
+all_read most None read text same short front = tt
+all_read most (Some bytes) read text same short front =
+    let cut = length-take most bytes in
+    let long : length text ≡ min most (length bytes) = ap length (same ∙ front) ∙ cut in
+    same ∙ front ∙ take_all most bytes (by (length bytes) long)
+  where
+    by : (n : ℕ) → length text ≡ min most n → n ≤ most
+    by n long = omega (arith, long, short)
+
+-- and what reaches it is longer
+more_read : (most : ℕ) (known : Option (List ℕ)) (read : List ℕ) → most_bytes < length read → IsFrontOf most known read → IsTooLong known
+more_read most None read long front = tt
+more_read most (Some bytes) read long front =
+    let cut : length read ≡ min most (length bytes) = ap length front ∙ length-take most bytes in
+    omega (arith, long, cut)
+
+pub all_of_bounded : {V E : Type 0} (items : V → List ℕ) (known : Option (List ℕ)) (read : List ℕ) (r : Result V E) → IsFrontOf 67108865 known read
+    → IfOk r (λ t. items t ≡ read) → IfOk r (λ t. length (items t) ≤ most_bytes) → IfOk r (λ t. IsAllOf known (items t))
+all_of_bounded items known read (Ok t) front same few = all_read 67108865 known read (items t) same (omega (arith, few)) front
+all_of_bounded items known read (Err e) front same few = tt
+
+pub long_of_bounded : {V E : Type 0} (P : E → Type 0) (known : Option (List ℕ)) (read : List ℕ) (r : Result V E) → IsFrontOf 67108865 known read
+    → IfErr r (λ e. most_bytes < length read) → IfErr r (λ e. P e → IsTooLong known)
+long_of_bounded P known read (Ok t) front long = tt
+long_of_bounded P known read (Err e) front long = λ is. more_read 67108865 known read long front

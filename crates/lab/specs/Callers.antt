@@ -14,8 +14,10 @@ use Rattle.lab_callers.specs.declared.playing.Ending.{Ending}
 use Rattle.lab_callers.specs.declared.playing.Ending.TheVariants as ending
 use Rattle.lab_callers.specs.declared.playing.Played.{Played}
 use Rattle.lab.specs.Banks.{Refuses}
-use Rattle.lab.specs.Endings.{fault_words, line_about}
-use Rattle.lab.specs.Outputs.{Output, WritesOverBank, refuses}
+use Rattle.lab_kinds.specs.Kinds.{kind_of}
+use Rattle.lab.specs.Endings.{as_callers, kinded_words, line_about}
+use Rattle.lab.specs.Outputs.{OfRead, Output, WritesOverBank, refuses}
+use Rattle.lab.specs.Readings.{Reading}
 
 -- a step that can't be made is said
 abbrev pub ending_text : List ℕ → Ending → List ℕ
@@ -48,15 +50,14 @@ TellsPlayed bank name asked output =
 abbrev pub TellsText : List Handler → Option ℕ → List ℕ → List ℕ → Output → Type 0
 TellsText bank limit name text output =
     ((asked : CallersText) × IsRead limit text asked × TellsPlayed bank name asked output)
-    ⊎ ((fault : Fault) × IsSomeAnd (fault_words fault) (λ words. output ≡ refuses 2 (line_about name words)))
+    ⊎ ((fault : Fault) × IsSomeAnd (kinded_words (as_callers (kind_of text)) fault) (λ words. output ≡ refuses 2 (line_about name words)))
 
 -- of a file, by what was read of it
-abbrev pub TellsRead : List Handler → Option ℕ → List ℕ → Option (List ℕ) → Output → Type 0
-TellsRead bank limit name None output = output ≡ refuses 2 (line_about name (codes "no file"))
-TellsRead bank limit name (Some text) output = TellsText bank limit name text output
+abbrev pub TellsRead : List Handler → Option ℕ → List ℕ → Reading → Output → Type 0
+TellsRead bank limit name = OfRead (TellsText bank limit name) name
 
 -- the bank's file is refused, or what the callers of a file or of the input do is told over its callbacks
 abbrev pub TellsCallers : Option (List ℕ) → Option ℕ → Option (List ℕ) → Option (List ℕ) → Option (List ℕ) → Option (List ℕ) → Option (List ℕ) → Option (List ℕ) → ℕ → Type 0
 TellsCallers plans limit file known old new quiet spoken status =
-    Refuses plans old new status
+    Refuses plans old new quiet spoken status
     ⊎ WritesOverBank (λ bank. TellsRead bank limit (unwrap_or file (codes "-"))) plans file known old new quiet spoken status

@@ -1,5 +1,5 @@
 -- What `lab check` tells of texts, by their kinds.
-use Rattle.std.specs.Prelude.{◌≡◌, ◌⊎◌, ℕ, List, [], ◌++◌, map, codes, Bool, true, false, Option, Some, None}
+use Rattle.std.specs.Prelude.{◌≡◌, ◌≤◌, ◌⊎◌, ℕ, List, [], ◌++◌, length, map, Bool, true, false, Option, None, IsSomeAnd, Ok, Err}
 use Rattle.std.specs.List.{All, concat, list_any}
 use Rattle.std.specs.Io.KnownBytes.{Appends}
 use Rattle.evl_kernel.specs.state.States.{Handler}
@@ -8,9 +8,12 @@ use Rattle.lab_kinds.specs.Kinds.{kind_of}
 use Rattle.lab_kinds.specs.Reports.{Reports}
 use Rattle.lab_kinds.specs.declared.kinds.TextKind.{TextKind}
 use Rattle.lab_kinds.specs.declared.kinds.TextKind.TheVariants.{Scenario}
+use Rattle.lab_lines.specs.Kinds.{IsPlain}
 use Rattle.lab_warnings.specs.Warnings.{warnings_of}
 use Rattle.lab.specs.Banks.{IsBank, Refuses}
-use Rattle.lab.specs.Endings.{status_of}
+use Rattle.lab.specs.Endings.{line_about, status_of}
+use Rattle.lab.specs.Lines.{SaysUnread}
+use Rattle.lab.specs.Readings.{Reading, most_bytes, unread_words}
 
 -- ---- a text
 
@@ -30,22 +33,29 @@ pub record TellsText (bank : List Handler) (kind : TextKind) (name text before a
   pub reports : Reports kind name text before reported at_fault
   pub warned : after ≡ reported ++ warnings_unless at_fault (kind_warnings bank kind name text)
 
-pub record PrintsText (bank : List Handler) (name text : List ℕ) (old new : Option (List ℕ)) (at_fault : Bool) : Type 0 where
+-- what stands for a text is checked; of a text of lines that can't be read its first fault is told
+abbrev pub ChecksText : List Handler → List ℕ → List ℕ → List ℕ → Bool → Type 0
+ChecksText bank name text printed at_fault =
+    ((plain : List ℕ) × IsPlain text plain × TellsText bank (kind_of plain) name plain [] printed at_fault)
+    ⊎ (SaysUnread name text printed × (at_fault ≡ true))
+
+-- this was printed, and whether the text is at fault is answered
+pub record Prints (Is : List ℕ → Bool → Type 0) (old new : Option (List ℕ)) (at_fault : Bool) : Type 0 where
   pub printed : List ℕ
-  pub tells : TellsText bank (kind_of text) name text [] printed at_fault
+  pub tells : Is printed at_fault
   pub prints : Appends old new printed
 
 -- a file, what was read of it, what is printed, and whether it is at fault
 pub record Checked : Type 0 where
   pub name : List ℕ
-  pub text : Option (List ℕ)
+  pub text : Reading
   pub printed : List ℕ
   pub at_fault : Bool
 
 -- of a file, by what was read of it
-abbrev pub TellsFile : List Handler → List ℕ → Option (List ℕ) → List ℕ → Bool → Type 0
-TellsFile bank name None printed at_fault = (printed ≡ name ++ codes ": can't be read\n") × (at_fault ≡ true)
-TellsFile bank name (Some text) printed at_fault = TellsText bank (kind_of text) name text [] printed at_fault
+abbrev pub TellsFile : List Handler → List ℕ → Reading → List ℕ → Bool → Type 0
+TellsFile bank name (Ok text) printed at_fault = (length text ≤ most_bytes) × ChecksText bank name text printed at_fault
+TellsFile bank name (Err why) printed at_fault = IsSomeAnd (unread_words why) (λ words. printed ≡ line_about name words) × (at_fault ≡ true)
 
 abbrev pub IsChecked : List Handler → Checked → Type 0
 IsChecked bank c = TellsFile bank c.name c.text c.printed c.at_fault
@@ -71,4 +81,4 @@ pub record Checks (file : Option (List ℕ)) (names : List (List ℕ)) (old new 
 
 -- or that bank's file is refused
 abbrev pub ChecksUnlessRefused : Option (List ℕ) → List (List ℕ) → Option (List ℕ) → Option (List ℕ) → Option (List ℕ) → Option (List ℕ) → ℕ → Type 0
-ChecksUnlessRefused file names old new quiet spoken status = Refuses file old new status ⊎ Checks file names old new quiet spoken status
+ChecksUnlessRefused file names old new quiet spoken status = Refuses file old new quiet spoken status ⊎ Checks file names old new quiet spoken status

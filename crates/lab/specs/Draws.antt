@@ -9,6 +9,10 @@ use Rattle.evl_scenario.specs.declared.faults.Fault.{Fault}
 use Rattle.evl_scenario.specs.declared.faults.Fault.TheVariants as fault
 use Rattle.evl_shell.specs.Runs.{trace_of}
 use Rattle.evl_bank.specs.Bank.{program_bank}
+use Rattle.lab_kinds.specs.Kinds.{kind_of}
+use Rattle.lab_kinds.specs.declared.kinds.TextKind.{TextKind}
+use Rattle.lab_kinds.specs.declared.kinds.TextKind.TheVariants.{Scenario}
+use Rattle.lab_lines.specs.Kinds.{IsPlain}
 use Rattle.lab_traces.specs.Says.{IsLine, IsMisread, read_of, says_some, text_of, whole_lines}
 use Rattle.lab_traces.specs.declared.traces.TraceLine.{TraceLine}
 use Rattle.lab_drawing.specs.Lanes.{AreLanesOf}
@@ -25,7 +29,10 @@ use Rattle.lab_drawing.specs.declared.marks.Mark.{Mark}
 use Rattle.lab_drawing.specs.declared.moments.Moment.{Moment}
 use Rattle.lab_moments.specs.Moments.{moment_shown, shown_of}
 use Rattle.lab_reports.specs.Events.{events_text}
-use Rattle.lab.specs.Outputs.{Output, prints, refuses}
+use Rattle.lab.specs.Endings.{line_about, words_by}
+use Rattle.lab.specs.Lines.{SaysUnread}
+use Rattle.lab.specs.Outputs.{OfRead, Output, prints, refuses}
+use Rattle.lab.specs.Readings.{Reading}
 use Rattle.lab.specs.Texts.{text_in}
 use Rattle.lab.specs.declared.draws.Source.{Source}
 use Rattle.lab.specs.declared.draws.Source.TheVariants as source
@@ -155,15 +162,26 @@ fault_words fault.Write = None
 abbrev pub neither_text : ℕ → List ℕ → List ℕ
 neither_text line words = codes "lab: line " ++ (decimal line ++ (codes " is no line of a trace, and as a scenario it has " ++ (words ++ line_feed)))
 
+-- or, of another kind, for which part the text is
+abbrev pub undrawn_text : TextKind → ℕ → List ℕ → List ℕ
+undrawn_text Scenario line words = neither_text line words
+undrawn_text kind line words = line_about (codes "lab") (words_by kind words)
+
 -- the trace of the scenario, or why there is none
 abbrev pub DrawsPlayed : Drawing → List ℕ → ℕ → Result (List ℕ) Fault → Output → Type 0
 DrawsPlayed drawing text line (Ok made) output = DrawsTrace drawing (scenario text) (text_in made) output
-DrawsPlayed drawing text line (Err e) output = IsSomeAnd (fault_words e) (λ words. output ≡ refuses 2 (neither_text line words))
+DrawsPlayed drawing text line (Err e) output = IsSomeAnd (fault_words e) (λ words. output ≡ refuses 2 (undrawn_text (kind_of text) line words))
+
+-- a text of lines is played by its scenario, if it can be read
+abbrev pub DrawsGiven : Drawing → List ℕ → ℕ → Output → Type 0
+DrawsGiven drawing text line output =
+    ((plain : List ℕ) × IsPlain text plain × DrawsPlayed drawing (text_in plain) line (trace_of program_bank None (text_in plain)) output)
+    ⊎ ((said : List ℕ) × SaysUnread (codes "lab") text said × (output ≡ refuses 2 said))
 
 -- a trace that was read, or else a text as a scenario
 abbrev pub DrawsWhole : Drawing → Origin → List ℕ → List ℕ → Output → Type 0
 DrawsWhole drawing origin read text output =
-    DrawsTrace drawing origin read output ⊎ ((line : ℕ) × IsMisread read line × DrawsPlayed drawing text line (trace_of program_bank None text) output)
+    DrawsTrace drawing origin read output ⊎ ((line : ℕ) × IsMisread read line × DrawsGiven drawing text line output)
 
 -- ---- a text
 
@@ -182,6 +200,5 @@ DrawsIf true drawing text output = DrawsText drawing text output
 DrawsIf false drawing text output = output ≡ refuses 2 (codes "lab: the text is no UTF-8\n")
 
 -- of a file, by what was read of it
-abbrev pub DrawsRead : Drawing → Option (List ℕ) → Output → Type 0
-DrawsRead drawing None output = output ≡ refuses 2 (codes "lab: no file\n")
-DrawsRead drawing (Some text) output = DrawsIf (is_utf8 text) drawing text output
+abbrev pub DrawsRead : Drawing → List ℕ → Reading → Output → Type 0
+DrawsRead drawing = OfRead (λ text. DrawsIf (is_utf8 text) drawing text)

@@ -25,7 +25,16 @@ words_by Orders words = codes "has [[setup]] or [ask]: a text for lab orders"
 words_by Callers words = codes "has staxes or words of callers: a text for lab callers"
 words_by Bank words = codes "has [[callback]]: a bank, for --bank"
 
--- the words of what is wrong in a text of a kind that is played as a scenario
+-- a part that takes texts of this kind beside scenarios takes one as it takes these
+abbrev pub as_orders : TextKind → TextKind
+as_orders Orders = Scenario
+as_orders kind = kind
+
+abbrev pub as_callers : TextKind → TextKind
+as_callers Callers = Scenario
+as_callers kind = kind
+
+-- the words of what is wrong in a text of a kind that is taken as a scenario
 abbrev pub kinded_words : TextKind → Fault → Option (List ℕ)
 kinded_words kind fault = option_map (words_by kind) (fault_words fault)
 

@@ -55,6 +55,9 @@ draw_part =
 unfoldable pub play_part : Shape
 play_part = part (codes "play") (bank_rule ∷ limit_rule ∷ mark_rule (codes "json") ∷ text_rule (codes "against") ∷ several_rule (codes "FILE") ∷ [])
 
+unfoldable pub convert_part : Shape
+convert_part = part (codes "convert") (mark_rule (codes "lines") ∷ mark_rule (codes "toml") ∷ file_rule ∷ [])
+
 unfoldable pub live_part : Shape
 live_part = part (codes "live") (bank_rule ∷ limit_rule ∷ file_rule ∷ [])
 
@@ -78,7 +81,7 @@ program parts = record {
 }
 
 abbrev pub grammar : App
-grammar = program (check_part ∷ draw_part ∷ play_part ∷ live_part ∷ orders_part ∷ callers_part ∷ help_part ∷ [])
+grammar = program (check_part ∷ draw_part ∷ play_part ∷ convert_part ∷ live_part ∷ orders_part ∷ callers_part ∷ help_part ∷ [])
 
 -- ---- of commands
 

@@ -1,6 +1,7 @@
--- What `lab help` tells: of the forms themselves nothing is said here.
+-- What `lab help` tells.
 use Rattle.std.specs.Prelude.{◌≡◌, ℕ, List, ◌++◌, codes, Bool, true, false, Option, Some, None, is_some}
 use Rattle.evl_scenario.specs.Steps.{word_of}
+use Rattle.lab_live.specs.Helps.{call_help, forms_text}
 use Rattle.lab.specs.Outputs.{Output, prints, refuses}
 
 abbrev pub no_call_text : List ℕ → List ℕ
@@ -8,9 +9,9 @@ no_call_text word = codes "lab: there is no call " ++ (word ++ codes "; ./lab he
 
 -- of a word that is a call's, or of another one
 abbrev pub HelpsWith : Bool → List ℕ → Output → Type 0
-HelpsWith true word output = (form : List ℕ) × (output ≡ prints form)
+HelpsWith true word output = output ≡ prints (call_help word)
 HelpsWith false word output = output ≡ refuses 3 (no_call_text word)
 
 abbrev pub Helps : Option (List ℕ) → Output → Type 0
-Helps None output = (forms : List ℕ) × (output ≡ prints forms)
+Helps None output = output ≡ prints forms_text
 Helps (Some word) output = HelpsWith (is_some (word_of word)) word output

@@ -1,10 +1,12 @@
 -- What `lab live` answers, line by line.
-use Rattle.std.specs.Prelude.{◌≡◌, ◌⊎◌, ℕ, List, [], ◌∷◌, ◌++◌, codes, true, false, Option, Some, None, IsSomeAnd, is_some, option_map, Ok, Err}
+use Rattle.std.specs.Prelude.{◌≡◌, ◌≤◌, ◌⊎◌, ℕ, List, [], ◌∷◌, ◌++◌, codes, length, true, false, Option, Some, None, IsSomeAnd, is_some, option_map, Ok, Err}
 use Rattle.std.specs.List.{All}
 use Rattle.evl_kernel.specs.state.States.{Handler}
 use Rattle.evl_scenario.specs.Scenarios.{Script, scenario_of}
 use Rattle.evl_scenario.specs.Traces.{history_trace}
 use Rattle.evl_scenario.specs.declared.faults.Fault.{Fault}
+use Rattle.lab_kinds.specs.Kinds.{kind_of}
+use Rattle.lab_lines.specs.Kinds.{IsPlain}
 use Rattle.lab_traces.specs.Parts.{Lacks}
 use Rattle.lab_traces.specs.Says.{whole_lines}
 use Rattle.lab_live.specs.Answers.{Does, GoesOn, TellsScenario, comment_text, may_call, script_of, trimmed}
@@ -12,9 +14,12 @@ use Rattle.lab_lines.specs.Lines.{step_of_line}
 use Rattle.lab_live.specs.Sessions.{Driven, Opens}
 use Rattle.lab_live.specs.States.{state_text}
 use Rattle.lab.specs.Banks.{IsBank, Refuses}
-use Rattle.lab.specs.Endings.{fault_words, line_about}
+use Rattle.lab.specs.Endings.{kinded_words, line_about}
+use Rattle.lab.specs.Lines.{SaysUnread}
 use Rattle.lab.specs.Outputs.{Output, Writes, prints, refuses}
+use Rattle.lab.specs.Readings.{most_bytes, unread_words}
 use Rattle.lab.specs.Texts.{IsAllOf}
+use Rattle.lab.specs.declared.texts.Unread.{Unread}
 use Rattle.lab.specs.declared.words.Driving.{Driving}
 
 -- ---- lines
@@ -73,7 +78,7 @@ pub record Drives (known : Option (List ℕ)) (start : Driven) (output : Output)
 abbrev pub DrivesText : List Handler → Option ℕ → Option (List ℕ) → List ℕ → Output → Type 0
 DrivesText bank limit known text output =
     ((script : Script) × (scenario_of limit text ≡ Ok script) × (start : Driven) × Opens script bank start × Drives known start output)
-    ⊎ ((fault : Fault) × (scenario_of limit text ≡ Err fault) × IsSomeAnd (fault_words fault) (λ words. output ≡ refuses 2 (line_about (codes "lab") words)))
+    ⊎ ((fault : Fault) × (scenario_of limit text ≡ Err fault) × IsSomeAnd (kinded_words (kind_of text) fault) (λ words. output ≡ refuses 2 (line_about (codes "lab") words)))
 
 -- the scenario where no file is named
 abbrev pub default_text : List ℕ
@@ -81,10 +86,18 @@ default_text =
     codes "limit = 1000000\n[board]\nthreads = 8\nsems = [0, 0, 0, 0]\nflags = [0, 0]\nxbufs = [[64, 64]]\n"
     ++ codes "mutexes = [\"normal\", \"normal\", \"recursive\", \"ceiling 50\"]\ngroups = [50]\n"
 
--- the text of a file, of which nobody knows, or that one
+-- the text that stands for that of a file, of which nobody knows, or that one
 abbrev pub IsTextOf : Option (List ℕ) → List ℕ → Type 0
 IsTextOf None text = text ≡ default_text
-IsTextOf (Some file) text = Unit {0}
+IsTextOf (Some file) text = (given : List ℕ) × (length given ≤ most_bytes) × IsPlain given text
+
+-- what is said of a text of lines that can't be read
+abbrev pub SaysUndriven : List ℕ → Output → Type 0
+SaysUndriven given output = (said : List ℕ) × SaysUnread (codes "lab") given said × (output ≡ refuses 2 said)
+
+-- or of a file that isn't read
+abbrev pub SaysUnopened : List ℕ → Unread → Output → Type 0
+SaysUnopened path why output = IsSomeAnd (unread_words why) (λ words. output ≡ refuses 2 (line_about path words))
 
 -- over the callbacks of a bank's file or the program's
 pub record DrivesOver (plans : Option (List ℕ)) (limit : Option ℕ) (text : List ℕ) (known old new quiet spoken : Option (List ℕ)) (status : ℕ) : Type 0 where
@@ -95,12 +108,19 @@ pub record DrivesOver (plans : Option (List ℕ)) (limit : Option ℕ) (text : L
 -- or that bank's file is refused
 abbrev pub DrivesUnlessRefused : Driving → List ℕ → Option (List ℕ) → Option (List ℕ) → Option (List ℕ) → Option (List ℕ) → Option (List ℕ) → ℕ → Type 0
 DrivesUnlessRefused driving text known old new quiet spoken status =
-    Refuses (option_map (λ file. file.now) driving.bank) old new status
+    Refuses (option_map (λ file. file.now) driving.bank) old new quiet spoken status
     ⊎ DrivesOver (option_map (λ file. file.now) driving.bank) driving.limit text known old new quiet spoken status
 
--- the bank is refused; or its machine is driven; or a file that is named can't be read
+-- of a text, by what stands for it; of a text of lines that can't be read its first fault is said
+abbrev pub DrivesGiven : Driving → List ℕ → Option (List ℕ) → Option (List ℕ) → Option (List ℕ) → Option (List ℕ) → Option (List ℕ) → ℕ → Type 0
+DrivesGiven driving given known old new quiet spoken status =
+    ((plain : List ℕ) × IsPlain given plain × DrivesUnlessRefused driving plain known old new quiet spoken status)
+    ⊎ Writes (SaysUndriven given) old new quiet spoken status
+
+-- the bank is refused; or its machine is driven; or a file that is named isn't read, or its lines can't be read
 abbrev pub Lives : Option (List ℕ) → Option (List ℕ) → Option ℕ → Option (List ℕ) → Option (List ℕ) → Option (List ℕ) → Option (List ℕ) → Option (List ℕ) → ℕ → Type 0
 Lives plans file limit known old new quiet spoken status =
-    Refuses plans old new status
+    Refuses plans old new quiet spoken status
     ⊎ (((text : List ℕ) × IsTextOf file text × DrivesOver plans limit text known old new quiet spoken status)
-    ⊎ ((is_some file ≡ true) × Writes (λ output. output ≡ refuses 2 (line_about (codes "lab") (codes "no file"))) old new quiet spoken status))
+    ⊎ (((path : List ℕ) × (file ≡ Some path) × (why : Unread) × Writes (SaysUnopened path why) old new quiet spoken status)
+    ⊎ ((is_some file ≡ true) × (given : List ℕ) × (length given ≤ most_bytes) × Writes (SaysUndriven given) old new quiet spoken status)))

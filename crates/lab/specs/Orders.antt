@@ -2,6 +2,9 @@
 use Rattle.std.specs.Prelude.{◌≡◌, ◌⊎◌, ◌+◌, ◌-◌, ◌^◌, min, ℕ, Bool, ◌||◌, nat_lt, false, MatchBool, if◌then◌else◌, List, ◌++◌, codes, length, decimal, position, slice_get, string_bytes, Option, Some, None, IsSomeAnd, option_and_then, option_map, unwrap_or}
 use Rattle.toml.specs.Parse.{parse_document}
 use Rattle.evl_kernel.specs.state.States.{Handler}
+use Rattle.lab_kinds.specs.Kinds.{kind_of}
+use Rattle.lab_kinds.specs.declared.kinds.TextKind.{TextKind}
+use Rattle.lab_lines.specs.Kinds.{IsOfCallers}
 use Rattle.lab_orders.specs.declared.tallies.Tally.{Tally}
 use Rattle.lab_scenario_orders.specs.Answers.{first_impossible, near_answer}
 use Rattle.lab_scenario_orders.specs.Asks.{AreOfCallers, Asks, ask_table, is_against}
@@ -24,8 +27,10 @@ use Rattle.lab_scenario_orders.specs.declared.outcomes.Outcomes.{Outcomes}
 use Rattle.lab_scenario_orders.specs.declared.texts.TextFault.{TextFault}
 use Rattle.lab_scenario_orders.specs.declared.texts.TextFault.TheVariants.{Limit, Mixed, Scenario}
 use Rattle.lab.specs.Banks.{Refuses}
-use Rattle.lab.specs.Endings.{fault_words, line_about}
-use Rattle.lab.specs.Outputs.{Output, WritesOverBank, refuses}
+use Rattle.lab.specs.Endings.{as_orders, kinded_words, line_about}
+use Rattle.lab.specs.Lines.{SaysUnread}
+use Rattle.lab.specs.Outputs.{OfRead, Output, WritesOverBank, refuses}
+use Rattle.lab.specs.Readings.{Reading}
 use Rattle.lab.specs.declared.words.Asked.{Asked}
 
 -- ---- the outcomes
@@ -174,20 +179,25 @@ pub record AreCallersIn (text : List ℕ) (callers : Callers) : Type 0 where
   pub set_up : IsSetUp text callers
   pub each : AreCallersOf callers.steps.items callers.callers.items
 
-abbrev pub text_fault_words : TextFault → Option (List ℕ)
-text_fault_words (Scenario fault) = fault_words fault
-text_fault_words Mixed = Some (codes "a [[setup]] behind a [[step]]")
-text_fault_words Limit = Some (codes "more steps than the limit")
+abbrev pub text_fault_words : TextKind → TextFault → Option (List ℕ)
+text_fault_words kind (Scenario fault) = kinded_words kind fault
+text_fault_words kind Mixed = Some (codes "a [[setup]] behind a [[step]]")
+text_fault_words kind Limit = Some (codes "more steps than the limit")
 
 abbrev pub TellsText : List Handler → ℕ → Option ℕ → List ℕ → List ℕ → Output → Type 0
 TellsText bank most one name text output =
     ((callers : Callers) × AreCallersIn text callers × TellsAsked bank most one name callers text output)
-    ⊎ ((fault : TextFault) × IsRefused text fault × IsSomeAnd (text_fault_words fault) (λ words. output ≡ refuses 2 (line_about name words)))
+    ⊎ ((fault : TextFault) × IsRefused text fault × IsSomeAnd (text_fault_words (as_orders (kind_of text)) fault) (λ words. output ≡ refuses 2 (line_about name words)))
+
+-- a text of lines stands for its text of callers, if it can be read
+abbrev pub TellsGiven : List Handler → ℕ → Option ℕ → List ℕ → List ℕ → Output → Type 0
+TellsGiven bank most one name text output =
+    ((plain : List ℕ) × IsOfCallers text plain × TellsText bank most one name plain output)
+    ⊎ ((said : List ℕ) × SaysUnread name text said × (output ≡ refuses 2 said))
 
 -- of a file, by what was read of it
-abbrev pub TellsRead : List Handler → ℕ → Option ℕ → List ℕ → Option (List ℕ) → Output → Type 0
-TellsRead bank most one name None output = output ≡ refuses 2 (line_about name (codes "no file"))
-TellsRead bank most one name (Some text) output = TellsText bank most one name text output
+abbrev pub TellsRead : List Handler → ℕ → Option ℕ → List ℕ → Reading → Output → Type 0
+TellsRead bank most one name = OfRead (TellsGiven bank most one name) name
 
 -- ---- what the words ask
 
@@ -198,5 +208,5 @@ text_name asked = unwrap_or (option_map (λ file. file.now) asked.file) (codes "
 -- the bank's file is refused, or the orders of a file or of the input are told over its callbacks
 abbrev pub TellsOrders : Asked → Option (List ℕ) → Option (List ℕ) → Option (List ℕ) → Option (List ℕ) → Option (List ℕ) → ℕ → Type 0
 TellsOrders asked known old new quiet spoken status =
-    Refuses (option_map (λ file. file.now) asked.bank) old new status
+    Refuses (option_map (λ file. file.now) asked.bank) old new quiet spoken status
     ⊎ WritesOverBank (λ bank. TellsRead bank asked.most asked.outcome (text_name asked)) (option_map (λ file. file.now) asked.bank) (option_map (λ file. file.now) asked.file) known old new quiet spoken status

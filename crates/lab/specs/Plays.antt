@@ -1,5 +1,5 @@
 -- What `lab play` tells of scenarios.
-use Rattle.std.specs.Prelude.{◌≡◌, ◌⊎◌, ℕ, List, [], ◌++◌, map, find, codes, decimal, Bool, true, false, Option, Some, None, option_map, unwrap_or, IfSome, IsSomeAnd, Result, Ok, Err}
+use Rattle.std.specs.Prelude.{◌≡◌, ◌≤◌, ◌⊎◌, ℕ, List, [], ◌++◌, length, map, find, codes, decimal, Bool, true, false, Option, Some, None, option_map, unwrap_or, IfSome, IsSomeAnd, Result, Ok, Err}
 use Rattle.std.specs.List.{All, concat, list_any}
 use Rattle.std.specs.Str.Lines.{lines}
 use Rattle.std.specs.Io.KnownBytes.{Appends}
@@ -9,6 +9,7 @@ use Rattle.evl_scenario.specs.declared.faults.Fault.{Fault}
 use Rattle.evl_shell.specs.Runs.{trace_of}
 use Rattle.lab_kinds.specs.Kinds.{kind_of}
 use Rattle.lab_kinds.specs.declared.kinds.TextKind.{TextKind}
+use Rattle.lab_lines.specs.Kinds.{IsPlain}
 use Rattle.lab_traces.specs.Lines.{Said, line_read}
 use Rattle.lab_traces.specs.Says.{IsLine, IsMisread, whole_lines}
 use Rattle.lab_reports.specs.Differences.{IsDifference}
@@ -16,7 +17,11 @@ use Rattle.lab_reports.specs.Json.{trace_json}
 use Rattle.lab_reports.specs.declared.differences.Difference.{Difference}
 use Rattle.lab.specs.Banks.{IsBank, Refuses}
 use Rattle.lab.specs.Endings.{kinded_words, line_about, status_of}
-use Rattle.lab.specs.Texts.{IsReadOf, is_input, names_or_input, text_in}
+use Rattle.lab.specs.Lines.{SaysUnread}
+use Rattle.lab.specs.Readings.{IsReadOf, Reading, most_bytes, too_long_words, unread_words}
+use Rattle.lab.specs.Texts.{is_input, names_or_input, text_in}
+use Rattle.lab.specs.declared.texts.Unread.{Unread}
+use Rattle.lab.specs.declared.texts.Unread.TheVariants.{NoFile, TooLong, Memory}
 use Rattle.lab.specs.declared.words.Playing.{Playing}
 use Rattle.lab.specs.declared.words.Telling.{Telling}
 use Rattle.lab.specs.declared.words.Telling.TheVariants.{Trace, Json, Against}
@@ -77,10 +82,16 @@ difference_told name (Some d) = ends_ill name (difference_text name d) (codes "d
 abbrev pub ComparesTexts : List ℕ → List ℕ → List ℕ → Told → Type 0
 ComparesTexts name stored text told = (d : Option Difference) × IsDifference (lines stored) (lines text) d × (told ≡ difference_told name d)
 
+-- why the one that a folder has isn't read
+abbrev pub unstored_words : List ℕ → Unread → Option (List ℕ)
+unstored_words folder NoFile = Some (codes "no trace in " ++ folder)
+unstored_words folder TooLong = Some (codes "the trace in " ++ (folder ++ (codes ": " ++ too_long_words)))
+unstored_words folder Memory = None
+
 -- of a text beside the one that a folder has of the same name, if it has one
-abbrev pub Compares : List ℕ → List ℕ → Option (List ℕ) → List ℕ → Told → Type 0
-Compares name folder None text told = told ≡ ends_ill name [] (codes "no trace in " ++ folder)
-Compares name folder (Some stored) text told = ComparesTexts name stored text told
+abbrev pub Compares : List ℕ → List ℕ → Reading → List ℕ → Told → Type 0
+Compares name folder (Ok stored) text told = (length stored ≤ most_bytes) × ComparesTexts name (text_in stored) text told
+Compares name folder (Err why) text told = IsSomeAnd (unstored_words folder why) (λ words. told ≡ ends_ill name [] words)
 
 -- ---- a scenario
 
@@ -88,24 +99,34 @@ Compares name folder (Some stored) text told = ComparesTexts name stored text to
 abbrev pub TellsTrace : Telling → List ℕ → List ℕ → Told → Type 0
 TellsTrace Trace name trace told = told ≡ ends_well name trace
 TellsTrace Json name trace told = (json : List ℕ) × IsJsonOf name (text_in trace) json × (told ≡ ends_well name json)
-TellsTrace (Against folder) name trace told = (stored : Option (List ℕ)) × Compares name folder.now stored (text_in trace) told
+TellsTrace (Against folder) name trace told = (stored : Reading) × Compares name folder.now stored (text_in trace) told
 
 -- of a text of a kind that has a trace, or is refused for a fault
 abbrev pub TellsPlayed : Telling → List ℕ → TextKind → Result (List ℕ) Fault → Told → Type 0
 TellsPlayed telling name kind (Ok trace) told = TellsTrace telling name trace told
 TellsPlayed telling name kind (Err e) told = IsSomeAnd (kinded_words kind e) (λ words. told ≡ ends_ill name [] words)
 
--- of a file, over a bank and under a limit that may be handed in, by what was read of it
-abbrev pub TellsFile : Telling → List Handler → Option ℕ → List ℕ → Option (List ℕ) → Told → Type 0
-TellsFile telling bank limit name None told = told ≡ ends_ill name [] (codes "no file")
-TellsFile telling bank limit name (Some text) told = TellsPlayed telling name (kind_of text) (trace_of bank limit text) told
+-- nothing but this is said
+abbrev pub says_ill : List ℕ → Told
+says_ill said = record { printed = []; said = said; at_fault = true }
+
+-- of a text, over a bank and under a limit that may be handed in; of one of lines by its scenario, if it can be read
+abbrev pub TellsGiven : Telling → List Handler → Option ℕ → List ℕ → List ℕ → Told → Type 0
+TellsGiven telling bank limit name text told =
+    ((plain : List ℕ) × IsPlain text plain × TellsPlayed telling name (kind_of plain) (trace_of bank limit plain) told)
+    ⊎ ((said : List ℕ) × SaysUnread name text said × (told ≡ says_ill said))
+
+-- of a file, by what was read of it
+abbrev pub TellsFile : Telling → List Handler → Option ℕ → List ℕ → Reading → Told → Type 0
+TellsFile telling bank limit name (Ok text) told = (length text ≤ most_bytes) × TellsGiven telling bank limit name text told
+TellsFile telling bank limit name (Err why) told = IsSomeAnd (unread_words why) (λ words. told ≡ ends_ill name [] words)
 
 -- ---- several
 
 -- a file, what was read of it, and what is told
 pub record Played : Type 0 where
   pub name : List ℕ
-  pub text : Option (List ℕ)
+  pub text : Reading
   pub told : Told
 
 abbrev pub IsPlayed : Telling → List Handler → Option ℕ → Played → Type 0
@@ -136,4 +157,4 @@ pub record Plays (asked : Playing) (names : List (List ℕ)) (known old new quie
 -- or that bank's file is refused
 abbrev pub PlaysUnlessRefused : Playing → List (List ℕ) → Option (List ℕ) → Option (List ℕ) → Option (List ℕ) → Option (List ℕ) → Option (List ℕ) → ℕ → Type 0
 PlaysUnlessRefused asked names known old new quiet spoken status =
-    Refuses (option_map (λ file. file.now) asked.bank) old new status ⊎ Plays asked names known old new quiet spoken status
+    Refuses (option_map (λ file. file.now) asked.bank) old new quiet spoken status ⊎ Plays asked names known old new quiet spoken status

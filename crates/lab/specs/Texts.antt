@@ -20,11 +20,6 @@ reads_input (Some name) = is_input name
 abbrev pub IsAllOf : Option (List ℕ) → List ℕ → Type 0
 IsAllOf known text = IfSome known (λ bytes. text ≡ bytes)
 
--- what was read, if it could be read
-abbrev pub IsReadOf : Option (List ℕ) → Option (List ℕ) → Type 0
-IsReadOf known None = Unit {0}
-IsReadOf known (Some text) = IsAllOf known text
-
 -- the names that are gone through: that of the input where none is given
 abbrev pub names_or_input : List (List ℕ) → List (List ℕ)
 names_or_input [] = codes "-" ∷ []

@@ -1,18 +1,23 @@
 //! `lab check`: the faults of texts by their kinds, and the warnings of a scenario's dry run.
-ghost use Rattle.std.specs.Prelude.{◌≡◌, ◌++◌, [], ◌∷◌, Bool, codes, map, option_map, string_bytes, true, IfOk, OnOk};
-ghost use Rattle.std.specs.Io.KnownBytes.{Appends};
+ghost use Rattle.std.specs.Prelude.{◌≡◌, ◌++◌, [], ◌∷◌, Bool, map, option_map, string_bytes, true, IfOk, OnOk, IfErr, false};
 ghost use Rattle.evl_plans.specs.Told as callbacks;
-ghost use Rattle.lab.specs.Checks.{ChecksEach, ChecksUnlessRefused, PrintsText, TellsText, kind_warnings};
+ghost use Rattle.lab_kinds.specs.Kinds.{kind_of};
+ghost use Rattle.lab.specs.Checks.{ChecksEach, ChecksText, ChecksUnlessRefused, Prints, TellsText, kind_warnings};
 ghost use Rattle.lab.specs.Endings as endings;
+ghost use Rattle.lab.specs.Streams.{EndsEarly};
 
 use crate::banks::read_plans;
+use crate::converts::tell_place;
+use crate::endings::tell_unread;
 use crate::statuses::{AT_FAULT, either, status_of};
+use crate::streams::Stream;
+use crate::texts::read_file;
 use evl_plans::Planned;
 use lab_kinds::{TextKind, kind_of, report_kind};
+use lab_lines::plain_text;
 use lab_warnings::warnings;
 use std::alloc::{AllocError, Global};
-use std::fs;
-use std::io::{self, Write};
+use std::io;
 use std::rt::Files;
 
 // Tells the warnings of a scenario without fault; a text of another kind has none.
@@ -54,14 +59,15 @@ fn tell_faults(
 }
 
 // Prints the faults or warnings of a text, and tells whether it has a fault.
-fn check_text<O: Write>(
+fn check_text<O: Stream>(
     alloc: Global,
     plans: &[Planned],
     name: &str,
     text: &[u8],
     out: &mut O,
 ) -> io::Result<bool>
-    ensures { IfOk result (PrintsText (map callbacks.handler_of plans.now) name.now text.now (O.contents out.old) (O.contents out.new)) }
+    ensures prints { IfOk result (Prints (TellsText (map callbacks.handler_of plans.now) (kind_of text.now) name.now text.now []) (O.contents out.old) (O.contents out.new)) }
+    ensures early { IfErr result (EndsEarly false (O.has_failed out.new) false) }
 {
     let kind = kind_of(alloc, text)?;
     let mut told = String::new(alloc);
@@ -70,38 +76,48 @@ fn check_text<O: Write>(
     Ok(is_at_fault)
 }
 
-// Tells that a file can't be read.
-fn tell_unread<O: Write>(out: &mut O, name: &str) -> io::Result<bool>
-    ensures answers { IfOk result (λ is_at_fault. is_at_fault ≡ true) }
-    ensures line { OnOk result (Appends (O.contents out.old) (O.contents out.new) (name.now ++ codes ": can't be read\n")) }
+// The same of what stands for a text; of a text of lines that can't be read prints its first fault.
+fn check_given<O: Stream>(
+    alloc: Global,
+    plans: &[Planned],
+    name: &str,
+    text: Vec<u8>,
+    out: &mut O,
+) -> io::Result<bool>
+    ensures prints { IfOk result (Prints (ChecksText (map callbacks.handler_of plans.now) name.now text.items) (O.contents out.old) (O.contents out.new)) }
+    ensures early { IfErr result (EndsEarly false (O.has_failed out.new) false) }
 {
-    writeln!(out, "{name}: can't be read")?;
-    Ok(true)
+    match plain_text(alloc, text) {
+        Ok(plain) => check_text(alloc, plans, name, plain.as_slice(), out),
+        Err(fault) => tell_place(out, name, &fault),
+    }
 }
 
 // Prints the faults or warnings of a file, and tells whether it has a fault.
-fn check_file<R: Files + AllocGlobal, O: Write>(
+fn check_file<R: Files + AllocGlobal, O: Stream>(
     rt: &R,
     plans: &[Planned],
     name: &str,
     out: &mut O,
 ) -> io::Result<bool>
-    ensures { IfOk result (ChecksEach (map callbacks.handler_of plans.now) (name.now ∷ []) (O.contents out.old) (O.contents out.new)) }
+    ensures each { IfOk result (ChecksEach (map callbacks.handler_of plans.now) (name.now ∷ []) (O.contents out.old) (O.contents out.new)) }
+    ensures early { IfErr result (EndsEarly false (O.has_failed out.new) false) }
 {
-    match fs::read(rt, name) {
-        Ok(text) => check_text(rt.alloc(), plans, name, text.as_slice(), out),
-        Err(_) => tell_unread(out, name),
+    match read_file(rt, name) {
+        Ok(text) => check_given(rt.alloc(), plans, name, text, out),
+        Err(why) => tell_unread(out, name, why),
     }
 }
 
 // Prints the faults or warnings of files, and tells whether one has a fault.
-fn check_each<R: Files + AllocGlobal, O: Write>(
+fn check_each<R: Files + AllocGlobal, O: Stream>(
     rt: &R,
     plans: &[Planned],
     names: &[&str],
     out: &mut O,
 ) -> io::Result<bool>
-    ensures { IfOk result (ChecksEach (map callbacks.handler_of plans.now) (map (λ name. name.now) names.now) (O.contents out.old) (O.contents out.new)) }
+    ensures each { IfOk result (ChecksEach (map callbacks.handler_of plans.now) (map (λ name. name.now) names.now) (O.contents out.old) (O.contents out.new)) }
+    ensures early { IfErr result (EndsEarly false (O.has_failed out.new) false) }
 {
     let mut is_at_fault = false;
     for name in names {
@@ -112,13 +128,14 @@ fn check_each<R: Files + AllocGlobal, O: Write>(
 }
 
 // Prints the faults or warnings of files over these callbacks, and answers the status.
-fn check_over<R: Files + AllocGlobal, O: Write>(
+fn check_over<R: Files + AllocGlobal, O: Stream>(
     rt: &R,
     plans: &[Planned],
     names: &[&str],
     out: &mut O,
 ) -> io::Result<u8>
-    ensures { IfOk result (λ status. (at_fault : Bool) × ChecksEach (map callbacks.handler_of plans.now) (map (λ name. name.now) names.now) (O.contents out.old) (O.contents out.new) at_fault × (status ≡ endings.status_of at_fault)) }
+    ensures each { IfOk result (λ status. (at_fault : Bool) × ChecksEach (map callbacks.handler_of plans.now) (map (λ name. name.now) names.now) (O.contents out.old) (O.contents out.new) at_fault × (status ≡ endings.status_of at_fault)) }
+    ensures early { IfErr result (EndsEarly false (O.has_failed out.new) false) }
 {
     let is_at_fault = check_each(rt, plans, names, out)?;
     Ok(status_of(is_at_fault))
@@ -126,14 +143,15 @@ fn check_over<R: Files + AllocGlobal, O: Write>(
 
 /// Prints the faults of files, a line each, or where a file has none the warnings of a dry run over a bank, and answers
 /// the status: 2 where a file is at fault or can't be read, or the bank is.
-pub fn check_files<R: Files + AllocGlobal, O: Write, E: Write>(
+pub fn check_files<R: Files + AllocGlobal, O: Stream, E: Stream>(
     rt: &R,
     bank: Option<&str>,
     names: &[&str],
     out: &mut O,
     err: &mut E,
 ) -> io::Result<u8>
-    ensures { IfOk result (ChecksUnlessRefused (option_map (λ file. file.now) bank.entry) (map (λ name. name.now) names.now) (O.contents out.old) (O.contents out.new) (E.contents err.old) (E.contents err.new)) }
+    ensures checks { IfOk result (ChecksUnlessRefused (option_map (λ file. file.now) bank.entry) (map (λ name. name.now) names.now) (O.contents out.old) (O.contents out.new) (E.contents err.old) (E.contents err.new)) }
+    ensures early { IfErr result (EndsEarly false (O.has_failed out.new) (E.has_failed err.new)) }
 {
     match read_plans(rt, bank, err) {
         Ok(Some(plans)) => check_over(rt, plans.as_slice(), names, out),

@@ -3,7 +3,7 @@ ghost use Rattle.std.specs.Prelude.{◌≡◌, true, map, pos, codes, IfOk, IfEr
 ghost use Rattle.clap.specs.Words.{app_of, kind_of, subcommand_of, subcommand_rows_of, takes};
 ghost use Rattle.clap.specs.declared.builder.value_parser.ValueParser.TheVariants.{Signed};
 ghost use Rattle.clap.specs.declared.error.kind.ErrorKind.TheVariants.{OutOfMemory};
-ghost use Rattle.lab.specs.Grammar.{IsPart, IsWord, bank_rule, callers_part, check_part, draw_part, file_rule, grammar, help_part, limit_rule, live_part, mark_rule, number_rule, one_rule, orders_part, play_part, several_rule, text_rule};
+ghost use Rattle.lab.specs.Grammar.{IsPart, IsWord, bank_rule, callers_part, check_part, convert_part, draw_part, file_rule, grammar, help_part, limit_rule, live_part, mark_rule, number_rule, one_rule, orders_part, play_part, several_rule, text_rule};
 
 use clap::builder::ValueParser;
 use clap::{Arg, ArgAction, ArgMatches, Command, Error, value_parser};
@@ -238,6 +238,58 @@ fn play_command<'a>(alloc: Global) -> Result<Command<'a>, AllocError>
     Ok(with_files)
 }
 
+// A form of a scenario, which doesn't go with the other.
+fn converted_word<'a>(
+    alloc: Global,
+    name: &'a str,
+    other: &'a str,
+    help: &'a str,
+) -> Result<Arg<'a>, AllocError>
+    ensures { IfOk result (IsWord (mark_rule name.entry.now)) }
+{
+    Arg::new(alloc, name)
+        .long(name)
+        .action(ArgAction::SetTrue)
+        .help(help)
+        .conflicts_with(other)
+}
+
+// As lines.
+fn lines_word<'a>(alloc: Global) -> Result<Arg<'a>, AllocError>
+    ensures { IfOk result (IsWord (mark_rule (codes "lines"))) }
+{
+    converted_word(alloc, "lines", "toml", "As lines, as T0 put sem=0")
+}
+
+// As tables.
+fn toml_word<'a>(alloc: Global) -> Result<Arg<'a>, AllocError>
+    ensures { IfOk result (IsWord (mark_rule (codes "toml"))) }
+{
+    converted_word(alloc, "toml", "lines", "As a table [[step]] for each step")
+}
+
+// The text that is converted.
+fn converted_file<'a>(alloc: Global) -> Arg<'a>
+    ensures { IsWord file_rule result }
+{
+    Arg::new(alloc, "FILE").action(ArgAction::Set).help(
+        "A scenario, a text of lines or a trace; without it, or with -, standard input",
+    )
+}
+
+// The words of `convert`.
+fn convert_command<'a>(alloc: Global) -> Result<Command<'a>, AllocError>
+    ensures { IfOk result (IsPart convert_part) }
+{
+    let command = Command::new(alloc, "convert").about(
+        "Prints a scenario as lines, and lines as a scenario",
+    );
+    let as_lines = command.arg(lines_word(alloc)?)?;
+    let as_tables = as_lines.arg(toml_word(alloc)?)?;
+    let with_file = as_tables.arg(converted_file(alloc))?;
+    Ok(with_file)
+}
+
 // The scenario that comes first.
 fn first_file<'a>(alloc: Global) -> Arg<'a>
     ensures { IsWord file_rule result }
@@ -367,7 +419,8 @@ fn command_line<'a>(alloc: Global) -> Result<Command<'a>, AllocError>
     let checks = program.subcommand(check_command(alloc)?)?;
     let draws = checks.subcommand(draw_command(alloc)?)?;
     let plays = draws.subcommand(play_command(alloc)?)?;
-    let lives = plays.subcommand(live_command(alloc)?)?;
+    let converts = plays.subcommand(convert_command(alloc)?)?;
+    let lives = converts.subcommand(live_command(alloc)?)?;
     let orders = lives.subcommand(orders_command(alloc)?)?;
     let steps = orders.subcommand(steps_command(alloc)?)?;
     let all = steps.subcommand(help_command(alloc)?)?;

@@ -1,19 +1,25 @@
 //! `lab draw`: the picture of a trace, of a scenario, which is played, or of what `lab callers` tells.
-ghost use Rattle.std.specs.Prelude.{◌≡◌, ◌++◌, length, take, None, Ok, Some, codes, decimal, option_map, string_bytes, IfErr, IfOk, OnOk, IsSomeAnd};
+ghost use Rattle.std.specs.Prelude.{◌≡◌, ◌++◌, codes, length, take, None, Ok, option_map, unwrap_or, IfErr, IfOk, OnOk, false};
+ghost use Rattle.std.specs.Str.{is_utf8};
 ghost use Rattle.std.specs.Io.KnownBytes.{Appends};
 ghost use Rattle.evl_bank.specs.Bank.{program_bank};
 ghost use Rattle.evl_plans.specs.Traces.{Refuses};
 ghost use Rattle.evl_scenario.specs.Lines.{line_feed};
 ghost use Rattle.evl_shell.specs.Runs as runs;
 ghost use Rattle.lab.specs.Draws as draws;
-ghost use Rattle.lab.specs.Draws.{AreMomentsOf, DrawsLines, DrawsMarks, DrawsPage, DrawsPlayed, DrawsRead, DrawsSvg, DrawsText, DrawsTrace, DrawsWhole, IsPicture, fault_words, first_of, goes_for, neither_text, no_page_text, origin_of, page_text};
+ghost use Rattle.lab.specs.Draws.{AreMomentsOf, DrawsGiven, DrawsIf, DrawsLines, DrawsMarks, DrawsPage, DrawsPlayed, DrawsRead, DrawsSvg, DrawsText, DrawsTrace, DrawsWhole, IsPicture, first_of, goes_for, origin_of};
 ghost use Rattle.lab_drawing.specs.Pictures.{going_text, shown_with};
 ghost use Rattle.lab_drawing.specs.declared.frames.Shows.TheVariants.{Words};
 ghost use Rattle.lab.specs.Outputs.{Writes, WritesOfText};
 ghost use Rattle.lab.specs.Texts as texts;
+ghost use Rattle.lab.specs.Streams.{EndsEarly};
 
-use crate::statuses::AT_FAULT;
-use crate::texts::{read_text, text_in};
+use crate::converts::tell_place;
+use crate::draw_faults::{tell_neither, tell_no_page, tell_page, tell_undrawn};
+use crate::endings::{put, tell_unread};
+use crate::statuses::refused;
+use crate::streams::Stream;
+use crate::texts::{called, read_text, text_in, with_line_feed};
 use crate::words::{Drawing, Form, Way};
 use evl_plans::trace_plans;
 use evl_scenario::Fault;
@@ -21,11 +27,13 @@ use lab_drawing::{
     Goes, Mark, Moment, lanes_of, marks_of, page, page_count, page_moments, told_moments,
     write_down, write_rows, write_svg, write_table, write_told, write_told_down,
 };
+use lab_kinds::kind_of;
+use lab_lines::plain_text;
 use lab_moments::moments_of;
 use lab_reports::{program_plans, write_events};
 use lab_traces::{Misread, TraceLine, read_lines};
 use std::alloc::{AllocError, Global};
-use std::io::{self, Read, Write};
+use std::io::{self, Read};
 use std::rt::Files;
 
 // What stands between the lines of callers and what is told of their machine's end.
@@ -130,39 +138,8 @@ fn picture_of(
     }
 }
 
-// Writes bytes, and answers the status.
-fn put<O: Write>(out: &mut O, bytes: &[u8]) -> io::Result<u8>
-    ensures status { IfOk result (λ status. status ≡ 0) }
-    ensures bytes { OnOk result (Appends (O.contents out.old) (O.contents out.new) bytes.now) }
-{
-    out.write_all(bytes)?;
-    Ok(0)
-}
-
-// Tells that there is no page of this number.
-fn tell_no_page<E: Write>(err: &mut E, number: u32, all: usize) -> io::Result<u8>
-    ensures status { IfOk result (λ status. status ≡ 2) }
-    ensures line { OnOk result (Appends (E.contents err.old) (E.contents err.new) (no_page_text number all)) }
-{
-    writeln!(
-        err,
-        "lab: the picture has no page {number}: the last one is {all}"
-    )?;
-    Ok(AT_FAULT)
-}
-
-// Tells which page is drawn, where there are several.
-fn tell_page<E: Write>(err: &mut E, number: u32, all: usize) -> io::Result<()>
-    ensures { OnOk result (Appends (E.contents err.old) (E.contents err.new) (page_text number all)) }
-{
-    if all <= 1 {
-        return Ok(());
-    }
-    writeln!(err, "lab: page {number} of {all}")
-}
-
 // Writes the picture of a page of marks, from 1, of so many.
-fn draw_page<O: Write, E: Write>(
+fn draw_page<O: Stream, E: Stream>(
     alloc: Global,
     marks: &[Mark<'_>],
     source: Source<'_>,
@@ -171,7 +148,8 @@ fn draw_page<O: Write, E: Write>(
     out: &mut O,
     err: &mut E,
 ) -> io::Result<u8>
-    ensures { IfOk result (Writes (DrawsPage drawing (origin_of source.entry) marks.now all) (O.contents out.old) (O.contents out.new) (E.contents err.old) (E.contents err.new)) }
+    ensures writes { IfOk result (Writes (DrawsPage drawing (origin_of source.entry) marks.now all) (O.contents out.old) (O.contents out.new) (E.contents err.old) (E.contents err.new)) }
+    ensures early { IfErr result (EndsEarly false (O.has_failed out.new) (E.has_failed err.new)) }
 {
     tell_page(err, drawing.page, all)?;
     let goes = goes_for(drawing.way, marks.len());
@@ -183,7 +161,7 @@ fn draw_page<O: Write, E: Write>(
 }
 
 // Writes the picture of a page of marks, from 1, and says so where there are several.
-fn draw_svg<O: Write, E: Write>(
+fn draw_svg<O: Stream, E: Stream>(
     alloc: Global,
     marks: &[Mark<'_>],
     source: Source<'_>,
@@ -191,7 +169,8 @@ fn draw_svg<O: Write, E: Write>(
     out: &mut O,
     err: &mut E,
 ) -> io::Result<u8>
-    ensures { IfOk result (Writes (DrawsSvg drawing (origin_of source.entry) marks.now) (O.contents out.old) (O.contents out.new) (E.contents err.old) (E.contents err.new)) }
+    ensures writes { IfOk result (Writes (DrawsSvg drawing (origin_of source.entry) marks.now) (O.contents out.old) (O.contents out.new) (E.contents err.old) (E.contents err.new)) }
+    ensures early { IfErr result (EndsEarly false (O.has_failed out.new) (E.has_failed err.new)) }
 {
     let all = page_count(marks);
     if drawing.page as usize > all {
@@ -202,9 +181,10 @@ fn draw_svg<O: Write, E: Write>(
 }
 
 // Writes marks as trace events.
-fn draw_events<O: Write>(alloc: Global, marks: &[Mark<'_>], out: &mut O) -> io::Result<u8>
+fn draw_events<O: Stream>(alloc: Global, marks: &[Mark<'_>], out: &mut O) -> io::Result<u8>
     ensures status { IfOk result (λ status. status ≡ 0) }
     ensures text { OnOk result (Appends (O.contents out.old) (O.contents out.new) (draws.events_of marks.now)) }
+    ensures early { IfErr result (EndsEarly false (O.has_failed out.new) false) }
 {
     match write_events(alloc, marks) {
         Ok(events) => put(out, events.as_bytes()),
@@ -213,9 +193,10 @@ fn draw_events<O: Write>(alloc: Global, marks: &[Mark<'_>], out: &mut O) -> io::
 }
 
 // Writes the table of marks.
-fn draw_table<O: Write>(alloc: Global, marks: &[Mark<'_>], out: &mut O) -> io::Result<u8>
+fn draw_table<O: Stream>(alloc: Global, marks: &[Mark<'_>], out: &mut O) -> io::Result<u8>
     ensures status { IfOk result (λ status. status ≡ 0) }
     ensures text { OnOk result (Appends (O.contents out.old) (O.contents out.new) (draws.table_of marks.now)) }
+    ensures early { IfErr result (EndsEarly false (O.has_failed out.new) false) }
 {
     match write_table(alloc, marks) {
         Ok(table) => put(out, table.as_slice()),
@@ -224,9 +205,10 @@ fn draw_table<O: Write>(alloc: Global, marks: &[Mark<'_>], out: &mut O) -> io::R
 }
 
 // Writes marks in characters.
-fn draw_rows<O: Write>(alloc: Global, marks: &[Mark<'_>], out: &mut O) -> io::Result<u8>
+fn draw_rows<O: Stream>(alloc: Global, marks: &[Mark<'_>], out: &mut O) -> io::Result<u8>
     ensures status { IfOk result (λ status. status ≡ 0) }
     ensures text { OnOk result (Appends (O.contents out.old) (O.contents out.new) (draws.rows_of marks.now)) }
+    ensures early { IfErr result (EndsEarly false (O.has_failed out.new) false) }
 {
     match write_rows(alloc, marks) {
         Ok(rows) => put(out, rows.as_bytes()),
@@ -235,7 +217,7 @@ fn draw_rows<O: Write>(alloc: Global, marks: &[Mark<'_>], out: &mut O) -> io::Re
 }
 
 // Writes marks in a form.
-fn draw_marks<O: Write, E: Write>(
+fn draw_marks<O: Stream, E: Stream>(
     alloc: Global,
     marks: &[Mark<'_>],
     source: Source<'_>,
@@ -243,7 +225,8 @@ fn draw_marks<O: Write, E: Write>(
     out: &mut O,
     err: &mut E,
 ) -> io::Result<u8>
-    ensures { IfOk result (Writes (DrawsMarks drawing.form drawing (origin_of source.entry) marks.now) (O.contents out.old) (O.contents out.new) (E.contents err.old) (E.contents err.new)) }
+    ensures writes { IfOk result (Writes (DrawsMarks drawing.form drawing (origin_of source.entry) marks.now) (O.contents out.old) (O.contents out.new) (E.contents err.old) (E.contents err.new)) }
+    ensures early { IfErr result (EndsEarly false (O.has_failed out.new) (E.has_failed err.new)) }
 {
     match drawing.form {
         Form::Svg => draw_svg(alloc, marks, source, drawing, out, err),
@@ -275,7 +258,7 @@ fn first_of<'a, 'b>(marks: &'b [Mark<'a>], upto: Option<u32>) -> &'b [Mark<'a>]
 }
 
 // Writes the picture of the lines of a trace, with how the lanes stand as far as their source tells it.
-fn draw_lines<O: Write, E: Write>(
+fn draw_lines<O: Stream, E: Stream>(
     alloc: Global,
     lines: &[TraceLine<'_>],
     source: Source<'_>,
@@ -283,7 +266,8 @@ fn draw_lines<O: Write, E: Write>(
     out: &mut O,
     err: &mut E,
 ) -> io::Result<u8>
-    ensures { IfOk result (Writes (DrawsLines drawing (origin_of source.entry) lines.now) (O.contents out.old) (O.contents out.new) (E.contents err.old) (E.contents err.new)) }
+    ensures writes { IfOk result (Writes (DrawsLines drawing (origin_of source.entry) lines.now) (O.contents out.old) (O.contents out.new) (E.contents err.old) (E.contents err.new)) }
+    ensures early { IfErr result (EndsEarly false (O.has_failed out.new) (E.has_failed err.new)) }
 {
     match marks_of(alloc, lines) {
         Ok(marks) => {
@@ -291,43 +275,6 @@ fn draw_lines<O: Write, E: Write>(
             draw_marks(alloc, first, source, drawing, out, err)
         }
         Err(error) => Err(error.into()),
-    }
-}
-
-// Tells which line of a text is none of a trace, and what is wrong with it as a scenario.
-fn tell_words<E: Write>(err: &mut E, line: usize, words: &str) -> io::Result<u8>
-    ensures status { IfOk result (λ status. status ≡ 2) }
-    ensures line { OnOk result (Appends (E.contents err.old) (E.contents err.new) (neither_text line words.now)) }
-{
-    writeln!(
-        err,
-        "lab: line {line} is no line of a trace, and as a scenario it has {words}"
-    )?;
-    Ok(AT_FAULT)
-}
-
-// The same of a step that is at fault.
-fn tell_step<E: Write>(err: &mut E, line: usize, number: u32) -> io::Result<u8>
-    ensures status { IfOk result (λ status. status ≡ 2) }
-    ensures line { OnOk result (Appends (E.contents err.old) (E.contents err.new) (neither_text line (codes "a bad step " ++ decimal number))) }
-{
-    writeln!(
-        err,
-        "lab: line {line} is no line of a trace, and as a scenario it has a bad step {number}"
-    )?;
-    Ok(AT_FAULT)
-}
-
-// Tells that a text is neither a trace nor a scenario.
-fn tell_neither<E: Write>(err: &mut E, line: usize, fault: Fault) -> io::Result<u8>
-    ensures status { IfOk result (λ status. status ≡ 2) }
-    ensures line { OnOk result (IsSomeAnd (fault_words fault) (λ words. Appends (E.contents err.old) (E.contents err.new) (neither_text line words))) }
-{
-    match fault {
-        Fault::Text => tell_words(err, line, "bad text"),
-        Fault::Board => tell_words(err, line, "a bad board"),
-        Fault::Step(number) => tell_step(err, line, number),
-        Fault::Memory | Fault::Write => Err(AllocError.into()),
     }
 }
 
@@ -343,7 +290,7 @@ fn trace_of(alloc: Global, text: &str) -> Result<Vec<u8>, Fault>
 }
 
 // Writes the picture of a trace that was made of a scenario.
-fn draw_trace<O: Write, E: Write>(
+fn draw_trace<O: Stream, E: Stream>(
     alloc: Global,
     trace: &[u8],
     scenario: &str,
@@ -351,7 +298,8 @@ fn draw_trace<O: Write, E: Write>(
     out: &mut O,
     err: &mut E,
 ) -> io::Result<u8>
-    ensures { IfOk result (Writes (DrawsTrace drawing (draws.scenario scenario.now) (texts.text_in trace.now)) (O.contents out.old) (O.contents out.new) (E.contents err.old) (E.contents err.new)) }
+    ensures writes { IfOk result (Writes (DrawsTrace drawing (draws.scenario scenario.now) (texts.text_in trace.now)) (O.contents out.old) (O.contents out.new) (E.contents err.old) (E.contents err.new)) }
+    ensures early { IfErr result (EndsEarly false (O.has_failed out.new) (E.has_failed err.new)) }
 {
     match read_lines(alloc, text_in(trace)) {
         Ok(lines) => {
@@ -362,8 +310,8 @@ fn draw_trace<O: Write, E: Write>(
     }
 }
 
-// Plays a text that is no trace, since this line is none of one, and writes the picture of its trace.
-fn draw_scenario<O: Write, E: Write>(
+// Plays a scenario, whose text is no trace, since this line is none of one, and writes the picture of its trace.
+fn draw_scenario<O: Stream, E: Stream>(
     alloc: Global,
     text: &str,
     line: usize,
@@ -371,16 +319,39 @@ fn draw_scenario<O: Write, E: Write>(
     out: &mut O,
     err: &mut E,
 ) -> io::Result<u8>
-    ensures { IfOk result (Writes (DrawsPlayed drawing text.now line (runs.trace_of program_bank None text.now)) (O.contents out.old) (O.contents out.new) (E.contents err.old) (E.contents err.new)) }
+    ensures writes { IfOk result (Writes (DrawsPlayed drawing text.now line (runs.trace_of program_bank None text.now)) (O.contents out.old) (O.contents out.new) (E.contents err.old) (E.contents err.new)) }
+    ensures early { IfErr result (EndsEarly false (O.has_failed out.new) (E.has_failed err.new)) }
 {
     match trace_of(alloc, text) {
         Ok(trace) => draw_trace(alloc, trace.as_slice(), text, drawing, out, err),
-        Err(fault) => tell_neither(err, line, fault),
+        Err(fault) => {
+            let kind = kind_of(alloc, text.as_bytes())?;
+            tell_neither(err, line, kind, fault)
+        }
+    }
+}
+
+// The same of what stands for a text.
+fn draw_given<O: Stream, E: Stream>(
+    alloc: Global,
+    text: &str,
+    line: usize,
+    drawing: Drawing,
+    out: &mut O,
+    err: &mut E,
+) -> io::Result<u8>
+    ensures writes { IfOk result (Writes (DrawsGiven drawing text.now line) (O.contents out.old) (O.contents out.new) (E.contents err.old) (E.contents err.new)) }
+    ensures early { IfErr result (EndsEarly false (O.has_failed out.new) (E.has_failed err.new)) }
+{
+    let given = Vec::from_slice(alloc, text.as_bytes())?;
+    match plain_text(alloc, given) {
+        Ok(plain) => draw_scenario(alloc, text_in(plain.as_slice()), line, drawing, out, err),
+        Err(fault) => refused(tell_place(err, "lab", &fault)),
     }
 }
 
 // Writes the picture of the lines that a text has, or of the text as a scenario.
-fn draw_whole<O: Write, E: Write>(
+fn draw_whole<O: Stream, E: Stream>(
     alloc: Global,
     read: &str,
     source: Source<'_>,
@@ -389,26 +360,18 @@ fn draw_whole<O: Write, E: Write>(
     out: &mut O,
     err: &mut E,
 ) -> io::Result<u8>
-    ensures { IfOk result (Writes (DrawsWhole drawing (origin_of source.entry) read.now text.now) (O.contents out.old) (O.contents out.new) (E.contents err.old) (E.contents err.new)) }
+    ensures writes { IfOk result (Writes (DrawsWhole drawing (origin_of source.entry) read.now text.now) (O.contents out.old) (O.contents out.new) (E.contents err.old) (E.contents err.new)) }
+    ensures early { IfErr result (EndsEarly false (O.has_failed out.new) (E.has_failed err.new)) }
 {
     match read_lines(alloc, read) {
         Ok(lines) => draw_lines(alloc, lines.as_slice(), source, drawing, out, err),
         Err(Misread::Memory) => Err(AllocError.into()),
-        Err(Misread::Line(line)) => draw_scenario(alloc, text, line, drawing, out, err),
+        Err(Misread::Line(line)) => draw_given(alloc, text, line, drawing, out, err),
     }
 }
 
-// The text with a line feed at its end.
-fn with_line_feed(alloc: Global, text: &str) -> Result<String, AllocError>
-    ensures { IfOk result (λ line. string_bytes line ≡ text.now ++ line_feed) }
-{
-    let mut line = String::from_str(alloc, text)?;
-    line.push_str("\n")?;
-    Ok(line)
-}
-
 // Writes the picture of the lines of callers, which stand at the front of a text.
-fn draw_callers<O: Write, E: Write>(
+fn draw_callers<O: Stream, E: Stream>(
     alloc: Global,
     front: &str,
     text: &str,
@@ -416,7 +379,8 @@ fn draw_callers<O: Write, E: Write>(
     out: &mut O,
     err: &mut E,
 ) -> io::Result<u8>
-    ensures { IfOk result (Writes (DrawsWhole drawing draws.callers (front.now ++ line_feed) text.now) (O.contents out.old) (O.contents out.new) (E.contents err.old) (E.contents err.new)) }
+    ensures writes { IfOk result (Writes (DrawsWhole drawing draws.callers (front.now ++ line_feed) text.now) (O.contents out.old) (O.contents out.new) (E.contents err.old) (E.contents err.new)) }
+    ensures early { IfErr result (EndsEarly false (O.has_failed out.new) (E.has_failed err.new)) }
 {
     match with_line_feed(alloc, front) {
         Ok(told) => draw_whole(
@@ -433,14 +397,15 @@ fn draw_callers<O: Write, E: Write>(
 }
 
 // Writes the picture of a trace, of a scenario, or of callers up to where their machine is closed.
-fn draw_text<O: Write, E: Write>(
+fn draw_text<O: Stream, E: Stream>(
     alloc: Global,
     text: &str,
     drawing: Drawing,
     out: &mut O,
     err: &mut E,
 ) -> io::Result<u8>
-    ensures { IfOk result (Writes (DrawsText drawing text.now) (O.contents out.old) (O.contents out.new) (E.contents err.old) (E.contents err.new)) }
+    ensures writes { IfOk result (Writes (DrawsText drawing text.now) (O.contents out.old) (O.contents out.new) (E.contents err.old) (E.contents err.new)) }
+    ensures early { IfErr result (EndsEarly false (O.has_failed out.new) (E.has_failed err.new)) }
 {
     match text.split_once(CLOSING) {
         Some((front, _)) => draw_callers(alloc, front, text, drawing, out, err),
@@ -448,24 +413,16 @@ fn draw_text<O: Write, E: Write>(
     }
 }
 
-// Tells why nothing can be drawn.
-fn tell_undrawn<E: Write>(err: &mut E, why: &str) -> io::Result<u8>
-    ensures status { IfOk result (λ status. status ≡ 2) }
-    ensures line { OnOk result (Appends (E.contents err.old) (E.contents err.new) (codes "lab: " ++ (why.now ++ line_feed))) }
-{
-    writeln!(err, "lab: {why}")?;
-    Ok(AT_FAULT)
-}
-
 // Writes the picture of a text.
-fn draw_bytes<O: Write, E: Write>(
+fn draw_bytes<O: Stream, E: Stream>(
     alloc: Global,
     bytes: &[u8],
     drawing: Drawing,
     out: &mut O,
     err: &mut E,
 ) -> io::Result<u8>
-    ensures { IfOk result (Writes (DrawsRead drawing (Some bytes.now)) (O.contents out.old) (O.contents out.new) (E.contents err.old) (E.contents err.new)) }
+    ensures writes { IfOk result (Writes (DrawsIf (is_utf8 bytes.now) drawing bytes.now) (O.contents out.old) (O.contents out.new) (E.contents err.old) (E.contents err.new)) }
+    ensures early { IfErr result (EndsEarly false (O.has_failed out.new) (E.has_failed err.new)) }
 {
     match std::str::from_utf8(bytes) {
         Ok(text) => draw_text(alloc, text, drawing, out, err),
@@ -475,7 +432,7 @@ fn draw_bytes<O: Write, E: Write>(
 
 /// Draws the trace that a file holds, or that of its scenario, or what is told of callers there, or of the input where
 /// none is named. The status is 2 where it holds none of these.
-pub fn draw<R: Files + AllocGlobal, I: Read, O: Write, E: Write>(
+pub fn draw<R: Files + AllocGlobal, I: Read, O: Stream, E: Stream>(
     rt: &R,
     drawing: Drawing,
     file: Option<&str>,
@@ -483,10 +440,12 @@ pub fn draw<R: Files + AllocGlobal, I: Read, O: Write, E: Write>(
     out: &mut O,
     err: &mut E,
 ) -> io::Result<u8>
-    ensures { IfOk result (WritesOfText (DrawsRead drawing) (option_map (λ name. name.now) file.entry) (I.remaining input.old) (O.contents out.old) (O.contents out.new) (E.contents err.old) (E.contents err.new)) }
+    ensures writes { IfOk result (WritesOfText (DrawsRead drawing (unwrap_or (option_map (λ name. name.now) file.entry) (codes "-"))) (option_map (λ name. name.now) file.entry) (I.remaining input.old) (O.contents out.old) (O.contents out.new) (E.contents err.old) (E.contents err.new)) }
+    ensures early { IfErr result (EndsEarly false (O.has_failed out.new) (E.has_failed err.new)) }
 {
+    let name = called(file);
     match read_text(rt, file, input) {
         Ok(given) => draw_bytes(rt.alloc(), given.as_slice(), drawing, out, err),
-        Err(_) => tell_undrawn(err, "no file"),
+        Err(why) => refused(tell_unread(err, name, why)),
     }
 }

@@ -1,25 +1,30 @@
 //! `lab orders`: every order in which the callers of a scenario may come.
-ghost use Rattle.std.specs.Prelude.{◌≡◌, ◌-◌, ◌++◌, codes, decimal, map, option_map, slice_get, IfOk, OnOk};
+ghost use Rattle.std.specs.Prelude.{◌≡◌, ◌-◌, ◌++◌, codes, decimal, map, option_map, slice_get, IfOk, OnOk, IfErr, false};
 ghost use Rattle.std.specs.Io.KnownBytes.{Appends};
 ghost use Rattle.evl_plans.specs.Told.{handler_of};
 ghost use Rattle.lab.specs.Endings.{line_about};
-ghost use Rattle.lab.specs.Orders.{IsSetTo, IsUnpicked, TellsAsked, TellsOrders, TellsOutcomes, TellsPossible, TellsRead, TellsText, asked_status, asked_text, ends_words, holds_text, impossible_in, is_asked, none_status, none_text, outcomes_told, picked_words, report_of, report_told, scenario_of, scenario_told, text_name, unanswered_text};
+ghost use Rattle.lab.specs.Orders.{IsSetTo, IsUnpicked, TellsAsked, TellsGiven, TellsOrders, TellsOutcomes, TellsPossible, TellsRead, TellsText, asked_status, asked_text, ends_words, holds_text, impossible_in, is_asked, none_status, none_text, outcomes_told, picked_words, report_of, report_told, scenario_of, scenario_told, text_name, unanswered_text};
 ghost use Rattle.lab.specs.Outputs.{Writes, WritesOfText};
+ghost use Rattle.lab.specs.Streams.{EndsEarly};
 
 use crate::banks::read_plans;
-use crate::endings::tell_refused;
+use crate::converts::tell_place;
+use crate::endings::{as_orders, tell_refused, tell_unread};
 use crate::order_faults::{tell_ask_fault, tell_impossible, tell_text_fault};
 use crate::statuses::{AGAINST, AT_FAULT, UNANSWERED, refused};
+use crate::streams::Stream;
 use crate::texts::read_text;
 use crate::words::Asked;
 use evl_plans::{Planned, copied_bank};
+use lab_kinds::kind_of;
+use lab_lines::callers_text;
 use lab_orders::{OrdersError, Tally};
 use lab_scenario_orders::{
     Ask, Asked as Answered, BankMaker, Callers, Never, Outcomes, ask_all, first_impossible,
     leaving, read_ask, read_callers, scenario_of, write_report,
 };
 use std::alloc::{AllocError, Global};
-use std::io::{self, Read, Write};
+use std::io::{self, Read};
 use std::rt::Files;
 
 // Callbacks that are copied for each kernel.
@@ -77,9 +82,10 @@ fn picked_words(ask: &Ask) -> &'static str
 }
 
 // Tells that what is asked holds in all orders.
-fn tell_holds<E: Write>(err: &mut E, name: &str, ask: &Ask, count: u128) -> io::Result<u8>
+fn tell_holds<E: Stream>(err: &mut E, name: &str, ask: &Ask, count: u128) -> io::Result<u8>
     ensures status { IfOk result (λ status. status ≡ 0) }
     ensures line { OnOk result (Appends (E.contents err.old) (E.contents err.new) (holds_text name.now ask.now count)) }
+    ensures early { IfErr result (EndsEarly false false (E.has_failed err.new)) }
 {
     let ends = ends_words(ask);
     let never = ask.never.len();
@@ -92,9 +98,10 @@ fn tell_holds<E: Write>(err: &mut E, name: &str, ask: &Ask, count: u128) -> io::
 }
 
 // Tells that no order of fewer steps is against what is asked, and that there are longer ones.
-fn tell_unanswered<E: Write>(err: &mut E, name: &str, steps: usize) -> io::Result<u8>
+fn tell_unanswered<E: Stream>(err: &mut E, name: &str, steps: usize) -> io::Result<u8>
     ensures status { IfOk result (λ status. status ≡ 5) }
     ensures line { OnOk result (Appends (E.contents err.old) (E.contents err.new) (unanswered_text name.now steps)) }
+    ensures early { IfErr result (EndsEarly false false (E.has_failed err.new)) }
 {
     writeln!(
         err,
@@ -104,9 +111,10 @@ fn tell_unanswered<E: Write>(err: &mut E, name: &str, steps: usize) -> io::Resul
 }
 
 // Tells what holds where no outcome is against what is asked, and answers the status.
-fn tell_none<E: Write>(err: &mut E, name: &str, ask: &Ask, found: &Outcomes) -> io::Result<u8>
+fn tell_none<E: Stream>(err: &mut E, name: &str, ask: &Ask, found: &Outcomes) -> io::Result<u8>
     ensures status { IfOk result (λ status. status ≡ none_status ask.now found.now) }
     ensures line { OnOk result (Appends (E.contents err.old) (E.contents err.new) (none_text name.now ask.now found.now)) }
+    ensures early { IfErr result (EndsEarly false false (E.has_failed err.new)) }
 {
     if !is_asked(ask) {
         return Ok(0);
@@ -119,9 +127,15 @@ fn tell_none<E: Write>(err: &mut E, name: &str, ask: &Ask, found: &Outcomes) -> 
 }
 
 // Tells what came of what is asked, and answers the status.
-fn tell_against<E: Write>(err: &mut E, name: &str, ask: &Ask, answered: &Answered) -> io::Result<u8>
+fn tell_against<E: Stream>(
+    err: &mut E,
+    name: &str,
+    ask: &Ask,
+    answered: &Answered,
+) -> io::Result<u8>
     ensures status { IfOk result (λ status. status ≡ asked_status ask.now answered.now.outcomes answered.now.against) }
     ensures line { OnOk result (Appends (E.contents err.old) (E.contents err.new) (asked_text name.now ask.now answered.now.outcomes answered.now.against)) }
+    ensures early { IfErr result (EndsEarly false false (E.has_failed err.new)) }
 {
     let Some(place) = answered.against else {
         return tell_none(err, name, ask, &answered.outcomes);
@@ -135,14 +149,15 @@ fn tell_against<E: Write>(err: &mut E, name: &str, ask: &Ask, answered: &Answere
 }
 
 // Prints the outcomes.
-fn print_outcomes<O: Write>(
+fn print_outcomes<O: Stream>(
     alloc: Global,
     callers: &Callers,
     bank: &Copies<'_>,
     answered: &Answered,
     out: &mut O,
 ) -> io::Result<()>
-    ensures { OnOk result (Appends (O.contents out.old) (O.contents out.new) (report_of callers.now answered.now.outcomes)) }
+    ensures text { OnOk result (Appends (O.contents out.old) (O.contents out.new) (report_of callers.now answered.now.outcomes)) }
+    ensures early { IfErr result (EndsEarly false (O.has_failed out.new) false) }
 {
     match write_report(alloc, callers, bank, &answered.outcomes) {
         Ok(report) => out.write_all(report.as_bytes()),
@@ -151,7 +166,7 @@ fn print_outcomes<O: Write>(
 }
 
 // Prints the report, tells what came of what is asked, and answers the status.
-fn tell_report<O: Write, E: Write>(
+fn tell_report<O: Stream, E: Stream>(
     alloc: Global,
     asked: &Asked<'_>,
     callers: &Callers,
@@ -161,21 +176,23 @@ fn tell_report<O: Write, E: Write>(
     out: &mut O,
     err: &mut E,
 ) -> io::Result<u8>
-    ensures { IfOk result (Writes (λ output. output ≡ report_told (text_name asked.now) callers.now ask.now answered.now.outcomes answered.now.against) (O.contents out.old) (O.contents out.new) (E.contents err.old) (E.contents err.new)) }
+    ensures writes { IfOk result (Writes (λ output. output ≡ report_told (text_name asked.now) callers.now ask.now answered.now.outcomes answered.now.against) (O.contents out.old) (O.contents out.new) (E.contents err.old) (E.contents err.new)) }
+    ensures early { IfErr result (EndsEarly false (O.has_failed out.new) (E.has_failed err.new)) }
 {
     print_outcomes(alloc, callers, bank, answered, out)?;
     tell_against(err, asked.name(), ask, answered)
 }
 
 // Prints the scenario of an outcome.
-fn print_scenario<O: Write>(
+fn print_scenario<O: Stream>(
     alloc: Global,
     callers: &Callers,
     bank: &Copies<'_>,
     outcome: &Tally,
     out: &mut O,
 ) -> io::Result<()>
-    ensures { OnOk result (Appends (O.contents out.old) (O.contents out.new) (scenario_of callers.now outcome.now)) }
+    ensures text { OnOk result (Appends (O.contents out.old) (O.contents out.new) (scenario_of callers.now outcome.now)) }
+    ensures early { IfErr result (EndsEarly false (O.has_failed out.new) false) }
 {
     match scenario_of(alloc, callers, bank, outcome.order.as_slice()) {
         Ok(scenario) => out.write_all(scenario.as_bytes()),
@@ -184,16 +201,17 @@ fn print_scenario<O: Write>(
 }
 
 // Tells that there is no outcome with this number, and answers the status.
-fn tell_no_outcome<E: Write>(err: &mut E, name: &str, number: u32) -> io::Result<u8>
+fn tell_no_outcome<E: Stream>(err: &mut E, name: &str, number: u32) -> io::Result<u8>
     ensures status { IfOk result (λ status. status ≡ 2) }
     ensures line { OnOk result (Appends (E.contents err.old) (E.contents err.new) (line_about name.now (codes "there is no outcome " ++ decimal number))) }
+    ensures early { IfErr result (EndsEarly false false (E.has_failed err.new)) }
 {
     writeln!(err, "{name}: there is no outcome {number}")?;
     Ok(AT_FAULT)
 }
 
 // Prints the scenario of this outcome alone, tells what came of what is asked, and answers the status.
-fn tell_scenario<O: Write, E: Write>(
+fn tell_scenario<O: Stream, E: Stream>(
     alloc: Global,
     asked: &Asked<'_>,
     number: u32,
@@ -205,7 +223,8 @@ fn tell_scenario<O: Write, E: Write>(
     out: &mut O,
     err: &mut E,
 ) -> io::Result<u8>
-    ensures { IfOk result (Writes (λ output. output ≡ scenario_told (text_name asked.now) number callers.now ask.now answered.now.outcomes answered.now.against (option_map (λ outcome. outcome.now) outcome.entry)) (O.contents out.old) (O.contents out.new) (E.contents err.old) (E.contents err.new)) }
+    ensures writes { IfOk result (Writes (λ output. output ≡ scenario_told (text_name asked.now) number callers.now ask.now answered.now.outcomes answered.now.against (option_map (λ outcome. outcome.now) outcome.entry)) (O.contents out.old) (O.contents out.new) (E.contents err.old) (E.contents err.new)) }
+    ensures early { IfErr result (EndsEarly false (O.has_failed out.new) (E.has_failed err.new)) }
 {
     match outcome {
         Some(found) => {
@@ -224,7 +243,7 @@ fn outcome_at(all: &[Tally], number: u32) -> Option<&Tally>
 }
 
 // Prints what is asked for of the outcomes, tells what came of what is asked, and answers the status.
-fn tell_answered<O: Write, E: Write>(
+fn tell_answered<O: Stream, E: Stream>(
     alloc: Global,
     asked: &Asked<'_>,
     callers: &Callers,
@@ -234,7 +253,8 @@ fn tell_answered<O: Write, E: Write>(
     out: &mut O,
     err: &mut E,
 ) -> io::Result<u8>
-    ensures { IfOk result (Writes (λ output. output ≡ outcomes_told asked.now.outcome (text_name asked.now) callers.now ask.now answered.now.outcomes answered.now.against) (O.contents out.old) (O.contents out.new) (E.contents err.old) (E.contents err.new)) }
+    ensures writes { IfOk result (Writes (λ output. output ≡ outcomes_told asked.now.outcome (text_name asked.now) callers.now ask.now answered.now.outcomes answered.now.against) (O.contents out.old) (O.contents out.new) (E.contents err.old) (E.contents err.new)) }
+    ensures early { IfErr result (EndsEarly false (O.has_failed out.new) (E.has_failed err.new)) }
 {
     match asked.outcome {
         Some(number) => {
@@ -248,7 +268,7 @@ fn tell_answered<O: Write, E: Write>(
 }
 
 // Goes through all orders, and answers the status.
-fn go_through<O: Write, E: Write>(
+fn go_through<O: Stream, E: Stream>(
     alloc: Global,
     asked: &Asked<'_>,
     callers: &Callers,
@@ -257,7 +277,8 @@ fn go_through<O: Write, E: Write>(
     out: &mut O,
     err: &mut E,
 ) -> io::Result<u8>
-    ensures { IfOk result (Writes (TellsOutcomes (map handler_of plans.now) asked.now.most asked.now.outcome (text_name asked.now) callers.now ask.now) (O.contents out.old) (O.contents out.new) (E.contents err.old) (E.contents err.new)) }
+    ensures writes { IfOk result (Writes (TellsOutcomes (map handler_of plans.now) asked.now.most asked.now.outcome (text_name asked.now) callers.now ask.now) (O.contents out.old) (O.contents out.new) (E.contents err.old) (E.contents err.new)) }
+    ensures early { IfErr result (EndsEarly false (O.has_failed out.new) (E.has_failed err.new)) }
 {
     let bank = Copies { plans };
     match ask_all(alloc, callers, &bank, ask, asked.most) {
@@ -281,7 +302,8 @@ fn unpicked(callers: Callers) -> Callers
 
 // The callers, set to what is asked.
 fn set_to(alloc: Global, callers: Callers, ask: &Ask) -> io::Result<Callers>
-    ensures { IfOk result (IsSetTo callers ask.now) }
+    ensures set { IfOk result (IsSetTo callers ask.now) }
+    ensures early { IfErr result (EndsEarly false false false) }
 {
     if !ask.as_picked {
         return Ok(unpicked(callers));
@@ -298,7 +320,8 @@ fn impossible_in<'a>(
     callers: &Callers,
     ask: &'a Ask,
 ) -> io::Result<Option<&'a Never>>
-    ensures { IfOk result (λ found. option_map (λ never. never.now) found ≡ impossible_in callers.now ask.now) }
+    ensures found { IfOk result (λ found. option_map (λ never. never.now) found ≡ impossible_in callers.now ask.now) }
+    ensures early { IfErr result (EndsEarly false false false) }
 {
     match first_impossible(alloc, callers, ask) {
         Ok(found) => Ok(found),
@@ -307,7 +330,7 @@ fn impossible_in<'a>(
 }
 
 // Tells such an answer; where there is none, goes through all orders. Answers the status.
-fn tell_found<O: Write, E: Write>(
+fn tell_found<O: Stream, E: Stream>(
     alloc: Global,
     asked: &Asked<'_>,
     callers: Callers,
@@ -317,7 +340,8 @@ fn tell_found<O: Write, E: Write>(
     out: &mut O,
     err: &mut E,
 ) -> io::Result<u8>
-    ensures { IfOk result (Writes (TellsPossible (map handler_of plans.now) asked.now.most asked.now.outcome (text_name asked.now) callers ask.now (option_map (λ never. never.now) found.entry)) (O.contents out.old) (O.contents out.new) (E.contents err.old) (E.contents err.new)) }
+    ensures writes { IfOk result (Writes (TellsPossible (map handler_of plans.now) asked.now.most asked.now.outcome (text_name asked.now) callers ask.now (option_map (λ never. never.now) found.entry)) (O.contents out.old) (O.contents out.new) (E.contents err.old) (E.contents err.new)) }
+    ensures early { IfErr result (EndsEarly false (O.has_failed out.new) (E.has_failed err.new)) }
 {
     match found {
         None => {
@@ -329,7 +353,7 @@ fn tell_found<O: Write, E: Write>(
 }
 
 // Goes through all orders of callers of whom this is asked, and answers the status.
-fn tell_possible<O: Write, E: Write>(
+fn tell_possible<O: Stream, E: Stream>(
     alloc: Global,
     asked: &Asked<'_>,
     callers: Callers,
@@ -338,14 +362,15 @@ fn tell_possible<O: Write, E: Write>(
     out: &mut O,
     err: &mut E,
 ) -> io::Result<u8>
-    ensures { IfOk result (Writes (TellsPossible (map handler_of plans.now) asked.now.most asked.now.outcome (text_name asked.now) callers ask.now (impossible_in callers ask.now)) (O.contents out.old) (O.contents out.new) (E.contents err.old) (E.contents err.new)) }
+    ensures writes { IfOk result (Writes (TellsPossible (map handler_of plans.now) asked.now.most asked.now.outcome (text_name asked.now) callers ask.now (impossible_in callers ask.now)) (O.contents out.old) (O.contents out.new) (E.contents err.old) (E.contents err.new)) }
+    ensures early { IfErr result (EndsEarly false (O.has_failed out.new) (E.has_failed err.new)) }
 {
     let found = impossible_in(alloc, &callers, ask)?;
     tell_found(alloc, asked, callers, ask, found, plans, out, err)
 }
 
 // Tells what is asked of callers, and answers the status.
-fn tell_callers<O: Write, E: Write>(
+fn tell_callers<O: Stream, E: Stream>(
     alloc: Global,
     asked: &Asked<'_>,
     callers: Callers,
@@ -354,7 +379,8 @@ fn tell_callers<O: Write, E: Write>(
     out: &mut O,
     err: &mut E,
 ) -> io::Result<u8>
-    ensures { IfOk result (Writes (TellsAsked (map handler_of plans.now) asked.now.most asked.now.outcome (text_name asked.now) callers text.now) (O.contents out.old) (O.contents out.new) (E.contents err.old) (E.contents err.new)) }
+    ensures writes { IfOk result (Writes (TellsAsked (map handler_of plans.now) asked.now.most asked.now.outcome (text_name asked.now) callers text.now) (O.contents out.old) (O.contents out.new) (E.contents err.old) (E.contents err.new)) }
+    ensures early { IfErr result (EndsEarly false (O.has_failed out.new) (E.has_failed err.new)) }
 {
     match read_ask(alloc, &callers, text) {
         Ok(ask) => tell_possible(alloc, asked, callers, &ask, plans, out, err),
@@ -366,7 +392,7 @@ fn tell_callers<O: Write, E: Write>(
 }
 
 // Goes through all orders of a text, and answers the status.
-fn tell_text<O: Write, E: Write>(
+fn tell_text<O: Stream, E: Stream>(
     alloc: Global,
     asked: &Asked<'_>,
     plans: &[Planned],
@@ -374,19 +400,38 @@ fn tell_text<O: Write, E: Write>(
     out: &mut O,
     err: &mut E,
 ) -> io::Result<u8>
-    ensures { IfOk result (Writes (TellsText (map handler_of plans.now) asked.now.most asked.now.outcome (text_name asked.now) text.now) (O.contents out.old) (O.contents out.new) (E.contents err.old) (E.contents err.new)) }
+    ensures writes { IfOk result (Writes (TellsText (map handler_of plans.now) asked.now.most asked.now.outcome (text_name asked.now) text.now) (O.contents out.old) (O.contents out.new) (E.contents err.old) (E.contents err.new)) }
+    ensures early { IfErr result (EndsEarly false (O.has_failed out.new) (E.has_failed err.new)) }
 {
     match read_callers(alloc, text) {
         Ok(callers) => tell_callers(alloc, asked, callers, plans, text, out, err),
         Err(fault) => {
-            let told = tell_text_fault(err, asked.name(), fault);
-            refused(told)
+            let kind = kind_of(alloc, text)?;
+            refused(tell_text_fault(err, asked.name(), as_orders(kind), fault))
         }
     }
 }
 
+// Goes through all orders of the text of callers that stands for a text, and answers the status.
+fn tell_given<O: Stream, E: Stream>(
+    alloc: Global,
+    asked: &Asked<'_>,
+    plans: &[Planned],
+    text: Vec<u8>,
+    out: &mut O,
+    err: &mut E,
+) -> io::Result<u8>
+    ensures writes { IfOk result (Writes (TellsGiven (map handler_of plans.now) asked.now.most asked.now.outcome (text_name asked.now) text.items) (O.contents out.old) (O.contents out.new) (E.contents err.old) (E.contents err.new)) }
+    ensures early { IfErr result (EndsEarly false (O.has_failed out.new) (E.has_failed err.new)) }
+{
+    match callers_text(alloc, text) {
+        Ok(plain) => tell_text(alloc, asked, plans, plain.as_slice(), out, err),
+        Err(fault) => refused(tell_place(err, asked.name(), &fault)),
+    }
+}
+
 // Goes through all orders of a file, or of the input where none is named, and answers the status.
-fn tell_file<R: Files + AllocGlobal, I: Read, O: Write, E: Write>(
+fn tell_file<R: Files + AllocGlobal, I: Read, O: Stream, E: Stream>(
     rt: &R,
     asked: &Asked<'_>,
     plans: &[Planned],
@@ -394,28 +439,27 @@ fn tell_file<R: Files + AllocGlobal, I: Read, O: Write, E: Write>(
     out: &mut O,
     err: &mut E,
 ) -> io::Result<u8>
-    ensures { IfOk result (WritesOfText (TellsRead (map handler_of plans.now) asked.now.most asked.now.outcome (text_name asked.now)) (option_map (λ file. file.now) asked.now.file) (I.remaining input.old) (O.contents out.old) (O.contents out.new) (E.contents err.old) (E.contents err.new)) }
+    ensures writes { IfOk result (WritesOfText (TellsRead (map handler_of plans.now) asked.now.most asked.now.outcome (text_name asked.now)) (option_map (λ file. file.now) asked.now.file) (I.remaining input.old) (O.contents out.old) (O.contents out.new) (E.contents err.old) (E.contents err.new)) }
+    ensures early { IfErr result (EndsEarly false (O.has_failed out.new) (E.has_failed err.new)) }
 {
     match read_text(rt, asked.file, input) {
-        Ok(text) => tell_text(rt.alloc(), asked, plans, text.as_slice(), out, err),
-        Err(_) => {
-            let told = tell_refused(err, asked.name(), "no file");
-            refused(told)
-        }
+        Ok(text) => tell_given(rt.alloc(), asked, plans, text, out, err),
+        Err(why) => refused(tell_unread(err, asked.name(), why)),
     }
 }
 
 /// Goes through every order in which the callers of a scenario may come, over a bank, prints how each ends, and answers
 /// the status: 1 where one is against what is asked, 5 where none is and longer orders were cut off, 2 where the text is
 /// refused or can't be read, or the bank is at fault.
-pub fn orders<R: Files + AllocGlobal, I: Read, O: Write, E: Write>(
+pub fn orders<R: Files + AllocGlobal, I: Read, O: Stream, E: Stream>(
     rt: &R,
     asked: &Asked<'_>,
     input: &mut I,
     out: &mut O,
     err: &mut E,
 ) -> io::Result<u8>
-    ensures { IfOk result (TellsOrders asked.now (I.remaining input.old) (O.contents out.old) (O.contents out.new) (E.contents err.old) (E.contents err.new)) }
+    ensures told { IfOk result (TellsOrders asked.now (I.remaining input.old) (O.contents out.old) (O.contents out.new) (E.contents err.old) (E.contents err.new)) }
+    ensures early { IfErr result (EndsEarly false (O.has_failed out.new) (E.has_failed err.new)) }
 {
     match read_plans(rt, asked.bank, err) {
         Ok(Some(plans)) => tell_file(rt, asked, plans.as_slice(), input, out, err),

@@ -1,25 +1,33 @@
-//! The parts of the program: `check`, `draw`, `play`, `live`, `orders`, `callers` and `help`.
+//! The parts of the program: `check`, `draw`, `play`, `convert`, `live`, `orders`, `callers` and `help`.
+ghost use Rattle.std.specs.Prelude.{IfErr};
+ghost use Rattle.lab.specs.Streams.{EndsEarly};
+
 use crate::callers::callers;
 use crate::checks::check_files;
+use crate::converts::convert;
 use crate::draws::draw;
 use crate::helps::help;
 use crate::lives::live;
 use crate::orders::orders;
 use crate::plays::play_files;
 use crate::statuses::REFUSED;
-use crate::words::{asked_of, drawing_of, driving_of, playing_of};
+use crate::streams::{Source, Stream};
+use crate::words::{asked_of, converting_of, drawing_of, driving_of, playing_of};
 use clap::ArgMatches;
-use std::io::{self, Read, Write};
+use std::io;
 use std::rt::Files;
 
-/// Does what the words ask for, and answers the status.
-pub fn do_part<R: Files + AllocGlobal, I: Read, O: Write, E: Write>(
+/// Does what the words ask for, and answers the status. It ends early only for want of memory, or where a stream has
+/// failed.
+pub fn do_part<R: Files + AllocGlobal, I: Source, O: Stream, E: Stream>(
     rt: &R,
     matches: &ArgMatches<'_>,
     input: &mut I,
     out: &mut O,
     err: &mut E,
-) -> io::Result<u8> {
+) -> io::Result<u8>
+    ensures early { IfErr result (EndsEarly (I.has_failed input.new) (O.has_failed out.new) (E.has_failed err.new)) }
+{
     match matches.subcommand() {
         Some(("check", inner)) => {
             let files = inner.get_strs("FILE").unwrap_or(&[]);
@@ -36,6 +44,10 @@ pub fn do_part<R: Files + AllocGlobal, I: Read, O: Write, E: Write>(
         Some(("play", inner)) => {
             let files = inner.get_strs("FILE").unwrap_or(&[]);
             play_files(rt, playing_of(inner), files, input, out, err)
+        }
+        Some(("convert", inner)) => {
+            let asked = converting_of(inner);
+            convert(rt, asked, inner.get_str("FILE"), input, out, err)
         }
         Some(("live", inner)) => live(rt, driving_of(inner), input, out, err),
         Some(("orders", inner)) => orders(rt, &asked_of(inner), input, out, err),

@@ -1,5 +1,5 @@
 //! `lab play`: the traces of scenarios.
-ghost use Rattle.std.specs.Prelude.{◌≡◌, ◌≤◌, List, [], ◌∷◌, ℕ, false, length, IfOk, OnOk, map, option_map};
+ghost use Rattle.std.specs.Prelude.{◌≡◌, ◌≤◌, List, [], ◌∷◌, ℕ, false, length, IfOk, OnOk, map, option_map, IfErr};
 ghost use Rattle.std.specs.Io.KnownBytes.{Appends};
 ghost use Rattle.evl_shell.specs.Runs.{trace_of};
 ghost use Rattle.evl_plans.specs.Told.{handler_of};
@@ -8,30 +8,35 @@ ghost use Rattle.lab_reports.specs.Json.{trace_json};
 ghost use Rattle.lab.specs.Banks.{IsBank};
 ghost use Rattle.lab.specs.Texts.{is_input, names_or_input};
 ghost use Rattle.lab_kinds.specs.Kinds.{kind_of};
-ghost use Rattle.lab.specs.Plays.{IsJsonOf, IsPlayed, Plays, PlaysEach, PlaysUnlessRefused, Tells, TellsPlayed, TellsTrace};
+ghost use Rattle.lab.specs.Plays.{IsJsonOf, IsPlayed, Plays, PlaysEach, PlaysUnlessRefused, Tells, TellsGiven, TellsPlayed, TellsTrace};
+ghost use Rattle.lab.specs.Streams.{EndsEarly};
 
 use crate::banks::read_plans;
 use crate::compares::compare;
-use crate::endings::{tell_done, tell_fault_by, tell_refused};
+use crate::converts::tell_place;
+use crate::endings::{tell_done, tell_fault_by, tell_unread};
 use crate::statuses::{AT_FAULT, either, status_of};
+use crate::streams::Stream;
 use crate::texts::{read_text, text_in};
 use crate::words::{Playing, Telling};
 use evl_plans::{Planned, trace_plans};
 use lab_kinds::kind_of;
+use lab_lines::plain_text;
 use lab_reports::write_json;
 use lab_traces::{Misread, TraceLine, read_lines};
 use std::alloc::{AllocError, Global};
-use std::io::{self, Read, Write};
+use std::io::{self, Read};
 use std::rt::Files;
 
 // Writes the lines of a trace as JSON.
-fn put_lines<O: Write>(
+fn put_lines<O: Stream>(
     alloc: Global,
     name: &str,
     lines: &[TraceLine<'_>],
     out: &mut O,
 ) -> io::Result<()>
-    ensures { OnOk result (Appends (O.contents out.old) (O.contents out.new) (trace_json name.now (map (λ line. says_of line.says) lines.now))) }
+    ensures text { OnOk result (Appends (O.contents out.old) (O.contents out.new) (trace_json name.now (map (λ line. says_of line.says) lines.now))) }
+    ensures early { IfErr result (EndsEarly false (O.has_failed out.new) false) }
 {
     match write_json(alloc, name, lines) {
         Ok(json) => out.write_all(json.as_bytes()),
@@ -40,8 +45,9 @@ fn put_lines<O: Write>(
 }
 
 // Writes a text as JSON, where it is lines of a trace.
-fn put_json<O: Write>(alloc: Global, name: &str, text: &str, out: &mut O) -> io::Result<()>
-    ensures { OnOk result ((json : List ℕ) × IsJsonOf name.now text.now json × Appends (O.contents out.old) (O.contents out.new) json) }
+fn put_json<O: Stream>(alloc: Global, name: &str, text: &str, out: &mut O) -> io::Result<()>
+    ensures text { OnOk result ((json : List ℕ) × IsJsonOf name.now text.now json × Appends (O.contents out.old) (O.contents out.new) json) }
+    ensures early { IfErr result (EndsEarly false (O.has_failed out.new) false) }
 {
     match read_lines(alloc, text) {
         Ok(lines) => put_lines(alloc, name, lines.as_slice(), out),
@@ -51,34 +57,36 @@ fn put_json<O: Write>(alloc: Global, name: &str, text: &str, out: &mut O) -> io:
 }
 
 // Tells a trace.
-fn tell_whole<O: Write, E: Write>(
+fn tell_whole<O: Stream, E: Stream>(
     name: &str,
     trace: &[u8],
     out: &mut O,
     err: &mut E,
 ) -> io::Result<bool>
-    ensures { IfOk result (Tells (TellsTrace Telling.Trace name.now trace.now) (O.contents out.old) (O.contents out.new) (E.contents err.old) (E.contents err.new)) }
+    ensures told { IfOk result (Tells (TellsTrace Telling.Trace name.now trace.now) (O.contents out.old) (O.contents out.new) (E.contents err.old) (E.contents err.new)) }
+    ensures early { IfErr result (EndsEarly false (O.has_failed out.new) (E.has_failed err.new)) }
 {
     out.write_all(trace)?;
     tell_done(err, name)
 }
 
 // Tells a trace as JSON.
-fn tell_json<O: Write, E: Write>(
+fn tell_json<O: Stream, E: Stream>(
     alloc: Global,
     name: &str,
     trace: &[u8],
     out: &mut O,
     err: &mut E,
 ) -> io::Result<bool>
-    ensures { IfOk result (Tells (TellsTrace Telling.Json name.now trace.now) (O.contents out.old) (O.contents out.new) (E.contents err.old) (E.contents err.new)) }
+    ensures told { IfOk result (Tells (TellsTrace Telling.Json name.now trace.now) (O.contents out.old) (O.contents out.new) (E.contents err.old) (E.contents err.new)) }
+    ensures early { IfErr result (EndsEarly false (O.has_failed out.new) (E.has_failed err.new)) }
 {
     put_json(alloc, name, text_in(trace), out)?;
     tell_done(err, name)
 }
 
 // Tells what is asked for of a trace.
-fn tell_trace<R: Files + AllocGlobal, O: Write, E: Write>(
+fn tell_trace<R: Files + AllocGlobal, O: Stream, E: Stream>(
     rt: &R,
     telling: Telling<'_>,
     name: &str,
@@ -86,7 +94,8 @@ fn tell_trace<R: Files + AllocGlobal, O: Write, E: Write>(
     out: &mut O,
     err: &mut E,
 ) -> io::Result<bool>
-    ensures { IfOk result (Tells (TellsTrace telling.entry name.now trace.now) (O.contents out.old) (O.contents out.new) (E.contents err.old) (E.contents err.new)) }
+    ensures told { IfOk result (Tells (TellsTrace telling.entry name.now trace.now) (O.contents out.old) (O.contents out.new) (E.contents err.old) (E.contents err.new)) }
+    ensures early { IfErr result (EndsEarly false (O.has_failed out.new) (E.has_failed err.new)) }
 {
     match telling {
         Telling::Trace => tell_whole(name, trace, out, err),
@@ -96,7 +105,7 @@ fn tell_trace<R: Files + AllocGlobal, O: Write, E: Write>(
 }
 
 // Plays a scenario's text, and answers whether it is at fault.
-fn play_text<R: Files + AllocGlobal, O: Write, E: Write>(
+fn play_text<R: Files + AllocGlobal, O: Stream, E: Stream>(
     rt: &R,
     plans: &[Planned],
     playing: Playing<'_>,
@@ -106,7 +115,8 @@ fn play_text<R: Files + AllocGlobal, O: Write, E: Write>(
     err: &mut E,
 ) -> io::Result<bool>
     requires { length plans.now ≤ 64 }
-    ensures { IfOk result (Tells (TellsPlayed playing.entry.telling name.now (kind_of text.now) (trace_of (map handler_of plans.now) playing.entry.limit text.now)) (O.contents out.old) (O.contents out.new) (E.contents err.old) (E.contents err.new)) }
+    ensures told { IfOk result (Tells (TellsPlayed playing.entry.telling name.now (kind_of text.now) (trace_of (map handler_of plans.now) playing.entry.limit text.now)) (O.contents out.old) (O.contents out.new) (E.contents err.old) (E.contents err.new)) }
+    ensures early { IfErr result (EndsEarly false (O.has_failed out.new) (E.has_failed err.new)) }
 {
     match trace_plans(rt.alloc(), plans, text, playing.limit) {
         Ok(trace) => tell_trace(rt, playing.telling, name, trace.as_slice(), out, err),
@@ -117,8 +127,28 @@ fn play_text<R: Files + AllocGlobal, O: Write, E: Write>(
     }
 }
 
+// Plays what stands for a text, and answers whether it is at fault.
+fn play_given<R: Files + AllocGlobal, O: Stream, E: Stream>(
+    rt: &R,
+    plans: &[Planned],
+    playing: Playing<'_>,
+    name: &str,
+    text: Vec<u8>,
+    out: &mut O,
+    err: &mut E,
+) -> io::Result<bool>
+    requires { length plans.now ≤ 64 }
+    ensures told { IfOk result (Tells (TellsGiven playing.entry.telling (map handler_of plans.now) playing.entry.limit name.now text.items) (O.contents out.old) (O.contents out.new) (E.contents err.old) (E.contents err.new)) }
+    ensures early { IfErr result (EndsEarly false (O.has_failed out.new) (E.has_failed err.new)) }
+{
+    match plain_text(rt.alloc(), text) {
+        Ok(plain) => play_text(rt, plans, playing, name, plain.as_slice(), out, err),
+        Err(fault) => tell_place(err, name, &fault),
+    }
+}
+
 // Plays a file, or the input where it is `-`, and answers whether it is at fault.
-fn play_file<R: Files + AllocGlobal, I: Read, O: Write, E: Write>(
+fn play_file<R: Files + AllocGlobal, I: Read, O: Stream, E: Stream>(
     rt: &R,
     plans: &[Planned],
     playing: Playing<'_>,
@@ -130,15 +160,16 @@ fn play_file<R: Files + AllocGlobal, I: Read, O: Write, E: Write>(
     requires { length plans.now ≤ 64 }
     ensures told { IfOk result (PlaysEach (IsPlayed playing.entry.telling (map handler_of plans.now) playing.entry.limit) (name.now ∷ []) (I.remaining input.old) (O.contents out.old) (O.contents out.new) (E.contents err.old) (E.contents err.new)) }
     ensures input { is_input name.now ≡ false → input.new ≡ input.old }
+    ensures early { IfErr result (EndsEarly false (O.has_failed out.new) (E.has_failed err.new)) }
 {
     match read_text(rt, Some(name), input) {
-        Ok(text) => play_text(rt, plans, playing, name, text.as_slice(), out, err),
-        Err(_) => tell_refused(err, name, "no file"),
+        Ok(text) => play_given(rt, plans, playing, name, text, out, err),
+        Err(why) => tell_unread(err, name, why),
     }
 }
 
 // Plays files, and answers whether one is at fault.
-fn play_each<R: Files + AllocGlobal, I: Read, O: Write, E: Write>(
+fn play_each<R: Files + AllocGlobal, I: Read, O: Stream, E: Stream>(
     rt: &R,
     plans: &[Planned],
     playing: Playing<'_>,
@@ -148,7 +179,8 @@ fn play_each<R: Files + AllocGlobal, I: Read, O: Write, E: Write>(
     err: &mut E,
 ) -> io::Result<bool>
     requires { length plans.now ≤ 64 }
-    ensures { IfOk result (PlaysEach (IsPlayed playing.entry.telling (map handler_of plans.now) playing.entry.limit) (map (λ file. file.now) files.now) (I.remaining input.old) (O.contents out.old) (O.contents out.new) (E.contents err.old) (E.contents err.new)) }
+    ensures each { IfOk result (PlaysEach (IsPlayed playing.entry.telling (map handler_of plans.now) playing.entry.limit) (map (λ file. file.now) files.now) (I.remaining input.old) (O.contents out.old) (O.contents out.new) (E.contents err.old) (E.contents err.new)) }
+    ensures early { IfErr result (EndsEarly false (O.has_failed out.new) (E.has_failed err.new)) }
 {
     let mut is_at_fault = false;
     for file in files {
@@ -159,7 +191,7 @@ fn play_each<R: Files + AllocGlobal, I: Read, O: Write, E: Write>(
 }
 
 // Plays files, or the input where none is named, and answers whether one is at fault.
-fn play_over<R: Files + AllocGlobal, I: Read, O: Write, E: Write>(
+fn play_over<R: Files + AllocGlobal, I: Read, O: Stream, E: Stream>(
     rt: &R,
     plans: &[Planned],
     playing: Playing<'_>,
@@ -169,7 +201,8 @@ fn play_over<R: Files + AllocGlobal, I: Read, O: Write, E: Write>(
     err: &mut E,
 ) -> io::Result<bool>
     requires { length plans.now ≤ 64 }
-    ensures { IfOk result (PlaysEach (IsPlayed playing.entry.telling (map handler_of plans.now) playing.entry.limit) (names_or_input (map (λ file. file.now) files.now)) (I.remaining input.old) (O.contents out.old) (O.contents out.new) (E.contents err.old) (E.contents err.new)) }
+    ensures each { IfOk result (PlaysEach (IsPlayed playing.entry.telling (map handler_of plans.now) playing.entry.limit) (names_or_input (map (λ file. file.now) files.now)) (I.remaining input.old) (O.contents out.old) (O.contents out.new) (E.contents err.old) (E.contents err.new)) }
+    ensures early { IfErr result (EndsEarly false (O.has_failed out.new) (E.has_failed err.new)) }
 {
     if files.is_empty() {
         play_file(rt, plans, playing, "-", input, out, err)
@@ -179,7 +212,7 @@ fn play_over<R: Files + AllocGlobal, I: Read, O: Write, E: Write>(
 }
 
 // Plays files over these callbacks, or the input where none is named, and answers the status.
-fn play_bank<R: Files + AllocGlobal, I: Read, O: Write, E: Write>(
+fn play_bank<R: Files + AllocGlobal, I: Read, O: Stream, E: Stream>(
     rt: &R,
     plans: &[Planned],
     playing: Playing<'_>,
@@ -189,7 +222,8 @@ fn play_bank<R: Files + AllocGlobal, I: Read, O: Write, E: Write>(
     err: &mut E,
 ) -> io::Result<u8>
     requires { length plans.now ≤ 64 }
-    ensures { IsBank (option_map (λ file. file.now) playing.entry.bank) (map handler_of plans.now) → IfOk result (Plays playing.entry (map (λ file. file.now) files.now) (I.remaining input.old) (O.contents out.old) (O.contents out.new) (E.contents err.old) (E.contents err.new)) }
+    ensures plays { IsBank (option_map (λ file. file.now) playing.entry.bank) (map handler_of plans.now) → IfOk result (Plays playing.entry (map (λ file. file.now) files.now) (I.remaining input.old) (O.contents out.old) (O.contents out.new) (E.contents err.old) (E.contents err.new)) }
+    ensures early { IfErr result (EndsEarly false (O.has_failed out.new) (E.has_failed err.new)) }
 {
     let is_at_fault = play_over(rt, plans, playing, files, input, out, err)?;
     Ok(status_of(is_at_fault))
@@ -197,7 +231,7 @@ fn play_bank<R: Files + AllocGlobal, I: Read, O: Write, E: Write>(
 
 /// Plays scenarios over a bank, tells of each what is asked for and on `err` how it ended, and answers the status: 2
 /// where one is refused, can't be read or differs, or the bank is at fault.
-pub fn play_files<R: Files + AllocGlobal, I: Read, O: Write, E: Write>(
+pub fn play_files<R: Files + AllocGlobal, I: Read, O: Stream, E: Stream>(
     rt: &R,
     playing: Playing<'_>,
     files: &[&str],
@@ -205,7 +239,8 @@ pub fn play_files<R: Files + AllocGlobal, I: Read, O: Write, E: Write>(
     out: &mut O,
     err: &mut E,
 ) -> io::Result<u8>
-    ensures { IfOk result (PlaysUnlessRefused playing.entry (map (λ file. file.now) files.now) (I.remaining input.old) (O.contents out.old) (O.contents out.new) (E.contents err.old) (E.contents err.new)) }
+    ensures plays { IfOk result (PlaysUnlessRefused playing.entry (map (λ file. file.now) files.now) (I.remaining input.old) (O.contents out.old) (O.contents out.new) (E.contents err.old) (E.contents err.new)) }
+    ensures early { IfErr result (EndsEarly false (O.has_failed out.new) (E.has_failed err.new)) }
 {
     match read_plans(rt, playing.bank, err) {
         Ok(Some(plans)) => play_bank(rt, plans.as_slice(), playing, files, input, out, err),

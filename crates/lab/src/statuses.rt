@@ -1,5 +1,5 @@
 //! What the program ends with.
-ghost use Rattle.std.specs.Prelude.{◌≡◌, ◌||◌, is_ok, true, IfOk};
+ghost use Rattle.std.specs.Prelude.{◌≡◌, ◌||◌, Err, is_ok, true, IfErr, IfOk};
 ghost use Rattle.lab.specs.Endings as endings;
 
 use std::io;
@@ -38,7 +38,8 @@ pub fn status_of(is_at_fault: bool) -> u8
 
 /// The status of a text that is refused, once that is told.
 pub fn refused(told: io::Result<bool>) -> io::Result<u8>
-    ensures { IfOk result (λ status. (status ≡ 2) × (is_ok told ≡ true)) }
+    ensures status { IfOk result (λ status. (status ≡ 2) × (is_ok told ≡ true)) }
+    ensures early { IfErr result (λ e. told ≡ Err e) }
 {
     match told {
         Ok(_) => Ok(AT_FAULT),

@@ -67,6 +67,13 @@ pub struct Driving<'a> {
     pub limit: Option<u32>,
 }
 
+/// What `convert` asks for: lines, or a scenario; the form that the text hasn't where neither is named.
+#[derive(Clone, Copy, PartialEq, Eq, Debug)]
+pub struct Converting {
+    pub lines: bool,
+    pub toml: bool,
+}
+
 // Whether a word that takes no value stands there.
 fn is_set(matches: &ArgMatches<'_>, id: &str) -> bool
     ensures { result ≡ words.is_set (found_of matches.now) id.now }
@@ -194,5 +201,16 @@ pub fn asked_of<'a>(matches: &ArgMatches<'a>) -> Asked<'a>
         most: number_at(matches, "most").unwrap_or(100_000) as usize,
         outcome: number_at(matches, "outcome"),
         file: matches.get_str("FILE"),
+    }
+}
+
+/// What `convert` is asked for.
+pub fn converting_of(matches: &ArgMatches<'_>) -> Converting
+    ensures lines { result.lines ≡ words.is_set (found_of matches.now) (codes "lines") }
+    ensures toml { result.toml ≡ words.is_set (found_of matches.now) (codes "toml") }
+{
+    Converting {
+        lines: is_set(matches, "lines"),
+        toml: is_set(matches, "toml"),
     }
 }

@@ -7,13 +7,13 @@ use Rattle.lab.specs.Outputs.{Output}
 use Rattle.lab.proofs.OutputLemmas.{written_err}
 use Rattle.lab.proofs.callers.tell_played.Goals as goal
 
-pub returns : goal.returns
-returns g c =
+pub returns-clause-writes : goal.returns-clause-writes
+returns-clause-writes g c =
     let played = c.args.played.now in
     let name = c.args.name.now in
-    let old = g.O.Write.contents c.args.out.now in
-    let mid = g.O.Write.contents c.write_all.new.self in
-    let new = g.O.Write.contents c.write_all-2.new.self in
+    let old = g.O.Stream.contents c.args.out.now in
+    let mid = g.O.Stream.contents c.write_all.new.self in
+    let new = g.O.Stream.contents c.write_all-2.new.self in
     let first = subst (λ (l : List ℕ). Appends old mid l) c.as_bytes.ensures.value c.in_ok-write_all.ensures.bytes in
     let second = subst (λ (l : List ℕ). Appends mid new l) c.as_bytes-2.ensures.value c.in_ok-write_all-2.ensures.bytes in
     written_err _ (λ (output : Output). output ≡ played_told name played) old new _ _ (string_bytes played.lines ++ string_bytes played.closing) (ending_text name played.ending)

@@ -9,5 +9,5 @@ loop-name-init g c = each_none _ _
 
 pub loop-name-preserved : goal.loop-name-preserved
 loop-name-preserved g c =
-    let next = each_next (map handler_of c.args.plans.now) _ _ _ _ _ _ _ c.loop-name.invariant c.in_ok-is_bad.ensures in
+    let next = each_next (map handler_of c.args.plans.now) _ _ _ _ _ _ _ c.loop-name.invariant c.in_ok-is_bad.ensures.each in
     rw (map_more (λ name. name.now) c.args.names.now c.loop-name.name-index (record { ref_ptr = (0, 0); now = [] }) c.loop-name-test.true, c.either-is_at_fault.ensures) next

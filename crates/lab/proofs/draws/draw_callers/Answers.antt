@@ -4,8 +4,8 @@ use Rattle.lab.specs.Draws.{DrawsWhole, callers}
 use Rattle.lab.proofs.OutputLemmas.{written_as}
 use Rattle.lab.proofs.draws.draw_callers.Goals as goal
 
-pub returns-in-Ok : goal.returns-in-Ok
-returns-in-Ok g c =
+pub returns-in-Ok-clause-writes : goal.returns-in-Ok-clause-writes
+returns-in-Ok-clause-writes g c =
     let text = c.args.text.now in
     written_as _ (DrawsWhole c.args.drawing callers (c.args.front.now ++ line_feed) text) _ _ _ _ (DrawsWhole c.args.drawing callers c.as_str.result.now text) c.draw_whole.result
-    (λ output h. subst (λ (l : List ℕ). DrawsWhole c.args.drawing callers l text output) (c.as_str.ensures.value ∙ c.in-Ok.ensures) h) c.draw_whole.ensures
+    (λ output h. subst (λ (l : List ℕ). DrawsWhole c.args.drawing callers l text output) (c.as_str.ensures.value ∙ c.in-Ok.ensures) h) c.draw_whole.ensures.writes

@@ -5,5 +5,5 @@ use Rattle.lab.proofs.draws.draw_events.Goals as goal
 
 pub returns-in-Ok-clause-text : goal.returns-in-Ok-clause-text
 returns-in-Ok-clause-text g c =
-    subst (λ (l : List ℕ). OnOk c.put.result (Appends (g.O.Write.contents c.args.out.now) (g.O.Write.contents c.put.new.out) l))
+    subst (λ (l : List ℕ). OnOk c.put.result (Appends (g.O.Stream.contents c.args.out.now) (g.O.Stream.contents c.put.new.out) l))
     (c.as_bytes.ensures.value ∙ c.in-Ok.ensures ∙ events_is c.args.marks.now) c.put.ensures.bytes

@@ -4,13 +4,13 @@ use Rattle.lab.specs.Draws.{DrawsText, DrawsWhole, callers, trace}
 use Rattle.lab.proofs.OutputLemmas.{written_as}
 use Rattle.lab.proofs.draws.draw_text.Goals as goal
 
-pub returns-in-Some : goal.returns-in-Some
-returns-in-Some g c =
+pub returns-in-Some-clause-writes : goal.returns-in-Some-clause-writes
+returns-in-Some-clause-writes g c =
     let text = c.args.text.now in
     written_as _ (DrawsText c.args.drawing text) _ _ _ _ (DrawsWhole c.args.drawing callers (c.in-Some.front.now ++ line_feed) text) c.draw_callers.result
-    (λ output h. inl (_, _, c.in-Some.ensures.cases, h)) c.draw_callers.ensures
+    (λ output h. inl (_, _, c.in-Some.ensures.cases, h)) c.draw_callers.ensures.writes
 
-pub returns-in-None : goal.returns-in-None
-returns-in-None g c =
+pub returns-in-None-clause-writes : goal.returns-in-None-clause-writes
+returns-in-None-clause-writes g c =
     let text = c.args.text.now in
-    written_as _ (DrawsText c.args.drawing text) _ _ _ _ (DrawsWhole c.args.drawing trace text text) c.draw_whole.result (λ output h. inr (c.in-None.ensures.cases, h)) c.draw_whole.ensures
+    written_as _ (DrawsText c.args.drawing text) _ _ _ _ (DrawsWhole c.args.drawing trace text text) c.draw_whole.result (λ output h. inr (c.in-None.ensures.cases, h)) c.draw_whole.ensures.writes

@@ -2,20 +2,20 @@ use Rattle.std.proofs.Common.{◌≡◌, [], Some, Bool, true, false, refl}
 use Rattle.std.specs.Prelude.{is_some}
 use Rattle.std.proofs.KnownBytes.{Appends-nil}
 use Rattle.evl_scenario.specs.Steps.{word_of}
+use Rattle.lab_live.specs.Helps.{call_help}
 use Rattle.lab.specs.Helps.{Helps, no_call_text}
 use Rattle.lab.specs.Outputs.{prints}
 use Rattle.lab.proofs.HelpLemmas.{is_helped, is_no_call}
 use Rattle.lab.proofs.OutputLemmas.{written_err}
 use Rattle.lab.proofs.helps.help_with.Goals as goal
 
-pub returns-then-branch : goal.returns-then-branch
-returns-then-branch g c =
-    let form = c.in_ok-print_call.ensures.form in
+pub returns-then-branch-clause-writes : goal.returns-then-branch-clause-writes
+returns-then-branch-clause-writes g c =
     let known : is_some (word_of c.args.call.now) ≡ true = cc (c.in_ok-print_call.ensures.answers, c.if-branch.true) in
-    record { output = prints form.0; is = is_helped (is_some (word_of c.args.call.now)) c.args.call.now form.0 known; printed = form.1; said = Appends-nil _; ended = refl }
+    record { output = prints (call_help c.args.call.now); is = is_helped (is_some (word_of c.args.call.now)) c.args.call.now known; printed = c.in_ok-print_call.ensures.form; said = Appends-nil _; ended = refl }
 
-pub returns : goal.returns
-returns g c =
+pub returns-clause-writes : goal.returns-clause-writes
+returns-clause-writes g c =
     let unknown : is_some (word_of c.args.call.now) ≡ false = cc (c.in_ok-print_call.ensures.answers, c.if-branch.false) in
     written_err _ (Helps (Some c.args.call.now)) _ _ _ _ [] (no_call_text c.args.call.now) 3 c.tell_no_call.result
     (is_no_call (is_some (word_of c.args.call.now)) c.args.call.now unknown) (c.in_ok-print_call.ensures.none unknown) c.tell_no_call.ensures.line c.tell_no_call.ensures.status

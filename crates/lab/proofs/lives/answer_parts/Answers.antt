@@ -9,7 +9,7 @@ loop-preserved g c =
     let had = c.loop.invariant.heard in
     let part = c.front.result.now in
     let more = c.in_ok-answer_part.ensures.heard in
-    let read = subst (λ (l : List ℕ). Consumes (g.I.Read.remaining c.loop.input) (g.I.Read.remaining c.read.new.self) l) {x = take c.in_ok-count.count c.read.new.buf} (sym {b = take c.in_ok-count.count c.read.new.buf} c.front.ensures) c.in_ok-count.ensures.bytes.0 in
+    let read = subst (λ (l : List ℕ). Consumes (g.I.Read.remaining c.loop.input) (g.I.Read.remaining c.fetch.new.self) l) {x = take c.in_ok-count.count c.fetch.new.buffer} (sym {b = take c.in_ok-count.count c.fetch.new.buffer} c.front.ensures) c.in_ok-count.ensures.bytes.0 in
     record {
       waits = c.in_ok-answer_part.ensures.waits;
       heard = (

@@ -8,5 +8,5 @@ abbrev pub invariant-loop : goal.invariant-loop
 invariant-loop g l = record {
   waits : Lacks 10 l.waiting.items;
   heard : (bytes answers : List ℕ) × Consumes (g.I.Read.remaining l.initial.input) (g.I.Read.remaining l.input) bytes
-      × Hears bytes [] l.waiting.items l.initial.session l.session answers × Appends (g.O.Write.contents l.initial.out) (g.O.Write.contents l.out) answers;
+      × Hears bytes [] l.waiting.items l.initial.session l.session answers × Appends (g.O.Stream.contents l.initial.out) (g.O.Stream.contents l.out) answers;
 }

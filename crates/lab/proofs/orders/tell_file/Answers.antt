@@ -1,21 +1,18 @@
-use Rattle.std.proofs.Common.{List, ℕ, Some, None, codes, map, option_map, refl, subst, sym}
+use Rattle.std.proofs.Common.{codes, map, option_map}
 use Rattle.std.specs.Prelude.{unwrap_or}
 use Rattle.evl_plans.specs.Told.{handler_of as told_by}
-use Rattle.lab.specs.Endings.{line_about}
-use Rattle.lab.specs.Orders.{TellsRead}
-use Rattle.lab.specs.Texts.{IsAllOf}
-use Rattle.lab.proofs.OutputLemmas.{of_text, told}
+use Rattle.lab.specs.Orders.{TellsGiven}
+use Rattle.lab.proofs.OutputLemmas.{of_read, of_unread}
 use Rattle.lab.proofs.orders.tell_file.Goals as goal
 
-pub returns-in-Ok : goal.returns-in-Ok
-returns-in-Ok g c =
+pub returns-in-Ok-clause-writes : goal.returns-in-Ok-clause-writes
+returns-in-Ok-clause-writes g c =
     let name = unwrap_or (option_map (λ file. file.now) c.args.asked.now.file) (codes "-") in
-    of_text _ (TellsRead (map told_by c.args.plans.now) c.args.asked.now.most c.args.asked.now.outcome name) _ _ _ _ _ _ (Some c.as_slice.result.now) c.tell_text.result
-    (λ is. subst (λ (l : List ℕ). IsAllOf (g.I.Read.remaining c.args.input.now) l) (sym c.as_slice.ensures.value) (c.in-Ok.ensures.input is)) c.tell_text.ensures
+    of_read _ (TellsGiven (map told_by c.args.plans.now) c.args.asked.now.most c.args.asked.now.outcome name) name _ _ _ _ _ _ c.in-Ok.text.items c.tell_given.result
+    c.in-Ok.ensures.bound c.in-Ok.ensures.input c.tell_given.ensures.writes
 
-pub returns-in-Err : goal.returns-in-Err
-returns-in-Err g c =
+pub returns-in-Err-clause-writes : goal.returns-in-Err-clause-writes
+returns-in-Err-clause-writes g c =
     let name = unwrap_or (option_map (λ file. file.now) c.args.asked.now.file) (codes "-") in
-    let read = TellsRead (map told_by c.args.plans.now) c.args.asked.now.most c.args.asked.now.outcome name in
-    of_text _ read _ _ _ _ _ _ None c.refused.result (λ is. tt)
-    (told _ (read None) _ _ _ (line_about name (codes "no file")) c.tell_refused-told.result c.refused.result refl (rw c.name.ensures at c.tell_refused-told.ensures.line) c.refused.ensures)
+    of_unread _ (TellsGiven (map told_by c.args.plans.now) c.args.asked.now.most c.args.asked.now.outcome name) name _ _ _ _ _ c.in-Err.why c.tell_unread.result c.refused.result
+    c.in-Err.ensures.long (rw c.name.ensures at c.tell_unread.ensures.line) c.refused.ensures.status

@@ -6,18 +6,18 @@ use Rattle.lab.specs.Orders.{TellsOutcomes, TellsPossible, impossible_text}
 use Rattle.lab.proofs.OutputLemmas.{said, written_as}
 use Rattle.lab.proofs.orders.tell_found.Goals as goal
 
-pub returns-in_ok-set-in-None : goal.returns-in_ok-set-in-None
-returns-in_ok-set-in-None g c =
+pub returns-in_ok-set-in-None-clause-writes : goal.returns-in_ok-set-in-None-clause-writes
+returns-in_ok-set-in-None-clause-writes g c =
     let name = unwrap_or (option_map (λ file. file.now) c.args.asked.now.file) (codes "-") in
     let bank = map told_by c.args.plans.now in
     let most = c.args.asked.now.most in
     let one = c.args.asked.now.outcome in
     let asks = c.args.ask.now in
     rw c.in-None.is (written_as _ (TellsPossible bank most one name c.args.callers asks None) _ _ _ _ (TellsOutcomes bank most one name c.in_ok-set-in-None.set asks) c.go_through.result
-    (λ output h. (c.in_ok-set-in-None.set, c.in_ok-set-in-None.ensures, h)) c.go_through.ensures)
+    (λ output h. (c.in_ok-set-in-None.set, c.in_ok-set-in-None.ensures.set, h)) c.go_through.ensures.writes)
 
-pub returns-in-Some : goal.returns-in-Some
-returns-in-Some g c =
+pub returns-in-Some-clause-writes : goal.returns-in-Some-clause-writes
+returns-in-Some-clause-writes g c =
     let name = unwrap_or (option_map (λ file. file.now) c.args.asked.now.file) (codes "-") in
     let callers = c.args.callers in
     let never = c.in-Some.never.now in

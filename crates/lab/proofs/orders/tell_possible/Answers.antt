@@ -6,9 +6,9 @@ use Rattle.lab.specs.Orders.{TellsPossible}
 use Rattle.lab.specs.Outputs.{Writes}
 use Rattle.lab.proofs.orders.tell_possible.Goals as goal
 
-pub returns : goal.returns
-returns g c =
+pub returns-clause-writes : goal.returns-clause-writes
+returns-clause-writes g c =
     let name = unwrap_or (option_map (λ file. file.now) c.args.asked.now.file) (codes "-") in
     let bank = map told_by c.args.plans.now in
     subst (λ (o : Option Never). IfOk c.tell_found.result (Writes (TellsPossible bank c.args.asked.now.most c.args.asked.now.outcome name c.args.callers c.args.ask.now o)
-    (g.O.Write.contents c.args.out.now) (g.O.Write.contents c.tell_found.new.out) (g.E.Write.contents c.args.err.now) (g.E.Write.contents c.tell_found.new.err))) c.in_ok-found.ensures c.tell_found.ensures
+    (g.O.Stream.contents c.args.out.now) (g.O.Stream.contents c.tell_found.new.out) (g.E.Stream.contents c.args.err.now) (g.E.Stream.contents c.tell_found.new.err))) c.in_ok-found.ensures.found c.tell_found.ensures.writes

@@ -7,5 +7,5 @@ use Rattle.lab.proofs.plays.play_each.Given as goal
 abbrev pub invariant-loop-file : goal.invariant-loop-file
 invariant-loop-file g l =
     (all : PlaysEach (IsPlayed l.playing.telling (map handler_of l.plans) l.playing.limit) (map (λ file. file.now) (take l.file-index l.files))
-    (g.I.Read.remaining l.initial.input) (g.O.Write.contents l.initial.out) (g.O.Write.contents l.out) (g.E.Write.contents l.initial.err) (g.E.Write.contents l.err) l.is_at_fault)
+    (g.I.Read.remaining l.initial.input) (g.O.Stream.contents l.initial.out) (g.O.Stream.contents l.out) (g.E.Stream.contents l.initial.err) (g.E.Stream.contents l.err) l.is_at_fault)
     × (find (λ p. is_input p.name) all.each ≡ None → g.I.Read.remaining l.input ≡ g.I.Read.remaining l.initial.input)

@@ -1,0 +1,10 @@
+-- Why a part of the program ends early.
+use Rattle.std.specs.Prelude.{◌≡◌, Bool, false}
+use Rattle.std.specs.declared.io.Error.{Error}
+use Rattle.std.specs.IoError.{error_kind}
+use Rattle.std.specs.declared.io.ErrorKind.TheVariants.{OutOfMemory}
+
+-- for want of memory, unless its input, its output or its error stream has failed
+abbrev pub EndsEarly : Bool → Bool → Bool → Error → Type 0
+EndsEarly input_failed output_failed errors_failed error =
+    input_failed ≡ false → output_failed ≡ false → errors_failed ≡ false → error_kind error ≡ OutOfMemory
