@@ -67,5 +67,6 @@ uint32_t evlsim_abi(void);
 #include <evlsim/calls.h>
 #include <evlsim/kernel.h>
 #include <evlsim/play.h>
+#include <evlsim/texts.h>
 
 #endif

@@ -73,6 +73,49 @@ inline std::string play(std::string_view text, std::uint32_t limit = 0, std::siz
   }
 }
 
+/* What evlsim_check writes: lines of faults, or else of warnings. */
+struct checked {
+  std::string lines;
+  bool is_at_fault;
+};
+
+/* Each fault of a text in a file of this name, or else each warning of one run over the bank, if there is one, or over
+   the program's callbacks. Throws refused if a plan is or the name is not UTF-8, and std::bad_alloc. */
+inline checked check(std::string_view text, const std::string &name = "text",
+                     const std::optional<bank> &plans = std::nullopt) {
+  std::string lines(4096, '\0');
+  auto bytes = reinterpret_cast<const std::uint8_t *>(text.data());
+  for (;;) {
+    evlsim_checked told{0, false};
+    auto out = reinterpret_cast<std::uint8_t *>(lines.data());
+    require_ok(plans ? evlsim_check_over(plans->data(), plans->size(), name.c_str(), bytes, text.size(), 0, out,
+                                         lines.size(), &told)
+                     : evlsim_check(name.c_str(), bytes, text.size(), 0, out, lines.size(), &told));
+    bool is_whole = told.length <= lines.size();
+    lines.resize(told.length);
+    if (is_whole) return checked{lines, told.is_at_fault};
+  }
+}
+
+/* The picture that evlsim_draw makes of a text, or evlsim_draw_over if there is a bank. Throws refused, with the step at
+   fault, and std::bad_alloc. */
+inline std::string draw(std::string_view text, std::uint8_t form = EVLSIM_SVG, std::uint32_t page = 1,
+                        const std::optional<bank> &plans = std::nullopt) {
+  std::string picture(65536, '\0');
+  auto bytes = reinterpret_cast<const std::uint8_t *>(text.data());
+  for (;;) {
+    evlsim_drawn drawn{0, 0, 0, 0};
+    auto out = reinterpret_cast<std::uint8_t *>(picture.data());
+    evlsim_status status = plans ? evlsim_draw_over(plans->data(), plans->size(), form, page, bytes, text.size(), 0, out,
+                                                    picture.size(), &drawn)
+                                 : evlsim_draw(form, page, bytes, text.size(), 0, out, picture.size(), &drawn);
+    require_ok(status, drawn.step);
+    bool is_whole = drawn.length <= picture.size();
+    picture.resize(drawn.length);
+    if (is_whole) return picture;
+  }
+}
+
 /* The callbacks of the program. */
 inline bank program_bank() { return bank(evlsim_program_bank, evlsim_program_bank + EVLSIM_PROGRAM_BANK); }
 

@@ -42,10 +42,25 @@ evlsim::kernel chained() {
   return kernel;
 }
 
+void try_texts() {
+  evlsim::checked checked = evlsim::check("threads = 1\n", "odd.toml");
+  require(checked.is_at_fault && checked.lines.rfind("odd.toml:1:1: ", 0) == 0, "a fault with its place");
+  std::string picture = evlsim::draw("1 T0 put sem=0 -> done\n", EVLSIM_LANES);
+  require(picture.rfind("T0          o\nsem 0       .\n", 0) == 0, "two lanes");
+  try {
+    evlsim::draw("threads = 1\n");
+  } catch (const evlsim::refused &refused) {
+    require(refused.status == EVLSIM_BAD_BOARD, "no trace and no scenario");
+    return;
+  }
+  require(false, "it was drawn");
+}
+
 }  // namespace
 
 int main() {
   try_third_event();
+  try_texts();
   evlsim::kernel kernel = chained();
   require(evlsim_see_rank(kernel.get(), 1) == 590, "thread 3's rank");
   evlsim::answer ticked = kernel.call(0, evlsim_call_tick(100));

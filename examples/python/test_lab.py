@@ -1,14 +1,17 @@
-"""What the program lab does, from Python: faults, pictures, orders and a machine's callers, as values. Run as
-test_play.py is; where the program isn't there, nothing is tried."""
+"""What the program lab does, from Python: faults and pictures, by the library, orders and a machine's callers, by the
+program, as values. Run as test_play.py is; where the program isn't there, nothing is tried."""
+import glob
 import os
-import warnings
+import re
 
 import evlsim
+from evlsim import _lab
 
 TOP = os.path.dirname(os.path.dirname(os.path.dirname(os.path.abspath(__file__))))
 if not os.path.isdir(f"{TOP}/scenarios"):
     TOP = os.path.join(os.path.dirname(os.path.abspath(evlsim.__file__)), "../../../../share/doc/evlsim")
 BOARD = "[board]\nthreads = 2\nsems = [0]\n"
+OTHER_KINDS = ("a text for lab orders", "a text for lab callers", "a bank, for --bank")
 
 
 def text_of(name):
@@ -50,16 +53,63 @@ def test_pictures():
     own = evlsim.Kernel(threads=1, sems=[0], bank=bank)
     own.request(0, line=5, stage="oob", callback=0)
     own.arrive(0, line=5)
-    assert own._repr_svg_() == evlsim.draw(own.trace())
-    for trace in (evlsim.play(own.scenario(), bank=bank), evlsim.play(text, limit=3)):
-        assert trace._repr_svg_() == evlsim.draw(str(trace)) != evlsim.draw(text)
+    over_it = evlsim.draw(own.scenario(), bank=bank)
+    assert own._repr_svg_() == evlsim.play(own.scenario(), bank=bank)._repr_svg_() == over_it
+    assert over_it not in (evlsim.draw(own.trace()), evlsim.draw(own.scenario()))
+    short = evlsim.play(text, limit=3)
+    assert short._repr_svg_() == evlsim.draw(str(short)) != evlsim.draw(text)
     many = evlsim.Kernel(threads=1, sems=[0], limit=5000)
     for _ in range(2100):
         many.put(0, sem=0)
     assert evlsim.draw(many, page=2).pages == 2
     refused(lambda: evlsim.draw(many, page=3), evlsim.BadQuestion, "the last one is 2")
-    refused(lambda: evlsim.draw("x = 1"), evlsim.BadText, "no line of a trace")
+    neither = "line 1 is no line of a trace, and as a scenario it has a bad board"
+    refused(lambda: evlsim.draw("x = 1"), evlsim.BadText, neither)
+    refused(lambda: evlsim.draw(BOARD + "[[step]]\n"), evlsim.BadText, "it has a bad step 1")
+    refused(lambda: evlsim.draw(b"\xff"), evlsim.BadText, "no UTF-8")
     refused(lambda: evlsim.draw(text, "png"), evlsim.BadQuestion, "'svg', 'lanes'")
+
+
+def checked_by_the_program(data):
+    """What lab check prints of a text, as str(evlsim.check(..)) has it."""
+    printed = _lab.run(["check", "text.toml"], {"text.toml": data}).out
+    lines = [it[len("text.toml:") :].lstrip() for it in printed.splitlines()]
+    return [it.replace("at the end: warning: ", "warning: at the end: ") for it in lines]
+
+
+def in_toml(data):
+    """A text as the library's check takes it: one of lines, as a trace is, as lab convert prints it, or None."""
+    if not data.startswith(b"board "):
+        return data
+    converted = _lab.run(["convert", "text"], {"text": data})
+    return converted.out.encode() if converted.status == 0 else None
+
+
+def is_refusal(told, why):
+    """Whether the program refuses a picture as the library does; of orders, callers, a bank and lines it says more."""
+    says_more = told.endswith(OTHER_KINDS) or re.match(r"lab:\d+:\d+: ", told)
+    return told == f"lab: {why}" or bool(says_more and ", and as a scenario it has " in why)
+
+
+def test_same_as_the_program():
+    paths = glob.glob(f"{TOP}/scenarios/**/*.t*", recursive=True)
+    paths += glob.glob(f"{TOP}/examples/faulty/**/*.t*", recursive=True) + glob.glob(f"{TOP}/callers/*.t*")
+    assert len(paths) > 20
+    for path in sorted(paths)[::3]:
+        with open(path, "rb") as file:
+            data = file.read()
+        wanted, text = checked_by_the_program(data), in_toml(data)
+        if text is None:
+            assert wanted and path.endswith(".told"), path
+        else:
+            assert [str(it) for it in evlsim.check(text)] == wanted, path
+        for form in ("svg", "lanes", "csv", "perfetto"):
+            told = _lab.run(["draw", f"--{form}", "text.toml"], {"text.toml": data})
+            if told.status == 0:
+                assert evlsim.draw(data, form) == told.out, path
+            else:
+                why = refused(lambda: evlsim.draw(data, form), evlsim.BadText, "")
+                assert is_refusal(told.err, str(why)), path
 
 
 def test_orders():
@@ -109,10 +159,9 @@ def test_without_the_program():
     had = os.environ.get("EVLSIM_LAB")
     os.environ["EVLSIM_LAB"] = "/nowhere/lab"
     try:
-        refused(lambda: evlsim.draw(BOARD), evlsim.NoLab, "there is no program /nowhere/lab")
-        with warnings.catch_warnings(record=True) as told:
-            warnings.simplefilter("always")
-            assert evlsim.play(BOARD)._repr_svg_() is None and "no picture: there is no program" in str(told[0].message)
+        assert evlsim.check(BOARD) == [] and evlsim.play(BOARD)._repr_svg_() == evlsim.draw(BOARD)
+        for asked in (evlsim.orders, evlsim.callers):
+            refused(lambda asked=asked: asked(BOARD), evlsim.NoLab, "there is no program /nowhere/lab")
     finally:
         os.environ.pop("EVLSIM_LAB")
         if had:
@@ -121,7 +170,7 @@ def test_without_the_program():
 
 def is_there():
     try:
-        return bool(evlsim.check(BOARD) == [])
+        return evlsim.orders(BOARD).total == 1
     except evlsim.NoLab as why:
         print(f"nothing is tried: {why}")
         return False

@@ -1,1 +1,3 @@
 pub mod AsBox
+pub mod DrawLemmas
+pub mod PictureLemmas

@@ -2,10 +2,13 @@ pub mod Answers
 pub mod Applies
 pub mod Boards
 pub mod Calls
+pub mod Checks
+pub mod Draws
 pub mod Forms
 pub mod Handles
 pub mod Opens
 pub mod Owning
+pub mod Pictures
 pub mod Plays
 pub mod Readings
 pub mod Statuses

@@ -34,6 +34,13 @@ of_scenario = 0 ∷ 2 ∷ 4 ∷ 6 ∷ 8 ∷ []
 abbrev pub of_numbered_text : List ℕ
 of_numbered_text = 0 ∷ 7 ∷ []
 
+-- of `evlsim_c_check`: done, bad name, no memory; over plans also bad plan
+abbrev pub of_check : List ℕ
+of_check = 0 ∷ 1 ∷ 4 ∷ []
+
+abbrev pub of_check_over : List ℕ
+of_check_over = 0 ∷ 1 ∷ 4 ∷ 5 ∷ []
+
 -- calls of this word bring bytes of their own, for which memory is asked: there is a key for them
 abbrev pub word_brings_bytes : StepWord → Bool
 word_brings_bytes word = list_any (λ key. is_bytes key.kind) (fields_of word)

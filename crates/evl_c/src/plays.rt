@@ -1,5 +1,5 @@
 //! Plays a scenario's text for C.
-ghost use Rattle.std.specs.Prelude.{◌≡◌, ◌↔◌, false, true, map, Ok, Err, IfOk, IfErr};
+ghost use Rattle.std.specs.Prelude.{◌≡◌, ◌≢◌, ◌↔◌, false, true, map, Ok, Err, IfOk, IfErr};
 ghost use Rattle.evl_bank.specs.Bank.{program_bank};
 ghost use Rattle.evl_shell.specs.Runs.{trace_of};
 ghost use Rattle.evl_c.specs.Forms.{are_plans, handler_of};
@@ -48,9 +48,10 @@ fn limit_given(limit: u32) -> Option<u32>
     if limit == 0 { None } else { Some(limit) }
 }
 
-// The number of a fault.
-fn status_of(fault: Fault) -> u32
-    ensures { result ≡ plays.status_of (Err fault) }
+/// The number of a fault.
+pub fn status_of(fault: Fault) -> u32
+    ensures told { result ≡ plays.status_of (Err fault) }
+    ensures other { result ≢ 5 }
 {
     match fault {
         Fault::Text => 1,
@@ -60,8 +61,8 @@ fn status_of(fault: Fault) -> u32
     }
 }
 
-// The step of a fault, 0 where it has none.
-fn step_of(fault: Fault) -> u32
+/// The step of a fault, 0 where it has none.
+pub fn step_of(fault: Fault) -> u32
     ensures { result ≡ plays.step_of (Err fault) }
 {
     match fault {

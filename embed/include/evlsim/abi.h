@@ -153,6 +153,28 @@ typedef struct evlsim_played {
   uint32_t step; /* the first step that cannot be read, from 1; 0 if no step is at fault */
 } evlsim_played;
 
+/* What came of a check. */
+typedef struct evlsim_checked {
+  size_t length;    /* how many bytes all lines have */
+  bool is_at_fault; /* whether they are of faults; else they are of warnings */
+} evlsim_checked;
+
+/* Forms of pictures. */
+#define EVLSIM_SVG 0u        /* down, a line for each mark, up to 60 marks; else across */
+#define EVLSIM_SVG_DOWN 1u
+#define EVLSIM_SVG_ACROSS 2u
+#define EVLSIM_LANES 3u      /* in characters */
+#define EVLSIM_CSV 4u
+#define EVLSIM_EVENTS 5u     /* trace events for Perfetto, as JSON */
+
+/* What came of drawing. */
+typedef struct evlsim_drawn {
+  size_t length; /* how many bytes the whole picture has; 0 if there is none */
+  size_t pages;  /* how many pages there are; 0 if the text is not drawn */
+  size_t line;   /* the first line that is none of a trace, from 1, of a text that is no scenario either; else 0 */
+  uint32_t step; /* the first step that cannot be read, from 1; 0 if no step is at fault */
+} evlsim_drawn;
+
 /* A kernel, or none. Its fields belong to the library. */
 typedef struct evlsim_kernel {
   bool is_open;
@@ -261,6 +283,16 @@ uint32_t evlsim_c_play(const uint8_t *text, size_t text_length, uint32_t limit, 
                        size_t out_length, evlsim_played *played);
 uint32_t evlsim_c_play_over(const evlsim_plan *plans, size_t plan_count, const uint8_t *text, size_t text_length,
                             uint32_t limit, size_t start, uint8_t *out, size_t out_length, evlsim_played *played);
+uint32_t evlsim_c_check(const uint8_t *name, size_t name_length, const uint8_t *text, size_t text_length, size_t start,
+                        uint8_t *out, size_t out_length, evlsim_checked *checked);
+uint32_t evlsim_c_check_over(const evlsim_plan *plans, size_t plan_count, const uint8_t *name, size_t name_length,
+                             const uint8_t *text, size_t text_length, size_t start, uint8_t *out, size_t out_length,
+                             evlsim_checked *checked);
+uint32_t evlsim_c_draw(uint8_t form, uint32_t page, const uint8_t *text, size_t text_length, size_t start,
+                       uint8_t *out, size_t out_length, evlsim_drawn *drawn);
+uint32_t evlsim_c_draw_over(const evlsim_plan *plans, size_t plan_count, uint8_t form, uint32_t page,
+                            const uint8_t *text, size_t text_length, size_t start, uint8_t *out, size_t out_length,
+                            evlsim_drawn *drawn);
 /* Reads *kernel: an open kernel is freed first. */
 uint32_t evlsim_c_open(const evlsim_board *board, const evlsim_plan *plans, size_t plan_count, uint32_t limit,
                        evlsim_kernel *kernel);

@@ -62,7 +62,7 @@ typedef struct evlsim_explored {
  * evlsim_replay runs it with one list, as a failure names it: "line 5 @ 31, clock @ 40".
  *
  * With EVLSIM_REPLAY=".." in the environment, evlsim_explore replays that. EVLSIM_FOLDER is where the scenario and
- * the picture of a failure go, else the current one; EVLSIM_LAB is the program lab, else the one on the path.
+ * the picture of a failure go, else the current one.
  */
 #define evlsim_test(body) evlsim_test_as(body, #body)
 #define evlsim_explore(body, limits) evlsim_explore_as(body, #body, limits, NULL)

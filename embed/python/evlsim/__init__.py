@@ -17,9 +17,10 @@ from . import _library as _lib
 from ._answers import Answer, Clock, Deadline, Line, Next, Play, Timer
 from ._errors import BadBoard, BadPlan, BadQuestion, BadStep, BadText, CallRefused, KernelClosed, Refused
 from ._kernel import PROGRAM_BANK, Plan
-from ._lab import NoLab, Picture, draw
+from ._lab import NoLab
 from ._library import IS_PROVED, REFUSALS, WORDS
 from ._machine import Kernel
+from ._pictures import Picture, draw
 from ._play import play
 from ._reports import Callers, Finding, Orders, Outcome, Step, callers, check, orders
 from ._traces import Entry, Trace

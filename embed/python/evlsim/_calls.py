@@ -39,8 +39,7 @@ class Words(Calls):
         return self._make("request", who, call)
 
     def free(self, who: int, *, line: int = MISSING, stage: Stage = MISSING, **wrong: NoReturn) -> Answer:
-        """Takes the callback off a line, back to its place in the bank, and drops a pending event of that line and
-        stage.
+        """Takes the callback off a line, back to the bank, and drops a pending event of that line and stage.
 
         Answers done. Refusals: Unknown: no such line; Invalid: line 0, on both stages; Unknown: no callback there.
         """
@@ -52,19 +51,19 @@ class Words(Calls):
         return self._make("free", who, call)
 
     def arrive(self, who: int, *, line: int = MISSING, **wrong: NoReturn) -> Answer:
-        """An interrupt arrives on a line: its event is pending out-of-band if a callback is installed there, else in-
-        band if one is installed there; else it is spurious and nothing is pending (the trace does not show that).
+        """An interrupt arrives on a line: its event is pending out-of-band if the line has a callback there, else in-
+        band if it has one there; else it is spurious and nothing is pending (the trace does not show that).
 
-        Answers done. Refusals: Unknown: no such line.
+        Answers done. Refusals: Unknown.
         """
         if wrong:
             no_key("arrive", wrong, line=line)
         return self._bare(2, "arrive", "line", who, line)
 
     def post(self, who: int, *, stage: Stage = MISSING, line: int = MISSING, **wrong: NoReturn) -> Answer:
-        """Makes an event pending on a line of this stage if a callback is installed there; else it is spurious.
+        """Makes an event pending on a line of this stage if it has a callback there; else it is spurious.
 
-        Answers done. Refusals: Unknown: no such line.
+        Answers done. Refusals: Unknown.
         """
         if wrong or stage is MISSING or line is MISSING:
             no_key("post", wrong, stage=stage, line=line)
@@ -74,7 +73,7 @@ class Words(Calls):
         return self._make("post", who, call)
 
     def stall(self, who: int, *, stage: Stage = MISSING, **wrong: NoReturn) -> Answer:
-        """Sets the stall bit of a stage: its events stay pending. It is one bit, so a second stall changes nothing.
+        """Sets the stall bit of a stage: its events stay pending. A second stall changes nothing.
 
         Answers done.
         """
@@ -85,7 +84,7 @@ class Words(Calls):
         return self._make("stall", who, call)
 
     def unstall(self, who: int, *, stage: Stage = MISSING, **wrong: NoReturn) -> Answer:
-        """Clears it.
+        """Clears the stall bit of a stage.
 
         Answers done.
         """
@@ -136,7 +135,7 @@ class Words(Calls):
         """Sets the date at which the timer fires next, and its interval; its overruns are 0 again. If the date is not
         after now, line 0 is pending at once.
 
-        Answers done. Refusals: Unknown: no such timer.
+        Answers done. Refusals: Unknown.
         """
         if wrong or timer is MISSING or date is MISSING or interval is MISSING:
             no_key("start_timer", wrong, timer=timer, date=date, interval=interval)
@@ -149,16 +148,16 @@ class Words(Calls):
     def stop_timer(self, who: int, *, timer: int = MISSING, **wrong: NoReturn) -> Answer:
         """Stops the timer until it is started again.
 
-        Answers done. Refusals: Unknown: no such timer.
+        Answers done. Refusals: Unknown.
         """
         if wrong:
             no_key("stop_timer", wrong, timer=timer)
         return self._bare(10, "stop_timer", "timer", who, timer)
 
     def drop_timer(self, who: int, *, timer: int = MISSING, **wrong: NoReturn) -> Answer:
-        """Takes the timer away; its callback is back in its place of the bank.
+        """Takes the timer away; its callback is back in the bank.
 
-        Answers done. Refusals: Unknown: no such timer.
+        Answers done. Refusals: Unknown.
         """
         if wrong:
             no_key("drop_timer", wrong, timer=timer)
@@ -167,7 +166,7 @@ class Words(Calls):
     def overruns(self, who: int, *, timer: int = MISSING, **wrong: NoReturn) -> Answer:
         """Gives how many periods the timer missed since it was started.
 
-        Answers number N. Refusals: Unknown: no such timer.
+        Answers number N. Refusals: Unknown.
         """
         if wrong:
             no_key("overruns", wrong, timer=timer)
@@ -230,9 +229,9 @@ class Words(Calls):
         return self._make("pick", who, call)
 
     def rank_of(self, who: int, *, thread: int = MISSING, **wrong: NoReturn) -> Answer:
-        """Gives a thread's effective rank: its policy's, or a greater one that it has by mutexes.
+        """Gives a thread's effective rank.
 
-        Answers number N. Refusals: Unknown: no such thread; Invalid: it is not attached.
+        Answers number N. Refusals: Unknown; Invalid: it is not attached.
         """
         if wrong:
             no_key("rank_of", wrong, thread=thread)
@@ -241,36 +240,35 @@ class Words(Calls):
     def try_get(self, who: int, *, sem: int = MISSING, **wrong: NoReturn) -> Answer:
         """Takes one from a semaphore.
 
-        Answers done. Refusals: Unknown: no such semaphore; Again: its count is 0.
+        Answers done. Refusals: Unknown; Again: its count is 0.
         """
         if wrong:
             no_key("try_get", wrong, sem=sem)
         return self._bare(19, "try_get", "sem", who, sem)
 
     def put(self, who: int, *, sem: int = MISSING, **wrong: NoReturn) -> Answer:
-        """Serves the first thread that waits for the semaphore, or raises its count if nobody waits.
+        """Serves the first thread that waits for the semaphore, or raises its count.
 
-        Answers done. Refusals: Unknown: no such semaphore; Range: its count is at the maximum, 2,147,483,647.
+        Answers done. Refusals: Unknown; Range: its count is 2,147,483,647.
         """
         if wrong:
             no_key("put", wrong, sem=sem)
         return self._bare(20, "put", "sem", who, sem)
 
     def peek(self, who: int, *, sem: int = MISSING, **wrong: NoReturn) -> Answer:
-        """Gives the count, or minus the number of waiting threads if there are any.
+        """Gives a semaphore's count, or minus the number of waiting threads.
 
-        Answers count N. Refusals: Unknown: no such semaphore.
+        Answers count N. Refusals: Unknown.
         """
         if wrong:
             no_key("peek", wrong, sem=sem)
         return self._bare(21, "peek", "sem", who, sem)
 
     def begin_get(self, who: int, *, sem: int = MISSING, until: Until = None, **wrong: NoReturn) -> Answer:
-        """Begins a wait for a semaphore: if its count is above 0 the caller is served at once; else it is blocked
+        """Begins a wait for a semaphore: the caller is served at once if the count is above 0; else it is blocked
         until a put serves it or the date until comes.
 
-        Answers begun. Refusals: Unknown: no such semaphore; Invalid: the caller is not attached; WrongStage: it is
-        in-band.
+        Answers begun. Refusals: Unknown; Invalid: the caller is not attached; WrongStage: it is in-band.
         """
         if wrong:
             no_key("begin_get", wrong, sem=sem)
@@ -286,7 +284,7 @@ class Words(Calls):
         """Takes bits from a flag group, even if others wait: all that are there (any), those of a mask that are there
         (of MASK), or a whole mask (exact MASK).
 
-        Answers bits N. Refusals: Unknown: no such flag group; Invalid: the mask is 0; Again: nothing to take.
+        Answers bits N. Refusals: Unknown; Invalid: the mask is 0; Again: nothing to take.
         """
         if wrong or flags is MISSING or kind is MISSING:
             no_key("try_take", wrong, flags=flags, kind=kind)
@@ -299,7 +297,7 @@ class Words(Calls):
         """Adds bits to a flag group and goes once through its waiters, by rank and then by arrival: each takes what it
         wants from what is left, or keeps waiting.
 
-        Answers done. Refusals: Unknown: no such flag group; Invalid: bits is 0.
+        Answers done. Refusals: Unknown; Invalid: bits is 0.
         """
         if wrong or flags is MISSING or bits is MISSING:
             no_key("post_flags", wrong, flags=flags, bits=bits)
@@ -309,9 +307,9 @@ class Words(Calls):
         return self._make("post_flags", who, call)
 
     def peek_flags(self, who: int, *, flags: int = MISSING, **wrong: NoReturn) -> Answer:
-        """Gives the bits.
+        """Gives the bits of a flag group.
 
-        Answers bits N. Refusals: Unknown: no such flag group.
+        Answers bits N. Refusals: Unknown.
         """
         if wrong:
             no_key("peek_flags", wrong, flags=flags)
@@ -320,11 +318,11 @@ class Words(Calls):
     def begin_take(
         self, who: int, *, flags: int = MISSING, kind: str = MISSING, until: Until = None, **wrong: NoReturn
     ) -> Answer:
-        """Begins a wait for bits: if they are there the caller is served at once, before all waiters; else it is
+        """Begins a wait for bits: the caller is served at once, before all waiters, if they are there; else it is
         blocked until a post serves it or the date until comes.
 
-        Answers begun. Refusals: Unknown: no such flag group; Invalid: the caller is not attached, or the mask is 0;
-        WrongStage: it is in-band.
+        Answers begun. Refusals: Unknown; Invalid: the caller is not attached, or the mask is 0; WrongStage: it is
+        in-band.
         """
         if wrong or flags is MISSING or kind is MISSING:
             no_key("begin_take", wrong, flags=flags, kind=kind)
@@ -338,11 +336,11 @@ class Words(Calls):
     def write(
         self, who: int, *, xbuf: int = MISSING, way: Way = MISSING, bytes: Bytes = MISSING, **wrong: NoReturn
     ) -> Answer:
-        """Writes bytes into a way of a cross-buffer, all of them; waiting readers get them. A write of no bytes is
-        always done on the right stage.
+        """Writes all the bytes into a way of a cross-buffer; waiting readers get them. A write of no bytes is always
+        done on the right stage.
 
-        Answers done. Refusals: Unknown: no such cross-buffer; WrongStage: way in is written in-band, way out out-
-        of-band; TooBig: longer than the ring; Again: they do not fit, or a writer waits there.
+        Answers done. Refusals: Unknown; WrongStage: way in is written in-band, way out out-of-band; TooBig: longer
+        than the ring; Again: they do not fit, or a writer waits there.
         """
         if wrong or xbuf is MISSING or way is MISSING or bytes is MISSING:
             no_key("write", wrong, xbuf=xbuf, way=way, bytes=bytes)
@@ -357,8 +355,8 @@ class Words(Calls):
         """Reads the next bytes, at most len; waiting writers whose bytes then fit are served. A read of 0 bytes is
         always done on the right stage.
 
-        Answers bytes HEX (bytes - for none). Refusals: Unknown: no such cross-buffer; Range: len is above 256;
-        WrongStage: way in is read out-of-band, way out in-band; Again: nothing is there.
+        Answers bytes HEX (bytes - for none). Refusals: Unknown; Range: len is above 256; WrongStage: way in is read
+        out-of-band, way out in-band; Again: nothing is there.
         """
         if wrong or xbuf is MISSING or way is MISSING or len is MISSING:
             no_key("read", wrong, xbuf=xbuf, way=way, len=len)
@@ -371,7 +369,7 @@ class Words(Calls):
     def room(self, who: int, *, xbuf: int = MISSING, way: Way = MISSING, **wrong: NoReturn) -> Answer:
         """Gives how many bytes of a way's ring are free.
 
-        Answers number N. Refusals: Unknown: no such cross-buffer.
+        Answers number N. Refusals: Unknown.
         """
         if wrong or xbuf is MISSING or way is MISSING:
             no_key("room", wrong, xbuf=xbuf, way=way)
@@ -390,11 +388,10 @@ class Words(Calls):
         until: Until = None,
         **wrong: NoReturn,
     ) -> Answer:
-        """Begins a wait to write: served at once if write would be done; else the caller is blocked until its bytes
-        are written or the date until comes.
+        """Begins a wait to write: the caller is served at once if write would be done; else it is blocked until its
+        bytes are written or the date until comes.
 
-        Answers begun. Refusals: Unknown: no such cross-buffer; Invalid: the caller is not attached; WrongStage;
-        TooBig.
+        Answers begun. Refusals: Unknown; Invalid: the caller is not attached; WrongStage, TooBig: as write.
         """
         if wrong or xbuf is MISSING or way is MISSING or bytes is MISSING:
             no_key("begin_write", wrong, xbuf=xbuf, way=way, bytes=bytes)
@@ -415,11 +412,11 @@ class Words(Calls):
         until: Until = None,
         **wrong: NoReturn,
     ) -> Answer:
-        """Begins a wait to read: served at once if read would be done; else the caller is blocked until something is
-        there or the date until comes.
+        """Begins a wait to read: the caller is served at once if read would be done; else it is blocked until
+        something is there or the date until comes.
 
-        Answers begun. Refusals: Unknown: no such cross-buffer; Range: len is above 256; Invalid: the caller is not
-        attached; WrongStage.
+        Answers begun. Refusals: Unknown; Range: len is above 256; Invalid: the caller is not attached; WrongStage:
+        as read.
         """
         if wrong or xbuf is MISSING or way is MISSING or len is MISSING:
             no_key("begin_read", wrong, xbuf=xbuf, way=way, len=len)
@@ -453,8 +450,8 @@ class Words(Calls):
     def release(self, who: int, *, mutex: int = MISSING, **wrong: NoReturn) -> Answer:
         """Hands a mutex to the first thread that waits for it, and ends its wait.
 
-        Answers next N more, next N or next none (see WAITS). Refusals: Unknown: no such mutex; NotOwner: another
-        thread is recorded as its owner.
+        Answers next N more, next N or next none (see WAITS). Refusals: Unknown; NotOwner: another thread is
+        recorded as its owner.
         """
         if wrong:
             no_key("release", wrong, mutex=mutex)
@@ -463,8 +460,8 @@ class Words(Calls):
     def raise_(self, who: int, *, mutex: int = MISSING, **wrong: NoReturn) -> Answer:
         """Records the caller as the owner of a mutex with a ceiling.
 
-        Answers done. Refusals: Unknown: no such mutex; Invalid: it has no ceiling, or the caller is not attached;
-        Busy: an owner is recorded, even if it is the caller.
+        Answers done. Refusals: Unknown; Invalid: it has no ceiling, or the caller is not attached; Busy: an owner
+        is recorded, even if it is the caller.
         """
         if wrong:
             no_key("raise", wrong, mutex=mutex)

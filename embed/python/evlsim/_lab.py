@@ -1,22 +1,19 @@
-"""The program lab (docs/use/LAB.md): where it is, how it is run, and what it draws."""
+"""The program lab (docs/use/LAB.md): where it is, and how it is run."""
 
 import os
 import re
 import shutil
 import subprocess
 import tempfile
-import warnings
-from typing import Any, Dict, Iterable, List, Literal, NoReturn, Optional, Sequence, Tuple, Union
+from typing import Dict, Iterable, List, NoReturn, Optional, Sequence, Tuple, Union
 
-from ._errors import BadBoard, BadQuestion, BadStep, BadText, Refused, one_of, whole
+from ._errors import BadBoard, BadStep, BadText, Refused
 from ._kernel import PROGRAM_BANK, Plan, read_bank
 
 HERE = os.path.dirname(os.path.abspath(__file__))
 CHECKOUT = os.path.normpath(os.path.join(HERE, "../../.."))
 BUILT = ("crates/lab/out/lab", "crates/lab/out/unproved/lab")
 TEXT, BANK = "text.toml", "bank.toml"
-FORMS = ("svg", "lanes", "csv", "perfetto")
-Form = Literal["svg", "lanes", "csv", "perfetto"]
 
 
 class NoLab(Refused, FileNotFoundError):
@@ -48,7 +45,7 @@ def _find() -> str:
             return place
     built = f" ({script} help builds it)" if os.path.isfile(script) else ""
     raise NoLab(
-        f"there is no program lab beside the module or on the path{built}: it checks, draws and goes through orders"
+        f"there is no program lab beside the module or on the path{built}: it goes through orders, and has callers"
     )
 
 
@@ -138,52 +135,3 @@ def refuse(told: Told) -> NoReturn:
     if step:
         raise BadStep(message, int(step[1]))
     raise (BadBoard if "bad board" in message else BadText if "bad text" in message else Refused)(message)
-
-
-class Picture(str):
-    """A picture, as a text; a notebook shows one in SVG. `form`, `page` and `pages` say what it is."""
-
-    form: Form
-    page: int
-    pages: int
-
-    def _repr_svg_(self) -> Optional[str]:
-        return str(self) if self.form == "svg" else None
-
-    def __repr__(self) -> str:
-        return f"<evlsim.Picture, {self.form}, page {self.page} of {self.pages}>"
-
-
-def draw(what: Any, form: Form = "svg", page: int = 1) -> Picture:
-    """A picture of a scenario or a trace, as a text of either, or of what has one: a played text, a kernel, an
-    outcome, a machine's callers. The form is "svg", "lanes" (characters), "csv" or "perfetto" (docs/use/LAB.md); more
-    than 2,000 marks make more than one page. Raises NoLab where the program lab isn't there, BadText for other texts.
-
-    >>> put = '[[step]]\\ndo = "put"\\nwho = 0\\nsem = 0\\n'
-    >>> print(draw("[board]\\nthreads = 1\\nsems = [0]\\n" + put, "lanes"), end="")
-    T0          o
-    sem 0       .
-    <BLANKLINE>
-    o answered  ( a wait begins  ) a wait ends  x refused  # played  - not handled
-    . named by the call above  ! an event is pending  ? it is spurious
-    """
-    text = what._drawn() if hasattr(what, "_drawn") else what
-    one_of(BadQuestion, "form", form, FORMS)
-    words = ["--page", str(whole(BadQuestion, "page", page, 1, 1000000))] if page != 1 else []
-    told = run(["draw", f"--{form}", *words], {}, text_bytes(text))
-    if told.status:
-        raise BadQuestion(told.err) if "page" in told.err else BadText(told.err.replace("lab: ", ""))
-    made = Picture(told.out)
-    made.form, made.page = form, page
-    found = re.search(r"page \d+ of (\d+)", told.err)
-    made.pages = int(found[1]) if found else 1
-    return made
-
-
-def shown(what: Any) -> Optional[str]:
-    """The picture for a notebook, or None, with a warning, where none can be drawn."""
-    try:
-        return str(draw(what))
-    except (Refused, RuntimeError, MemoryError) as why:
-        warnings.warn(f"no picture: {why}", RuntimeWarning, stacklevel=3)
-        return None

@@ -37,6 +37,14 @@ class Played(ctypes.Structure):
     _fields_ = _fields((ctypes.c_size_t, "length"), (ctypes.c_uint32, "step"))
 
 
+class Checked(ctypes.Structure):
+    _fields_ = _fields((ctypes.c_size_t, "length"), (ctypes.c_bool, "is_at_fault"))
+
+
+class Drawn(ctypes.Structure):
+    _fields_ = _fields((ctypes.c_size_t, "length pages line"), (ctypes.c_uint32, "step"))
+
+
 class Board(ctypes.Structure):
     _fields_ = [("threads", ctypes.c_uint16)] + [
         pair
@@ -96,6 +104,8 @@ def _open(kind: Type[ctypes.CDLL]) -> ctypes.CDLL:
         raise ImportError(f"{why} ({told})") from None
     if abi != ABI:
         raise ImportError(f"{name} has the ABI number {abi}, and this module wants {ABI}: install both of one version")
+    if not hasattr(library, "evlsim_c_draw_over"):
+        raise ImportError(f"{name} is older than this module, and draws nothing: install both of one version")
     return library
 
 

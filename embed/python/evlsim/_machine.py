@@ -7,8 +7,8 @@ from . import _library as lib
 from ._answers import Answer
 from ._calls import Words
 from ._errors import BadQuestion, BadStep, KernelClosed, Refused, near, one_of, whole
-from ._kernel import AWAITED, PROGRAM_BANK, STAGES, WAYS, Awaited, Stage, Way
-from ._lab import shown
+from ._kernel import AWAITED, STAGES, WAYS, Awaited, Plan, Stage, Way
+from ._pictures import shown
 from ._traces import Entry, read_trace
 
 
@@ -72,15 +72,13 @@ class Kernel(Words):
     def __repr__(self) -> str:
         return "<evlsim.Kernel, closed>" if self.closed else f"<evlsim.Kernel: {self._last(12)}>"
 
-    def _drawn(self) -> str:
-        """What its picture is made from: the scenario, which also shows how the machine stands after each call, or else
-        the trace, over a bank of its own and where the scenario would be too long."""
-        if self._bank == PROGRAM_BANK:
-            try:
-                return self.scenario()
-            except Refused:
-                pass
-        return self.trace()
+    def _drawn(self) -> Tuple[str, Tuple[Plan, ...]]:
+        """What its picture is made from, over its bank: the scenario, which also shows how the machine stands after each
+        call, or else, where that would be too long, the trace."""
+        try:
+            return self.scenario(), self._bank
+        except Refused:
+            return self.trace(), self._bank
 
     def _repr_svg_(self) -> Optional[str]:
         return None if self.closed else shown(self)

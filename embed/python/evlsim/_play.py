@@ -5,7 +5,7 @@ from typing import Iterable, Optional, Union
 
 from . import _library as lib
 from ._errors import BadBoard, BadPlan, BadStep, BadText, whole
-from ._kernel import PROGRAM_BANK, Plan, read_bank
+from ._kernel import Plan, read_bank
 from ._lab import text_bytes
 from ._traces import Trace
 
@@ -30,8 +30,8 @@ def play(text: Union[str, bytes, bytearray], limit: int = 0, bank: Optional[Iter
     if status:
         raise _refused(status, played.step, text)
     trace = Trace(told.decode())
-    if plans == PROGRAM_BANK and not most:
-        trace._text = data
+    if not most:
+        trace._text, trace._bank = data, plans
     return trace
 
 

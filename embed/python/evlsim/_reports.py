@@ -1,12 +1,16 @@
-"""What the program lab tells of a text, as values: its faults, the orders of its callers, a machine's callers."""
+"""What is told of a text, as values: its faults, by the library; by the program lab the orders of its callers, and a
+machine's callers."""
 
+import ctypes
 import re
 from typing import Any, Dict, Iterable, List, NamedTuple, Optional, Tuple, Union
 
 from . import _lab
+from . import _library as lib
 from ._answers import Answer, Play
-from ._errors import BadBoard, BadQuestion, whole
-from ._kernel import Plan
+from ._errors import BadBoard, BadPlan, BadQuestion, whole
+from ._kernel import Plan, read_bank
+from ._pictures import shown
 from ._play import play
 from ._traces import Entry, Trace, keys_text, read_answer, read_call, read_play, read_trace
 
@@ -36,12 +40,23 @@ def check(text: Text, bank: Optional[Iterable[Plan]] = None) -> List[Finding]:
     >>> for found in check('[board]\\nthreads = 1\\n[[step]]\\ndo = "arrive"\\nwho = 0\\nlien = 5\\n'): print(found)
     6:1: step 1: arrive has no key "lien"; did you mean "line"? (keys: line)
     """
-    words, files, _ = _lab.over(bank)
-    told = _lab.run(["check", *words, _lab.TEXT], {**files, _lab.TEXT: _lab.text_bytes(text)})
+    data, name = _lab.text_bytes(text), _lab.TEXT.encode()
+    plans, forms = read_bank(bank)
+    checked = lib.Checked()
+
+    def tell(at: ctypes.c_size_t, part: object, size: ctypes.c_size_t) -> int:
+        asked = (name, ctypes.c_size_t(len(name)), data, ctypes.c_size_t(len(data)), at, part, size)
+        return int(lib.PLAYING.evlsim_c_check_over(forms, ctypes.c_size_t(len(plans)), *asked, ctypes.byref(checked)))
+
+    status, told = lib.whole_text(tell, lambda: int(checked.length), 0)
+    if status == 5:
+        raise BadPlan("a plan has a number that it may not have")
+    if status:
+        raise MemoryError
     found = []
-    for line in (told.out + told.err).splitlines():
-        name, _, rest = re.sub("^lab: ", "", line).partition(":")
-        if name == _lab.TEXT and rest:
+    for line in told.decode(errors="replace").splitlines():
+        name_of, _, rest = line.partition(":")
+        if name_of == _lab.TEXT and rest:
             found.append(_finding(rest if rest[:1].isdigit() else rest.lstrip()))
     return found
 
@@ -75,7 +90,7 @@ class Outcome(NamedTuple):
         return self.trace()._drawn()
 
     def _repr_svg_(self) -> Optional[str]:
-        return _lab.shown(self)
+        return shown(self)
 
     def __repr__(self) -> str:
         stuck = f", stuck: {'; '.join(self.stuck)}" if self.stuck else ""
@@ -194,7 +209,7 @@ class Callers(str):
         return tuple(read_trace(self.partition("\nclose -> ")[2].partition("\n")[2]))
 
     def _repr_svg_(self) -> Optional[str]:
-        return _lab.shown(str(self))
+        return shown(str(self))
 
 
 def _steps(text: str) -> List[Step]:

@@ -4,7 +4,8 @@ import re
 from typing import Any, Dict, Iterator, List, NamedTuple, Optional, Tuple
 
 from ._answers import Answer, Clock, Deadline, Line, Next, Play, Timer
-from ._lab import shown
+from ._kernel import Plan
+from ._pictures import shown
 
 
 class Entry(NamedTuple):
@@ -26,15 +27,16 @@ class Trace(str):
     """The trace of a played text: a str with its `entries`. A notebook shows its picture."""
 
     _text: Optional[bytes] = None
+    _bank: Optional[Tuple[Plan, ...]] = None
 
     @property
     def entries(self) -> Tuple[Entry, ...]:
         """The entries that the lines tell of."""
         return tuple(read_trace(self))
 
-    def _drawn(self) -> Any:
+    def _drawn(self) -> Tuple[Any, Optional[Tuple[Plan, ...]]]:
         # Of a scenario the picture also shows how the machine stands after each call; of a trace it can't.
-        return str(self) if self._text is None else self._text
+        return str(self) if self._text is None else self._text, self._bank
 
     def _repr_svg_(self) -> Optional[str]:
         return shown(self)

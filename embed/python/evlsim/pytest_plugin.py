@@ -58,10 +58,10 @@ def pytest_runtest_makereport(item: pytest.Item, call: Any) -> Generator[None, A
 
 
 def _picture(kernel: Kernel) -> List[str]:
-    """The picture in characters, where the program lab is there to draw it."""
+    """The picture in characters, where there is memory for it."""
     try:
         return [draw(kernel, "lanes")]
-    except (Refused, RuntimeError, MemoryError):
+    except (Refused, MemoryError):
         return []
 
 

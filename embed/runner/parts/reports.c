@@ -171,14 +171,37 @@ static bool write_bank(const char *name) {
   return fclose(file) == 0;
 }
 
-/* Draws the trace by the program lab, where it is there. */
-static bool draw(const char *trace, const char *picture) {
-  char command[2048];
-  const char *lab = getenv("EVLSIM_LAB");
-  snprintf(command, sizeof command, "'%s' draw '%s' >'%s' 2>/dev/null", lab == NULL ? "lab" : lab, trace, picture);
-  if (system(command) == 0) return true;
-  unlink(picture);
-  return false;
+/* The trace of this run, to be freed, or null. */
+static uint8_t *whole_trace(size_t *length) {
+  if (!run->is_open || !evlsim_ok(evlsim_trace(&run->kernel, 0, NULL, 0, length))) return NULL;
+  uint8_t *trace = malloc(*length + 1);
+  if (trace != NULL && evlsim_ok(evlsim_trace(&run->kernel, 0, trace, *length, length))) return trace;
+  free(trace);
+  return NULL;
+}
+
+/* Writes the first page of the picture of a trace. */
+static bool put_picture(const uint8_t *trace, size_t length, FILE *file) {
+  evlsim_drawn drawn;
+  if (!evlsim_ok(evlsim_draw(EVLSIM_SVG, 1, trace, length, 0, NULL, 0, &drawn))) return false;
+  uint8_t *picture = malloc(drawn.length + 1);
+  bool is_drawn = picture != NULL &&
+                  evlsim_ok(evlsim_draw(EVLSIM_SVG, 1, trace, length, 0, picture, drawn.length, &drawn)) &&
+                  fwrite(picture, 1, drawn.length, file) == drawn.length;
+  free(picture);
+  return is_drawn;
+}
+
+/* Draws the trace of this run into a file. */
+static bool draw(const char *name) {
+  size_t length = 0;
+  uint8_t *trace = whole_trace(&length);
+  FILE *file = trace != NULL ? fopen(name, "w") : NULL;
+  bool is_drawn = file != NULL && put_picture(trace, length, file);
+  free(trace);
+  if (file != NULL && fclose(file) != 0) is_drawn = false;
+  if (file != NULL && !is_drawn) unlink(name);
+  return is_drawn;
 }
 
 static void write_files(void) {
@@ -190,11 +213,7 @@ static void write_files(void) {
   if (!write_text(evlsim_scenario, scenario) || !write_text(evlsim_trace, trace)) return;
   bool has_bank = write_bank(bank_name);
   fprintf(stderr, "scenario: %s%s%s\n", scenario, has_bank ? ", with the bank " : "", has_bank ? bank_name : "");
-  if (draw(trace, picture)) {
-    fprintf(stderr, "picture: %s\n", picture);
-  } else {
-    fprintf(stderr, "picture: none, there is no program lab on the path (lab draw %s >%s draws it)\n", trace, picture);
-  }
+  fprintf(stderr, "picture: %s\n", draw(picture) ? picture : "none, for want of memory or of room");
 }
 
 /* All that there is to say of a run that failed. */

@@ -25,5 +25,5 @@ returns-in-Err c = record {
   ends = (subst (λ (limit : Option ℕ). Refuses (trace_of (map handler_of c.args.plans.now) limit c.args.text.now) c.in-Err.fault) c.limit_given.ensures c.in-Err.ensures.refused, refl);
   count_is = refl;
   step_is = c.step_of.ensures;
-  status_is = c.status_of.ensures;
+  status_is = c.status_of.ensures.told;
 }

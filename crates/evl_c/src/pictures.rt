@@ -1,0 +1,405 @@
+//! Pictures of texts: of a trace, of a scenario, which is played, or of what `lab callers` tells.
+ghost use Rattle.std.specs.Prelude.{◌≡◌, ◌≤◌, ◌++◌, length, map, None, Ok, string_bytes, IfErr, IfOk, true};
+ghost use Rattle.evl_plans.specs.Told.{handler_of};
+ghost use Rattle.evl_plans.specs.Traces.{Refuses};
+ghost use Rattle.evl_scenario.specs.Lines.{line_feed};
+ghost use Rattle.evl_shell.specs.Runs as runs;
+ghost use Rattle.lab_drawing.specs.Pictures.{going_text, shown_with};
+ghost use Rattle.lab_drawing.specs.declared.frames.Shows.TheVariants.{Words};
+ghost use Rattle.evl_c.specs.Pictures as pictures;
+ghost use Rattle.evl_c.specs.Pictures.{AreMomentsOf, DrawsBytes, DrawsLines, DrawsMarks, DrawsPage, DrawsPlayed, DrawsSvg, DrawsText, DrawsTrace, DrawsWhole, Ends, IsPicture, failed, goes_for, of_fault, origin_of, text_in};
+
+use evl_plans::{Planned, trace_plans};
+use evl_scenario::Fault;
+use lab_drawing::{
+    Goes, Mark, Moment, lanes_of, marks_of, page, page_count, page_moments, told_moments,
+    write_down, write_rows, write_svg, write_table, write_told, write_told_down,
+};
+use lab_moments::moments_of;
+use lab_reports::write_events;
+use lab_traces::{Misread, TraceLine, read_lines};
+use std::alloc::{AllocError, Global};
+
+/// Which way a picture goes: down where it has few marks, else across, where neither is asked for.
+#[derive(Clone, Copy, PartialEq, Eq, Debug)]
+pub enum Way {
+    Fitting,
+    Down,
+    Across,
+}
+
+/// In which form a picture is wanted.
+#[derive(Clone, Copy, PartialEq, Eq, Debug)]
+pub enum Form {
+    Svg(Way),
+    Rows,
+    Table,
+    Events,
+}
+
+/// What is asked for: a page, from 1, of the picture in a form, over these callbacks.
+#[derive(Clone, Copy, Drop)]
+pub struct Asked<'a> {
+    pub plans: &'a [Planned],
+    pub form: Form,
+    pub page: u32,
+}
+
+/// A picture, and of how many pages its text has one.
+#[derive(Drop)]
+pub struct Picture {
+    pub text: Vec<u8>,
+    pub pages: usize,
+}
+
+/// Why nothing is drawn.
+#[derive(Clone, Copy, PartialEq, Eq, Debug)]
+pub enum Undrawn {
+    /// The text is no UTF-8.
+    Text,
+    /// This line, from 1, is none of a trace, and as a scenario the text has this fault.
+    Neither(usize, Fault),
+    /// There are only so many pages.
+    Beyond(usize),
+    /// Memory couldn't grow.
+    Memory,
+}
+
+// What stands between the lines of callers and what is told of their machine's end.
+const CLOSING: &str = "\nclose -> ";
+
+// What marks come from: a trace alone, a scenario that was played, or the lines of callers.
+#[derive(Clone, Copy, PartialEq, Eq, Debug)]
+enum Source<'a> {
+    Trace,
+    Scenario(&'a str),
+    Callers,
+}
+
+// How the lanes of marks stand after each step of a scenario.
+fn scenario_moments(
+    alloc: Global,
+    plans: &[Planned],
+    marks: &[Mark<'_>],
+    text: &str,
+) -> Result<Vec<Moment>, AllocError>
+    ensures { IfOk result (λ moments. AreMomentsOf (map handler_of plans.now) (pictures.scenario text.now) marks.now moments.items) }
+{
+    let lanes = lanes_of(alloc, marks)?;
+    moments_of(alloc, plans, text.as_bytes(), lanes.as_slice())
+}
+
+// How the lanes of marks stand after each entry, as far as their source tells it.
+fn known_moments(
+    alloc: Global,
+    plans: &[Planned],
+    marks: &[Mark<'_>],
+    source: Source<'_>,
+) -> Result<Vec<Moment>, AllocError>
+    ensures { IfOk result (λ moments. AreMomentsOf (map handler_of plans.now) (origin_of source.entry) marks.now moments.items) }
+{
+    match source {
+        Source::Trace => Ok(Vec::new(alloc)),
+        Source::Scenario(text) => scenario_moments(alloc, plans, marks, text),
+        Source::Callers => told_moments(alloc, marks),
+    }
+}
+
+// The most lines of which a picture goes down where no way is asked for.
+const MOST_DOWN: usize = 60;
+
+// Which way a picture of so many marks goes.
+fn goes_for(way: Way, count: usize) -> Goes
+    ensures { result ≡ goes_for way count }
+{
+    match way {
+        Way::Down => Goes::Down,
+        Way::Across => Goes::Across,
+        Way::Fitting if count <= MOST_DOWN => Goes::Down,
+        Way::Fitting => Goes::Across,
+    }
+}
+
+// The picture of callers' marks that goes this way.
+fn told_picture(
+    alloc: Global,
+    marks: &[Mark<'_>],
+    moments: &[Moment],
+    goes: Goes,
+) -> Result<Vec<u8>, AllocError>
+    ensures { IfOk result (λ picture. picture.items ≡ going_text goes Words moments.now marks.now) }
+{
+    match goes {
+        Goes::Across => write_told(alloc, marks, moments),
+        Goes::Down => write_told_down(alloc, marks, moments),
+    }
+}
+
+// The picture of other marks that goes this way.
+fn known_picture(
+    alloc: Global,
+    marks: &[Mark<'_>],
+    moments: &[Moment],
+    goes: Goes,
+) -> Result<Vec<u8>, AllocError>
+    ensures { IfOk result (λ picture. picture.items ≡ going_text goes (shown_with moments.now) moments.now marks.now) }
+{
+    match goes {
+        Goes::Across => write_svg(alloc, marks, moments),
+        Goes::Down => write_down(alloc, marks, moments),
+    }
+}
+
+// The picture of a page of marks, from 0, that goes this way.
+fn picture_of(
+    alloc: Global,
+    plans: &[Planned],
+    marks: &[Mark<'_>],
+    source: Source<'_>,
+    goes: Goes,
+    number: usize,
+) -> Result<Vec<u8>, AllocError>
+    ensures { IfOk result (λ picture. IsPicture (map handler_of plans.now) goes (origin_of source.entry) marks.now number picture.items) }
+{
+    let known = known_moments(alloc, plans, marks, source)?;
+    let behind = page_moments(marks, known.as_slice(), number);
+    match source {
+        Source::Callers => told_picture(alloc, page(marks, number), behind, goes),
+        _ => known_picture(alloc, page(marks, number), behind, goes),
+    }
+}
+
+// The picture of a page of marks, of so many.
+fn draw_page(
+    alloc: Global,
+    asked: Asked<'_>,
+    marks: &[Mark<'_>],
+    source: Source<'_>,
+    way: Way,
+    all: usize,
+) -> Result<Picture, Undrawn>
+    ensures { Ends (DrawsPage (map handler_of asked.entry.plans.now) asked.entry.page way (origin_of source.entry) marks.now all) result }
+{
+    let goes = goes_for(way, marks.len());
+    let number = (asked.page as usize).saturating_sub(1);
+    match picture_of(alloc, asked.plans, marks, source, goes, number) {
+        Ok(text) => Ok(Picture { text, pages: all }),
+        Err(_) => Err(Undrawn::Memory),
+    }
+}
+
+// The picture of a page of marks.
+fn draw_svg(
+    alloc: Global,
+    asked: Asked<'_>,
+    marks: &[Mark<'_>],
+    source: Source<'_>,
+    way: Way,
+) -> Result<Picture, Undrawn>
+    ensures { Ends (DrawsSvg (map handler_of asked.entry.plans.now) asked.entry.page way (origin_of source.entry) marks.now) result }
+{
+    let all = page_count(marks);
+    if asked.page as usize > all {
+        Err(Undrawn::Beyond(all))
+    } else {
+        draw_page(alloc, asked, marks, source, way, all)
+    }
+}
+
+// Marks in characters.
+fn draw_rows(alloc: Global, marks: &[Mark<'_>]) -> Result<Picture, Undrawn>
+    ensures { Ends (λ o. o ≡ pictures.picture (pictures.rows_of marks.now) 1) result }
+{
+    match write_rows(alloc, marks) {
+        Ok(rows) => Ok(Picture {
+            text: rows.into_bytes(),
+            pages: 1,
+        }),
+        Err(_) => Err(Undrawn::Memory),
+    }
+}
+
+// Marks as a table.
+fn draw_table(alloc: Global, marks: &[Mark<'_>]) -> Result<Picture, Undrawn>
+    ensures { Ends (λ o. o ≡ pictures.picture (pictures.table_of marks.now) 1) result }
+{
+    match write_table(alloc, marks) {
+        Ok(text) => Ok(Picture { text, pages: 1 }),
+        Err(_) => Err(Undrawn::Memory),
+    }
+}
+
+// Marks as trace events.
+fn draw_events(alloc: Global, marks: &[Mark<'_>]) -> Result<Picture, Undrawn>
+    ensures { Ends (λ o. o ≡ pictures.picture (pictures.events_of marks.now) 1) result }
+{
+    match write_events(alloc, marks) {
+        Ok(events) => Ok(Picture {
+            text: events.into_bytes(),
+            pages: 1,
+        }),
+        Err(_) => Err(Undrawn::Memory),
+    }
+}
+
+// The picture of marks in the form that is asked for.
+fn draw_marks(
+    alloc: Global,
+    asked: Asked<'_>,
+    marks: &[Mark<'_>],
+    source: Source<'_>,
+) -> Result<Picture, Undrawn>
+    ensures { Ends (DrawsMarks (map handler_of asked.entry.plans.now) asked.entry.page asked.entry.form (origin_of source.entry) marks.now) result }
+{
+    match asked.form {
+        Form::Svg(way) => draw_svg(alloc, asked, marks, source, way),
+        Form::Rows => draw_rows(alloc, marks),
+        Form::Table => draw_table(alloc, marks),
+        Form::Events => draw_events(alloc, marks),
+    }
+}
+
+// The picture of the lines of a trace, with how the lanes stand as far as their source tells it.
+fn draw_lines(
+    alloc: Global,
+    asked: Asked<'_>,
+    lines: &[TraceLine<'_>],
+    source: Source<'_>,
+) -> Result<Picture, Undrawn>
+    ensures { Ends (DrawsLines (map handler_of asked.entry.plans.now) asked.entry.page asked.entry.form (origin_of source.entry) lines.now) result }
+{
+    match marks_of(alloc, lines) {
+        Ok(marks) => draw_marks(alloc, asked, marks.as_slice(), source),
+        Err(_) => Err(Undrawn::Memory),
+    }
+}
+
+// The text that these bytes are; none where they are no UTF-8.
+fn text_in(bytes: &[u8]) -> &str
+    ensures { result.now ≡ text_in bytes.now }
+{
+    match std::str::from_utf8(bytes) {
+        Ok(text) => text,
+        Err(_) => "",
+    }
+}
+
+// The picture of a trace that was made of a scenario.
+fn draw_trace(
+    alloc: Global,
+    asked: Asked<'_>,
+    trace: &[u8],
+    scenario: &str,
+) -> Result<Picture, Undrawn>
+    ensures { Ends (DrawsTrace (map handler_of asked.entry.plans.now) asked.entry.page asked.entry.form (pictures.scenario scenario.now) (text_in trace.now)) result }
+{
+    match read_lines(alloc, text_in(trace)) {
+        Ok(lines) => draw_lines(alloc, asked, lines.as_slice(), Source::Scenario(scenario)),
+        Err(_) => Err(Undrawn::Memory),
+    }
+}
+
+// Why a text that is no trace, since this line is none of one, and has this fault, isn't drawn.
+fn unplayed(line: usize, fault: Fault) -> Undrawn
+    ensures { failed result ≡ of_fault line fault }
+{
+    match fault {
+        Fault::Memory | Fault::Write => Undrawn::Memory,
+        _ => Undrawn::Neither(line, fault),
+    }
+}
+
+// The trace of a scenario.
+fn trace_of(alloc: Global, plans: &[Planned], text: &str) -> Result<Vec<u8>, Fault>
+    requires few { length plans.now ≤ 64 }
+    ensures traced { IfOk result (λ trace. runs.trace_of (map handler_of plans.now) None text.now ≡ Ok trace.items) }
+    ensures refused { IfErr result (λ fault. Refuses (runs.trace_of (map handler_of plans.now) None text.now) fault) }
+{
+    match trace_plans(alloc, plans, text.as_bytes(), None) {
+        Ok(trace) => Ok(trace),
+        Err(fault) => Err(fault),
+    }
+}
+
+// Plays a text that is no trace, since this line is none of one: the picture of its trace.
+fn draw_scenario(
+    alloc: Global,
+    asked: Asked<'_>,
+    text: &str,
+    line: usize,
+) -> Result<Picture, Undrawn>
+    requires few { length asked.plans.now ≤ 64 }
+    ensures { Ends (DrawsPlayed (map handler_of asked.entry.plans.now) asked.entry.page asked.entry.form text.now line (runs.trace_of (map handler_of asked.entry.plans.now) None text.now)) result }
+{
+    match trace_of(alloc, asked.plans, text) {
+        Ok(trace) => draw_trace(alloc, asked, trace.as_slice(), text),
+        Err(fault) => Err(unplayed(line, fault)),
+    }
+}
+
+// The picture of the lines that a text has, or of the text as a scenario.
+fn draw_whole(
+    alloc: Global,
+    asked: Asked<'_>,
+    read: &str,
+    source: Source<'_>,
+    text: &str,
+) -> Result<Picture, Undrawn>
+    requires few { length asked.plans.now ≤ 64 }
+    ensures { Ends (DrawsWhole (map handler_of asked.entry.plans.now) asked.entry.page asked.entry.form (origin_of source.entry) read.now text.now) result }
+{
+    match read_lines(alloc, read) {
+        Ok(lines) => draw_lines(alloc, asked, lines.as_slice(), source),
+        Err(Misread::Memory) => Err(Undrawn::Memory),
+        Err(Misread::Line(line)) => draw_scenario(alloc, asked, text, line),
+    }
+}
+
+// The text with a line feed at its end.
+fn with_line_feed(alloc: Global, text: &str) -> Result<String, AllocError>
+    ensures { IfOk result (λ line. string_bytes line ≡ text.now ++ line_feed) }
+{
+    let mut line = String::from_str(alloc, text)?;
+    line.push_str("\n")?;
+    Ok(line)
+}
+
+// The picture of the lines of callers, which stand at the front of a text.
+fn draw_callers(
+    alloc: Global,
+    asked: Asked<'_>,
+    front: &str,
+    text: &str,
+) -> Result<Picture, Undrawn>
+    requires few { length asked.plans.now ≤ 64 }
+    ensures { Ends (DrawsWhole (map handler_of asked.entry.plans.now) asked.entry.page asked.entry.form pictures.callers (front.now ++ line_feed) text.now) result }
+{
+    match with_line_feed(alloc, front) {
+        Ok(told) => draw_whole(alloc, asked, told.as_str(), Source::Callers, text),
+        Err(_) => Err(Undrawn::Memory),
+    }
+}
+
+// The picture of a trace, of a scenario, or of callers up to where their machine is closed.
+fn draw_text(alloc: Global, asked: Asked<'_>, text: &str) -> Result<Picture, Undrawn>
+    requires few { length asked.plans.now ≤ 64 }
+    ensures { Ends (DrawsText (map handler_of asked.entry.plans.now) asked.entry.page asked.entry.form text.now) result }
+{
+    match text.split_once(CLOSING) {
+        Some((front, _)) => draw_callers(alloc, asked, front, text),
+        None => draw_whole(alloc, asked, text, Source::Trace, text),
+    }
+}
+
+/// The picture that is asked for of a trace, of a scenario over at most 64 callbacks, or of what is told of callers;
+/// one of a scenario also shows how its machine stands. `Text` where the bytes are no UTF-8, `Neither` where they are
+/// none of these, `Beyond` where there are fewer pages, `Memory` where a growth was refused.
+pub fn draw(alloc: Global, asked: Asked<'_>, bytes: &[u8]) -> Result<Picture, Undrawn>
+    requires few { length asked.plans.now ≤ 64 }
+    ensures { Ends (DrawsBytes (map handler_of asked.entry.plans.now) asked.entry.page asked.entry.form bytes.now) result }
+{
+    match std::str::from_utf8(bytes) {
+        Ok(text) => draw_text(alloc, asked, text),
+        Err(_) => Err(Undrawn::Text),
+    }
+}
