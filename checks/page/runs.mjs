@@ -98,13 +98,14 @@ export function damaged(roll, text) {
   return Buffer.from(bytes);
 }
 const WAYS = [['play'], ['play', '--json'], ['draw'], ['draw', '--csv'], ['draw', '--lanes'], ['draw', '--perfetto'],
-  ['check'], ['live'], ['callers'], ['play', '--limit', '3']];
+  ['check'], ['live'], ['callers'], ['play', '--limit', '3'], ['convert', '--lines'], ['convert', '--toml']];
 const INPUT = 'ps\nT0 put sem=0\nT0 pick\nT1 begin_get sem=1\nT0 tick delta=7\n? claim\nT9 now\nT0 putt\nscenario\n';
 
-/** N cases for the native program: the repository's texts, random ones, damaged ones. */
+/** N cases for the native program: the repository's texts, of tables and of lines, random ones, damaged ones. */
 export function native_cases(top, count) {
   const roll = dice(20), cases = [], data = path.join(top, 'crates/test_rows/data/scenarios');
-  const texts = toml_in(data).map(name => fs.readFileSync(path.join(data, name)));
+  const names = fs.readdirSync(data).filter(name => /\.(toml|trace)$/.test(name)).sort();
+  const texts = names.map(name => fs.readFileSync(path.join(data, name)));
   for (let i = 0; i < count; i++) {
     const words = WAYS[i % WAYS.length], which = roll(3);
     const text = which === 0 ? pick(roll, texts) : which === 1 ? Buffer.from(random_scenario(roll))

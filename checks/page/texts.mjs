@@ -8,7 +8,8 @@ const BOARD = '[board]\nthreads = 1\n', IMAGE = '<img src=x onerror=alert(1)>';
 const ODD = ['', ' \n', '\u0000[board]', `# \u{1F642} \u00fc\n${BOARD}[[step]]\ndo = "p\u00fct"\nwho = 0\n`,
   `${IMAGE} <script>`, `${BOARD}[[step]]\ndo = "${IMAGE}"\nwho = 0\n`, '[[callback]]\ndo = []\n',
   `[ask]\nnever = 3\n${BOARD}[[step]]\nwho = 0\ndo = "now"\n`, '\r\n\r\n', '[board]\nthreads = 256\n',
-  'a'.repeat(5000), '[[step]]\n'.repeat(300), '{ do = "x" }\n'.repeat(200), '\ufeff' + BOARD];
+  'a'.repeat(5000), '[[step]]\n'.repeat(300), '{ do = "x" }\n'.repeat(200), '\ufeff' + BOARD, 'board',
+  '\ufeffT0 now', `T0 ${IMAGE}`, 'T0 put sem=\n'.repeat(300), 'board threads=2\nsetup T1 now\nsetup\n', '3 T0\r\n- T0 now'];
 
 function bad_texts(top, count) {
   const roll = dice(7), all = [...ODD], folders = ['examples/faulty', 'callers', 'orders', 'scenarios', 'banks'];
@@ -58,6 +59,7 @@ const TRY = `async texts => {
 export async function texts(page, top, count) {
   const all = bad_texts(top, count), kinds = {};
   let worst = 0;
+  await page.tab('text');
   for (let at = 0; at < all.length; at += 40) {
     const said = await page.browser.evaluate(`(${TRY})(${JSON.stringify(all.slice(at, at + 40))})`);
     assert.deepEqual(said.amiss, []);

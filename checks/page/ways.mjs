@@ -51,6 +51,12 @@ export class Page {
     await this.browser.click(`#${side}-tab`);
   }
   async tab(name) { await this.browser.click(`#${name}-tab`); }
+  /** Which way time goes; the panes have their room two frames later, and the picture its size. */
+  async way(to) {
+    await this.browser.evaluate(`(() => { const it = document.getElementById('way');
+      it.value = '${to}'; it.dispatchEvent(new Event('change'));
+      return new Promise(done => requestAnimationFrame(() => requestAnimationFrame(() => done()))); })()`);
+  }
   async step(wanted) {
     await this.browser.until(`document.getElementById('at').textContent.startsWith('step ${wanted} ')`);
   }
@@ -64,8 +70,8 @@ async function opens(page) {
   const { browser } = page;
   assert.match(await page.see('name'), /^1\. An interrupt through a stalled/);
   assert.equal(await page.see('kind'), 'scenario');
-  assert.match(await page.see('faults'), /no fault, no warning/);
-  assert.equal(await browser.evaluate(`document.querySelectorAll('#drawing .mark').length`), 13);
+  assert.match(await page.see('faults'), /^warning step 6 .*pending inband already/);
+  assert.equal(await browser.evaluate(`document.querySelectorAll('#entries svg title').length`), 13);
   const unproved = await browser.evaluate(`Boolean(document.getElementById('unproved'))`);
   const foot = await browser.evaluate(`document.querySelector('footer').textContent`);
   assert.equal(unproved, foot.includes('UNPROVED'));
@@ -89,14 +95,13 @@ async function walks(page) {
   await page.step(5);
   await browser.until(`document.getElementById('state').textContent.includes('After step 5')`);
   assert.equal(await browser.evaluate(`document.querySelectorAll('#lines [aria-selected=true]').length`), 2);
-  assert.equal(await browser.evaluate(`document.querySelectorAll('#drawing .here').length`), 2);
   const step = `[...document.querySelectorAll('#under .step')].map(it => it.textContent).join()`;
   assert.match(await browser.evaluate(step), /do = "arrive"/);
   await browser.key('End');
   await page.step(9);
   await browser.key('Home');
   await page.step(0);
-  await browser.click('#drawing .mark[data-step="3"]');
+  await browser.click('#entries [data-step="3"] svg');
   await page.step(3);
   await browser.until(`document.querySelector('#state .changed')`);
   await browser.click('#lines [data-step="8"]');
@@ -109,6 +114,39 @@ async function walks(page) {
   await page.step(8);
   await browser.key('ArrowRight');
   await page.step(8);
+}
+/** Time goes down where a trace is short, each line beside its lanes; sideways where it is long, or that is chosen. */
+async function goes(page) {
+  const { browser } = page, count = selector => browser.evaluate(`document.querySelectorAll('${selector}').length`);
+  const rows = `[...document.querySelectorAll('#entries [data-step]')].map(it => {
+    const svg = it.querySelector('svg').getBoundingClientRect(), box = it.getBoundingClientRect();
+    return [it.textContent.endsWith(it.querySelector('title').textContent.trim()), box.top - svg.top,
+      box.height - svg.height].join(); })`;
+  await page.lesson('4. A callback that wakes');
+  await browser.click('#lines [data-step="6"]');
+  assert.deepEqual(new Set(await browser.evaluate(rows)), new Set(['true,0,0']));
+  assert.equal(await page.see('names'), 'T0T1sem 0oob 8oobinb 3');
+  await page.way('across');
+  await browser.until(`document.querySelectorAll('#drawing .here').length === 2`);
+  assert.equal(await count('#entries svg'), 0);
+  await browser.click('#drawing .mark[data-step="3"]');
+  await page.step(3);
+  await page.shot('across');
+  await page.open();
+  assert.equal(await page.value('way'), 'across');
+  await browser.until(`document.querySelectorAll('#drawing .mark').length`);
+  await page.way('');
+  await browser.until(`document.querySelectorAll('#entries svg').length`);
+  const put = '[[step]]\ndo = "put"\nwho = 0\nsem = 0\n', board = '[board]\nthreads = 1\nsems = [0]\n';
+  await page.put(board + put.repeat(60));
+  assert.deepEqual([await count('#entries svg'), await count('#drawing .mark')], [60, 0]);
+  await page.put(board + put.repeat(61));
+  assert.deepEqual([await count('#entries svg'), await count('#drawing .mark')], [0, 61]);
+  await page.way('down');
+  await browser.click('[data-walk="last"]');
+  await browser.until(`document.querySelector('#entries [data-step="61"] title')`);
+  await page.way('');
+  await browser.click('#back-to');
 }
 /** The table has each thread after each step, and how its wait is. */
 async function tables(page) {
@@ -216,6 +254,51 @@ async function completes(page) {
   await browser.key('Enter');
   await browser.until(`document.getElementById('lines').textContent.includes('unlock_stax pass=a')`);
 }
+/** A scenario goes to lines and back; lines are completed, their faults have places; a trace is a text. */
+async function lines(page) {
+  const { browser } = page;
+  const form = async wanted => {
+    const turn = await page.turn();
+    await browser.click('#form');
+    await page.played(turn);
+    assert.equal(await page.see('form'), wanted);
+  };
+  await page.lesson('4. A callback that wakes');
+  const trace = await page.see('entries');
+  assert.equal(await page.see('form'), 'As lines');
+  await form('As tables');
+  assert.match(await page.value('text'), /^board .*\nT1 attach policy=fifo 50 stage=oob\n/);
+  assert.equal(await page.see('entries'), trace);
+  await browser.click('#lines [data-step="6"]');
+  const step = `[...document.querySelectorAll('#under .step')].map(it => it.textContent).join()`;
+  await browser.until(`${step} === 'T0 arrive line=8'`);
+  await browser.evaluate(`(() => { const it = document.getElementById('text'); it.focus();
+    it.setSelectionRange(it.value.length, it.value.length); })()`);
+  await browser.type('T1 fin');
+  assert.equal(await page.see('offers'), 'finish ');
+  await browser.key('Escape');
+  await browser.type('sh2');
+  await browser.until(`document.getElementById('faults').textContent.startsWith('fault line 12 there is no call')`);
+  await browser.click('.fix');
+  await browser.until(`document.getElementById('lines').textContent.includes('11 T1 finish keep=false')`);
+  await page.tab('console');
+  await browser.type('T0 now');
+  await browser.key('Escape');
+  await browser.key('Enter');
+  await browser.until(`document.getElementById('said').textContent.includes('-> number 0')`);
+  const turn = await page.turn();
+  await browser.click('#to-text');
+  await page.played(turn);
+  assert.match(await page.value('text'), /\nT1 finish\nT0 now\n$/);
+  await form('As lines');
+  assert.match(await page.value('text'), /^limit = 1000\n\n\[board\]/);
+  await page.put('board threads=1 sems=1 flags=0 xbufs=0 mutexes=0 groups=0 limit=9\n1 T0 put sem=0 -> done\n');
+  assert.match(await page.see('lines'), /1 T0 put sem=0 -> done/);
+  await page.put('board threads=3 sems=[1]\nsetup T1 attach policy=fifo 10 stage=oob\nT1 pick\nT0 put sem=0\n');
+  await browser.until(`document.getElementById('verdict').textContent === 'Nothing is asked. There are 2 orders.'`);
+  await page.shot('lines');
+  await browser.click('#back-to');
+}
 async function drives(page) {
   const { browser } = page;
   await page.lesson('Inversion ended by a mutex');
@@ -246,7 +329,8 @@ async function drives(page) {
   await browser.click('#to-text');
   await page.played(turn);
   assert.match(await page.see('at'), /of 15$/);
-  assert.match(await page.value('text'), /do = "pick"/);
+  const text = await page.value('text');
+  assert.match(text, /^# .*[^]*do = "pick"\nwho = 0\n$/);
   await browser.click('#back-to');
 }
 async function orders(page) {
@@ -350,6 +434,13 @@ async function pages(page) {
   await until('page 2 of 2');
   await browser.until(`document.querySelectorAll('#drawing .here').length`);
   await page.shot('pages');
+  await page.way('down');
+  await browser.until(`document.querySelector('#entries [data-step="2500"] title')`);
+  await browser.click('[data-turn="-1"]');
+  await until('page 1 of 2');
+  await browser.until(`document.querySelector('#entries [data-step="1"] title')`);
+  assert.equal(await browser.evaluate(`document.querySelector('#entries [data-step="2500"] title')`), null);
+  await page.way('');
   await page.lesson('1. An interrupt');
   assert.equal(await browser.evaluate(`document.getElementById('pages').hidden`), true);
 }
@@ -407,7 +498,9 @@ async function handlers(page) {
   assert.match(await page.see('lines'), /count 1 none/);
   assert.match(await page.see('note'), /no strips/);
   await page.put('[[callback]]\ndo = [{ post_semm = 1 }]\n', 'bank');
-  assert.match(await page.see('faults'), /in the handlers/);
+  assert.match(await page.see('faults'), /^fault handlers, line 2 .*write post_sem$/);
+  await browser.click('.fix');
+  await browser.until(`document.getElementById('bank').value.includes('post_sem ')`);
   await page.put('', 'bank');
   await browser.evaluate(`document.getElementById('bank').focus()`);
   await browser.type('[');
@@ -557,7 +650,7 @@ async function keyboard(page) {
     await browser.key('Tab');
     seen.add(await page.at());
   }
-  const wanted = ['text', 'text-tab', 'walk-tab', 'lines', 'slider', 'link', 'find', 'split-left', 'drawing', 'state'];
+  const wanted = ['text', 'text-tab', 'walk-tab', 'lines', 'slider', 'link', 'find', 'split-left', 'way', 'state'];
   for (const id of wanted)
     assert.ok(seen.has(id), `${id} is not reached by Tab`);
   await browser.evaluate(`document.getElementById('walk-tab').focus()`);
@@ -655,5 +748,5 @@ async function owns(page) {
   await page.lesson('5. A timer');
 }
 
-export const WAYS = { opens, walks, tables, edits, completes, drives, orders, stops, stops_play, callers, pages,
+export const WAYS = { opens, walks, goes, tables, edits, completes, lines, drives, orders, stops, stops_play, callers, pages,
   long_texts, handlers, exercises, owns, shares, codes, keyboard, widths, keeps, compares };

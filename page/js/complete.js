@@ -2,7 +2,7 @@
 // console. Arrow keys choose, Enter takes, Escape closes; Tab leaves the box, as everywhere.
 import { $, escaped } from './now.js';
 import { put_text } from './kept.js';
-import { CALLERS_WORDS } from './text.js';
+import { CALLERS_WORDS, is_lines } from './text.js';
 
 /** @type {Map<string, any>} */
 let known_calls = new Map();
@@ -33,12 +33,24 @@ function values_of(key, word, name, kind, text) {
   if (key !== 'pass') return known_calls.get(word)?.keys.get(key)?.values;
   return [...new Set([...text.matchAll(/\bas\s*=\s*("[\w-]+")/g)].map(it => it[1]))];
 }
+/** What may come in a line of a text of lines, before the place. @param {string} line @param {string} text */
+function offered_in_lines(line, text) {
+  if (/(^|\s)#/.test(line)) return null;
+  const call = line.replace(/^\s*(setup\s+)?((\d+|-)\s+)?/, ''), last = line.match(/\S*$/)?.[0] || '';
+  const threads = Math.min(Number(text.match(/^\s*board\b.*\bthreads=(\d+)/m)?.[1] || 3), 12);
+  const keys = ['limit', ...BOARD].filter(key => !line.includes(` ${key}=`)).map(key => key + '=');
+  if (/^\s*board\s/.test(line)) return { size: last.length, words: keys };
+  if (/\s/.test(call)) return offered_line(call, call.length);
+  const heads = line.trim() === call ? ['board ', 'limit ', 'setup '] : [];
+  return { size: call.length, words: [...[...Array(threads).keys()].map(n => `T${n} `), ...heads] };
+}
 /**
  * What may come at a place of a text: how many characters before it are replaced, and the words.
  * @param {string} text @param {number} at @param {string} kind
  */
 export function offered(text, at, kind) {
   const line = text.slice(text.lastIndexOf('\n', at - 1) + 1, at), before = text.slice(0, at);
+  if (is_lines(text)) return offered_in_lines(line, text);
   if (/#/.test(line.replace(/"[^"]*"?/g, ''))) return null;
   const head = line.match(/^\s*(\[+\w*)$/);
   const heads = kind === 'orders' ? ORDERS_HEADS : kind === 'bank' ? BANK_HEADS : HEADS;
@@ -61,14 +73,14 @@ export function offered(text, at, kind) {
   const words = name === 'callback' ? (inline ? ACTIONS.map(it => it + sign) : less(CALLBACK))
     : name === 'board' ? less(kind === 'callers' ? [...BOARD, 'staxes'] : BOARD) : name === 'ask' ? less(ASK)
     : kind === 'bank' ? heads : inline || name === 'step' || name === 'setup' ? keys_left(word, has, sign)
-    : ['limit = ', ...HEADS];
+    : ['limit = ', ...HEADS, ...text.trim() === line.trim() ? ['board threads='] : []];
   return { size: key[1].length, words };
 }
 /** What may come in a line of the console. @param {string} line @param {number} at */
 export function offered_line(line, at) {
   const parts = line.slice(0, at).split(' '), last = parts[parts.length - 1];
   const of = known_calls.get(parts[1]), after = parts[0] === '?' ? '' : ' ';
-  if (parts.length === 1) return { size: last.length, words: ['T0 ', 'T1 ', 'T2 ', 'ps', 'scenario', '? '] };
+  if (parts.length === 1) return { size: last.length, words: ['T0 ', 'T1 ', 'T2 ', 'ps', 'ps all', 'scenario', '? '] };
   if (parts.length === 2) return { size: last.length, words: [...known_calls.keys()].map(it => it + after) };
   const value = last.match(/^(\w+)=(.*)$/), has = new Set(parts.slice(2, -1).map(it => it.split('=')[0]));
   if (!of) return null;

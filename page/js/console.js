@@ -1,7 +1,8 @@
 // The console: a driven machine answers each line; the lines before it are answered again, unseen.
 import { $, now, escaped } from './now.js';
-import { said } from './asks.js';
+import { said, tables_of } from './asks.js';
 import { offer, offered_line } from './complete.js';
+import { is_lines } from './text.js';
 
 /** @type {{ line: string, answer: string }[]} */
 let lines = [];
@@ -47,6 +48,15 @@ export function offer_in_line(asked = false) {
   const box = $('line');
   offer(box, offered_line(box.value, box.selectionStart), () => box.getBoundingClientRect(), asked);
 }
-/** The calls of the text and those that were typed, as a scenario. */
-export const scenario_of_console = async () =>
-  now.machine ? (await said(now.machine, lines.map(it => it.line))).scenario : '';
+/** The text with the calls that were typed behind its steps, where these are tables or lines; else all as tables. */
+export async function scenario_of_console() {
+  if (!now.machine) return '';
+  if (!now.viewed && is_lines($('text').value)) {
+    const calls = lines.map(it => it.answer.match(/^\d+ (T\d+ .*) -> /)?.[1]).filter(Boolean);
+    return [$('text').value.trimEnd(), ...calls, ''].join('\n');
+  }
+  const { scenario } = await said(now.machine, lines.map(it => it.line)), [, ...steps] = tables_of(scenario);
+  const text = $('text').value, added = steps.slice(now.machine.parts.length - 1);
+  const appends = !now.viewed && /^\s*\[\[\s*step\s*\]\]/m.test(text);
+  return appends ? `${text.trimEnd()}\n\n${added.join('').trimEnd()}\n` : scenario;
+}

@@ -14,8 +14,8 @@ function marked(line, it) {
   let body = escaped(line) || ' ', kind = '';
   if (it) {
     kind = it.fault ? ' fault' : ' warned';
-    const at = Math.min(it.column || 0, line.length);
-    const size = line.slice(at).match(/^("[^"]*"|[\w.]+|\S)/)?.[0].length || 0;
+    const at = it.column ? Math.min(it.column, line.length) : line.length - line.trimStart().length;
+    const size = line.slice(at).match(/^("[^"]*"|[\w.]+|\[\[?[^[\]]*\]\]?|{[^}]*}|\S)/)?.[0].length || 0;
     const parts = [line.slice(0, at), line.slice(at, at + size), line.slice(at + size)].map(escaped);
     body = `${parts[0]}<u class="${it.fault ? '' : 'w'}">${parts[1] || ' '}</u>${parts[2]}`;
   }
@@ -31,7 +31,8 @@ const painted = new Parts('editor', 'under',
   });
 export function paint() {
   marks = new Map();
-  for (const it of now.told) if (it.line !== undefined && !marks.get(it.line)?.fault) marks.set(it.line, it);
+  for (const it of now.told)
+    if (it.line !== undefined && !it.bank && !marks.get(it.line)?.fault) marks.set(it.line, it);
   painted.put($('text').value.split('\n'), part => part.lines.map((line, i) => {
     const it = marks.size ? marks.get(part.from + i) : null;
     return it ? `${line}\n${it.fault} ${it.column}` : line;
@@ -60,11 +61,13 @@ export function show_line(n) {
   const hidden = it && (it.offsetTop < top || it.offsetTop > top + box.clientHeight - 60);
   if (hidden) box.scrollTop = Math.max(0, it.offsetTop - 60);
 }
+/** The box that has what is reported. @param {any} it */
+const box_of = it => it.bank ? 'bank' : 'text';
 /** The word that is nearest in a message, and where the wrong one is. @param {any} it */
 function fix_of(it) {
   const near = it.says.match(/"([^"]*)".*; did you mean "([^"]*)"\?/);
   if (!near || it.line === undefined) return null;
-  const line = $('text').value.split('\n')[it.line] || '';
+  const line = $(box_of(it)).value.split('\n')[it.line] || '';
   const at = line.indexOf(near[1], Math.min(it.column, line.length));
   return at < 0 ? null : { from: at, to: at + near[1].length, word: near[2] };
 }
@@ -80,20 +83,23 @@ export function show_faults() {
   if (rest > 0) items.push(`<li>and ${rest} more</li>`);
   $('faults').innerHTML = items.join('') || (well ? `<li class="ok">${well}</li>` : '');
 }
-/** @param {number} line */
-const start_of = line => line && $('text').value.split('\n').slice(0, line).join('\n').length + 1;
-/** @param {number} line */
-export function go_to(line, column = 0) {
-  const at = start_of(line) + column;
-  open_side('text');
-  $('text').focus({ preventScroll: true });
-  $('text').setSelectionRange(at, at);
-  show_line(line);
+/** @param {string} box @param {number} line */
+const start_of = (box, line) => line && $(box).value.split('\n').slice(0, line).join('\n').length + 1;
+/** Goes to the place of what is reported. @param {any} it */
+export function go_to(it) {
+  const box = box_of(it), at = start_of(box, it.line) + it.column;
+  open_side(box);
+  $(box).focus({ preventScroll: true });
+  $(box).setSelectionRange(at, at);
+  if (!it.bank) show_line(it.line);
 }
 /** @param {any} it */
 export function put_fix(it) {
-  const fix = fix_of(it), at = fix ? start_of(it.line) : 0;
-  if (fix) put_text($('text'), fix.word, at + fix.from, at + fix.to);
+  const fix = fix_of(it), box = box_of(it), at = fix ? start_of(box, it.line) : 0;
+  if (!fix) return;
+  open_side(box);
+  put_text($(box), fix.word, at + fix.from, at + fix.to);
+  $(box).dispatchEvent(new Event('input'));
 }
 /** A new line is indented as the one above it. @param {any} event */
 export function indent(event) {

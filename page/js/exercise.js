@@ -4,7 +4,7 @@ import { gone_through, played } from './asks.js';
 import { copied, link_of, save_file } from './kept.js';
 import { show_line } from './editor.js';
 import { verdict_of } from './orders.js';
-import { ask_of, kind_of, lost_line, with_ask, HOLE, HOLE_LINE } from './text.js';
+import { ask_of, is_lines, kind_of, lost_line, with_ask, HOLE, HOLE_LINE } from './text.js';
 
 /** @param {string} out */
 const bare_lines = out => out.split('\n').filter(Boolean).map(line => line.replace(/^(\d+|-) (?=T)/, '').trim());
@@ -31,6 +31,8 @@ async function judged(it, text, bank) {
   if (text.includes(HOLE)) return ['bad', `There is a hole (${HOLE}) left.`];
   const lost = it.keeps === false ? null : lost_line(it.text, text);
   if (lost !== null) return ['bad', `This line of the exercise has to stay: ${lost}`];
+  if (it.check === 'ask' && is_lines(text))
+    return ['bad', 'A text of lines has no table [ask]: write it as tables ("As tables"), then check it.'];
   const asking = { kind: 'orders', text: with_ask(text, it.ask || ''), bank };
   if (it.check === 'ask') return verdict_of(await gone_through(asking, it.ask));
   const mine = await played({ kind: kind_of(text), text, bank });

@@ -27,7 +27,7 @@ export function show_mine(open) {
   box.innerHTML = `<h2>My texts</h2>${list.map((it, i) => `<div class="row"><button data-key="${escaped(it.key)}" `
     + `data-n="${i}">${escaped(it.title)}</button><button class="drop" data-drop="${i}" `
     + `aria-label="Remove ${escaped(it.title)}" title="Remove">×</button></div>`).join('')}`
-    + '<button id="new-text">New text</button>';
+    + '<button id="new-text">+ New text</button>';
   box.onclick = (/** @type {any} */ event) => {
     const { n, drop } = event.target.dataset;
     if (n) open(lesson_of(list[n]));

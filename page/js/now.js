@@ -9,6 +9,8 @@
 export const now = { lesson: null, viewed: null, machine: null, callers: null, played: '', kind: 'play', steps: [],
   told: [], entries: [], count: 0, shown: 0, turn: 0 };
 
+/** So wide is a window where one thing is shown at a time. */
+export const NARROW = 760;
 /** @param {string} id @returns {any} */
 export const $ = id => document.getElementById(id);
 /** @param {string} selector @returns {any[]} */

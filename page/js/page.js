@@ -1,6 +1,6 @@
 // The page: lessons, tabs, bars, keys, and what is done when a text changes.
-import { $, all, now, on, text_now } from './now.js';
-import { begin_program, calls, checked, run, stop_orders, stop_runs } from './asks.js';
+import { $, all, now, on, text_now, NARROW } from './now.js';
+import { begin_program, calls, checked, converted, run, stop_orders, stop_runs } from './asks.js';
 import { close_offers, offer_calls, offer_key, take_offer } from './complete.js';
 import { begin_console, console_key, offer_in_line, say, scenario_of_console, undo_line } from './console.js';
 import { find, go_to, indent, offer_in_bank, offer_in_text, open_side, paint, paint_all } from './editor.js';
@@ -14,10 +14,10 @@ import { draw_all, mark_picture, refit, zoom_by } from './picture.js';
 import { json_of, part_of, RUN_SECONDS } from './program.js';
 import { FILE } from './reads.js';
 import { code_place_changed, copy_code_link, name_of, share, show_code } from './share.js';
-import { fill_trace, know_bank, play_text, show_none, show_state, turn_by, walk } from './steps.js';
-import { kind_of, steps_of, KINDS } from './text.js';
+import { draw_again, fill_trace, know_bank, play_text, show_none, show_state, turn_by, walk } from './steps.js';
+import { is_lines, kind_of, steps_of, KINDS } from './text.js';
 
-const NARROW = 760, LISTED = 1400, WAIT = 40;
+const LISTED = 1400, WAIT = 40;
 /** @type {number | undefined} */
 let timer;
 /** When the text was edited last: the first edit after a rest is answered at once, what follows when it rests. */
@@ -28,6 +28,8 @@ function show_kind(was) {
   document.body.dataset.kind = now.kind;
   $('kind').textContent = KINDS[now.kind];
   $('as-bank').hidden = now.kind !== 'bank';
+  $('form').hidden = now.kind !== 'play';
+  $('form').textContent = is_lines($('text').value) ? 'As tables' : 'As lines';
   $('bank-tab').classList.toggle('used', !!$('bank').value.trim());
   $('orders-tab').hidden = now.kind !== 'orders';
   if (now.kind === 'orders' && was !== 'orders' && tab_now() === 'walk') open_tab('orders');
@@ -130,7 +132,7 @@ async function open_lesson(it, plain = false) {
   show_task();
   if (innerWidth < LISTED) show_list(false);
   const tab = tab_now(), orders = kind_of($('text').value) === 'orders';
-  open_tab(orders ? 'orders' : tab === 'orders' ? 'walk' : tab);
+  open_tab(innerWidth <= NARROW && it.story ? 'left' : orders ? 'orders' : tab === 'orders' ? 'walk' : tab);
   return play();
 }
 /** @param {any} it */
@@ -173,8 +175,6 @@ function split(id, name_of, low, high, is_across) {
     kept.set(name_of(), String(to));
     refit();
   };
-  const old = Number(kept.get(name_of()));
-  if (old) put(old);
   const drag = (/** @type {any} */ event) => {
     const box = bar.parentNode.getBoundingClientRect();
     put(100 * (is_across() ? (event.clientX - box.left) / box.width : (event.clientY - box.top) / box.height));
@@ -207,9 +207,9 @@ function keys(event) {
     return tabs[to].focus();
   }
   const typing = it.isContentEditable || /^(TEXTAREA|INPUT|SELECT)$/.test(it.tagName) && it.type !== 'range';
-  const sideways = tab_now() === 'walk' && /Left|Right/.test(event.key);
+  const anywhere = tab_now() === 'walk' && (/Left|Right/.test(event.key) || it === document.body || it.id === 'name');
   const walks = typing ? it.id === 'text' && event.altKey && /Up|Down/.test(event.key)
-    : plain && (it.id === 'lines' || it.id === 'slider' || sideways);
+    : plain && (it.id === 'lines' || it.id === 'slider' || anywhere);
   if (!walks) return;
   event.preventDefault();
   walk(step);
@@ -239,7 +239,9 @@ async function lesson_of_link(lessons) {
     const { title = 'From a link', text, bank = '' } = it.read;
     return { key: 'link ' + it.key, title, text, bank, own: true };
   } catch (error) {
-    $('status').textContent = `The link could not be read: ${error instanceof Error ? error.message : error}`;
+    const why = error instanceof Error && /^(this page|it has)/.test(error.message) ? error.message
+      : 'it is damaged or cut off';
+    $('status').textContent = `The link could not be read: ${why}`;
     return null;
   }
 }
@@ -254,15 +256,25 @@ async function take_file(file) {
   changed_text();
 }
 function save_text() {
-  const bank = !$('side-bank').hidden, title = now.lesson.title.toLowerCase().replace(/\.toml$/, '');
+  const bank = !$('side-bank').hidden, title = now.lesson.title.toLowerCase().replace(/\.(toml|txt)$/, '');
   const name = bank ? 'handlers' : title.replace(/[^a-z0-9]+/g, '_').replace(/^_+|_+$/g, '') || 'scenario';
-  save_file(name + '.toml', $(bank ? 'bank' : 'text').value);
+  const text = $(bank ? 'bank' : 'text').value;
+  save_file(name + (is_lines(text) ? '.txt' : '.toml'), text);
 }
 function put_as_bank() {
   const text = $('text').value, own = now.lesson.text;
   put_text($('text'), kind_of(own) === 'bank' ? '' : own);
   open_side('bank');
   put_text($('bank'), text);
+  changed_text();
+}
+/** The scenario in its other form. */
+async function change_form() {
+  const { text, why } = await converted($('text').value);
+  $('status').textContent = why && `It cannot be converted: ${why}`;
+  if (why) return;
+  open_side('text');
+  put_text($('text'), text);
   changed_text();
 }
 /** @param {any} view */
@@ -300,10 +312,11 @@ function wire_texts() {
   on('find-next', 'click', () => find(false));
   on('faults', 'click', event => {
     const { i, fix } = event.target.dataset, it = now.told[i ?? fix];
-    if (i && it.line !== undefined) go_to(it.line, it.column);
-    if (fix) { open_side('text'); put_fix(it); }
+    if (i && it.line !== undefined) go_to(it);
+    if (fix) put_fix(it);
   });
   on('as-bank', 'click', put_as_bank);
+  on('form', 'click', change_form);
 }
 function wire_views() {
   const to_step = (/** @type {any} */ event) => {
@@ -316,6 +329,7 @@ function wire_views() {
   on('slider', 'input', () => show_state(Number($('slider').value)));
   for (const it of all('[data-walk]')) it.onclick = () => walk(it.dataset.walk);
   for (const it of all('[data-turn]')) it.onclick = () => turn_by(it.dataset.turn);
+  on('way', 'change', () => { kept.set('way', $('way').value); draw_again(); });
   for (const it of all('[data-zoom]')) it.onclick = () => { zoom_by(Number(it.dataset.zoom)); mark_picture(); };
   for (const it of all('[role=tab][data-pane]')) it.onclick = () => open_tab(it.dataset.pane);
   on('key-button', 'click', () => {
@@ -356,6 +370,7 @@ function wire_head() {
   });
   on('save', 'click', save_text);
   on('name', 'blur', rename_text);
+  on('name', 'focus', () => { if ($('name').isContentEditable) getSelection()?.selectAllChildren($('name')); });
   on('name', 'keydown', event => {
     if (event.key !== 'Enter' && event.key !== 'Escape') return;
     event.preventDefault();
@@ -394,9 +409,13 @@ function wire_head() {
     event.preventDefault();
     take_file(file);
   };
+  const bars = ['--left', '--trace', '--top', '--down', '--wide', '--wide-trace', '--wide-down'];
+  for (const name of bars) if (kept.get(name)) document.documentElement.style.setProperty(name, kept.get(name) + '%');
   const is_wide = () => document.body.classList.contains('wide');
   split('split-left', () => '--left', 18, 75, () => true);
-  split('split-state', () => is_wide() ? '--wide-trace' : '--trace', 20, 85, () => !is_wide());
+  const is_down = () => document.body.classList.contains('down');
+  split('split-state', () => (is_wide() ? '--wide-' : '--') + (is_down() ? 'down' : 'trace'), 20, 85,
+    () => !is_wide() && !is_down());
   split('split-picture', () => is_wide() ? '--wide' : '--top', 15, 85, is_wide);
 }
 /** @param {any[]} lessons */
@@ -427,12 +446,17 @@ async function start() {
   wire_texts();
   wire_views();
   wire_head();
-  new ResizeObserver(() => requestAnimationFrame(refit)).observe($('drawing'));
+  const picture_fits = new ResizeObserver(() => requestAnimationFrame(refit));
+  for (const id of ['drawing', 'lines']) picture_fits.observe($(id));
   window.onbeforeprint = () => { draw_all(); fill_trace(); paint_all(); };
   const text_fits = new ResizeObserver(found => requestAnimationFrame(() => refit_text(found[0].contentRect.width)));
   text_fits.observe($('under'));
-  window.onresize = () => { if (innerWidth > NARROW && tab_now() === 'left') open_tab('walk'); };
+  matchMedia(`(max-width: ${NARROW}px)`).onchange = () => {
+    if (innerWidth > NARROW && tab_now() === 'left') open_tab('walk');
+    draw_again();
+  };
   window.onhashchange = async () => { const it = await lesson_of_link(lessons); if (it) open_lesson(it); };
+  $('way').value = kept.get('way') || '';
   show_list(innerWidth >= LISTED);
   open_tab(innerWidth <= NARROW ? 'left' : 'walk');
   const last = lessons.find((/** @type {any} */ it) => it.key === kept.get('last')) || mine_of(kept.get('last'));

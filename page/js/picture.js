@@ -1,7 +1,9 @@
-// The picture that `lab draw` made, for a screen: numbers below the columns in place of the turned text (the trace is
-// beside it), the key beside it, the step that is looked at marked, and zoom. The picture's text has a line for each
-// mark; each of its bands of lanes becomes a drawing of its own, which is made only once it is seen.
+// The picture that `lab draw` made, for a screen. Of one that goes across: numbers below the columns in place of the
+// turned text (the trace is beside it), the step that is looked at marked, and zoom; each of its bands of lanes becomes
+// a drawing of its own, which is made only once it is seen. Of one that goes down: a row of lanes for each line of the
+// trace, beside which the trace stands. Its key is beside both.
 import { $, all, now, escaped } from './now.js';
+import { rank_text } from './reads.js';
 
 const PITCH = 30, LEFT = 104, ABOVE = 50, BELOW = 34, EACH = 5, LEAST = .85;
 /** @typedef {{ first: number, low: number, top: number, parts: (() => string)[], box?: any }} Band */
@@ -11,8 +13,6 @@ let columns = new Map();
 let bands = [];
 let size = [1, 1], room = [1, 1], zoom = 1;
 
-/** A rank as the policy writes it: real-time, quota or weak. @param {number} n */
-export const rank_text = n => n >= 512 ? 'f' + (n - 512) : n >= 256 ? 'q' + (n - 256) : 'w' + n;
 /** Where a line of the picture's text draws. @param {string} line */
 function place_of(line) {
   const it = line.match(/translate\((-?[\d.]+),(-?[\d.]+)\)|d="M(-?[\d.]+) (-?[\d.]+)/);
@@ -49,14 +49,13 @@ function mark_of(line, says, number, band, y) {
 }
 /** Puts each line of the picture's text into its band. @param {string} text */
 function read_picture(text) {
-  const lines = text.split('\n').slice(2), { lanes, found, end } = lanes_of(lines), key = [];
+  const lines = text.split('\n').slice(2), { lanes, found, end } = lanes_of(lines);
   let number = 0, at = 0;
   columns = new Map();
   bands = found;
   for (const line of bands.length ? lines : []) {
     const [x, y] = place_of(line);
-    if (!y) continue;
-    if (y <= 28) { key.push(line); continue; }
+    if (y <= 28) continue;
     while (at + 1 < bands.length && y >= bands[at + 1].top) at++;
     while (at > 0 && y < bands[at].top) at--;
     const says = line.match(/<title>([^<]*)/)?.[1], band = bands[at], is_thread = lanes.get(y)?.startsWith('T');
@@ -68,15 +67,36 @@ function read_picture(text) {
     band.parts.push(() => mark_of(is_thread ? ranked(line) : line, says, mine, band, y));
   }
   size = [end + 22, bands.reduce((sum, band) => sum + band.low - band.top + BELOW, 0)];
-  return key;
 }
-/** The key has the marks that are somewhere in the picture. @param {string[]} key @param {string} text */
-function show_key(key, text) {
-  const items = key.map(line => line.match(/^<g [^>]*,(\d+)\)">(.*)<text [^>]*>(.*)<\/text><\/g>$/) || []);
-  const used = items.filter(it => it[2] && text.indexOf(it[2]) !== text.lastIndexOf(it[2]));
-  const svg = 'width="24" height="20" aria-hidden="true"';
-  $('key').innerHTML = used.map(([, y, shape, says]) =>
-    `<span><svg viewBox="-11 ${y === '28' ? 0 : -10} 22 20" ${svg}>${shape}</svg>${says}</span>`).join('');
+/** The key has the signs that are somewhere in the picture. @param {string} text */
+export function show_key(text) {
+  const sign = /^<g transform="translate\(\d+,(\d+)\)">(.*)<text x="(\d+)" [^>]*>(.*)<\/text><\/g>$/gm;
+  const used = [...text.matchAll(sign)].filter(it => +it[1] < 50 && text.split(it[2]).length > 2);
+  // A strip is left of the middle of its lane, where time goes down, or below it.
+  $('key').innerHTML = used.map(([, y, shape, x, says]) =>
+    `<span><svg viewBox="${x === '0' ? -21 : -11} ${y === '28' ? 0 : -10} 22 20" width="24" height="20" `
+    + `aria-hidden="true">${shape}</svg>${says}</span>`).join('');
+}
+/** @typedef {{ names: string, wide: number, rows: { y: number, parts: string }[] }} Lanes */
+/** Of a picture that goes down: its lanes' names, and a row for each mark. @param {string} text @returns {Lanes} */
+export function read_lanes(text) {
+  const rows = [], names = new Map();
+  let paths = '', parts = '', wide = 0;
+  for (const line of text.split('\n')) {
+    const lane = line.match(/^<path d="M(\d+) \d+V\d+"( [^>]*>)<text x="(\d+)" [^>]*>([^<]*)/);
+    const mark = line.match(/^(<g [^>]*\((\d+),(\d+)\)"><title>.*)<text x="(\d+)" [^<]*<\/text><\/g>$/);
+    if (lane && !rows.length) {
+      const [, x, stroke, at, name] = lane;
+      paths += `<path d="M${x} -10v20"${stroke}`;
+      names.set(x, `<text x="${at}" y="4">${name}</text>`);
+    } else if (mark) {
+      const y = +mark[3], lanes = `<g transform="translate(0,${y})">${paths}</g>`;
+      rows.push({ y, parts: `${lanes}${parts}${mark[1]}</g>` });
+      wide = +mark[2] + +mark[4] - (/<title> /.test(line) ? 24 : 8);
+      parts = '';
+    } else if (paths && !lane) parts += line;
+  }
+  return { names: [...names.values()].join(''), wide, rows };
 }
 /** Draws a band, once. @param {Band} band */
 function draw_band(band) {
@@ -89,12 +109,11 @@ function draw_band(band) {
 const seen = typeof IntersectionObserver === 'undefined' ? null : new IntersectionObserver(found => {
   for (const it of found) if (it.isIntersecting) draw_band(bands[Number(/** @type {any} */ (it.target).dataset.n)]);
 }, { rootMargin: '300px' });
-/** Whether the page that is shown has a step. @param {number} step */
-export const has_step = step => columns.has(step);
 export const draw_all = () => bands.forEach(draw_band);
 /** @param {string} text @param {string} name */
 export function show_picture(text, name) {
-  const box = $('drawing'), key = read_picture(text);
+  const box = $('drawing');
+  read_picture(text);
   seen?.disconnect();
   const says = `Picture of ${escaped(name)}; the trace says the same in words`;
   box.innerHTML = bands.length ? `<div role="img" aria-label="${says}">` + bands.map((band, i) =>
@@ -104,15 +123,16 @@ export function show_picture(text, name) {
     seen?.observe(it);
   });
   if (bands[0]) draw_band(bands[0]);
-  show_key(key, text);
   fit();
 }
 /** The picture's room changed. */
 export function refit() {
+  fit_lanes();
   room = [$('drawing').clientWidth - 4, $('drawing').clientHeight - 4];
   fit();
 }
 export function fit() {
+  if (beside) return;
   const box = $('drawing'), most = document.body.classList.contains('wide') || innerWidth >= 1800 ? 3.2 : 2.2;
   const least = Math.min(room[0] / size[0], room[1] / size[1], most);
   const scale = Math.max(LEAST, least) * zoom;
@@ -124,6 +144,19 @@ export function fit() {
 export function zoom_by(by) {
   zoom = by ? zoom * by : 1;
   fit();
+  fit_lanes();
+}
+/** How wide lanes and the longest line beside them are; 0 where there are none. */
+let beside = 0;
+/** The trace with lanes beside it fits into its room, as far as it can be read. */
+export function fit_lanes(wide = -1, letters = 0) {
+  if (wide >= 0) beside = wide && wide + 8 * letters + 30;
+  if (!beside) return;
+  const large = document.body.classList.contains('wide') || innerWidth >= 1800;
+  const scale = Math.max(large ? 1 : LEAST, Math.min($('lines').clientWidth / beside, large ? 2 : 1.1)) * zoom;
+  $('lines').style.setProperty('--scale', String(scale));
+  $('lines').style.setProperty('--lanes', String(wide >= 0 ? wide : $('lines').style.getPropertyValue('--lanes')));
+  $('zoom').textContent = Math.round(scale * 100) + ' %';
 }
 /** @param {Band} band */
 function mark_band(band) {

@@ -1,23 +1,27 @@
 // What the program printed, read: faults with their places, lines of a trace, outcomes of orders, forms of calls.
 
 export const FILE = 'scenario.toml', BANK = 'handlers.toml';
-/** @typedef {{ fault: boolean, line?: number, column: number, says: string, where: string }} Told */
+/** @typedef {{ fault: boolean, bank?: boolean, line?: number, column: number, says: string, where: string }} Told */
 
 /**
- * What `lab check` reports, each with its place in the text; columns are counted in bytes there, in characters here.
+ * What `lab check` reports, each with its place in the text or in its handlers; columns are counted in bytes there, in
+ * characters here.
  * @param {string} out @param {string} text @param {{ from: number, to: number }[]} steps
  */
-export function read_faults(out, text, steps) {
-  const lines = text.split('\n'), encoder = new TextEncoder(), decoder = new TextDecoder();
+export function read_faults(out, text, steps, handlers = '') {
+  const lines = text.split('\n'), bank_lines = handlers.split('\n');
+  const encoder = new TextEncoder(), decoder = new TextDecoder();
   /** @param {string} name */
   const table = name => lines.findIndex(line => new RegExp(`^\\s*\\[\\s*${name}\\s*\\]`).test(line));
   return out.split('\n').filter(Boolean).map(/** @returns {Told} */ line => {
     const bank = line.includes(BANK + ':');
     const says = line.replace(/^lab: /, '').replace(FILE + ':', '').replace(BANK + ':', '').trim();
-    const place = bank ? null : says.match(/^(\d+):(\d+): (.*)$/);
+    const place = says.match(/^(\d+):(\d+): (.*)$/);
     if (place) {
-      const line = +place[1] - 1, before = encoder.encode(lines[line] || '').slice(0, +place[2] - 1);
-      return { fault: true, line, column: decoder.decode(before).length, says: place[3], where: `line ${place[1]}` };
+      const line = +place[1] - 1, whole = encoder.encode((bank ? bank_lines : lines)[line] || '');
+      const before = whole.slice(0, +place[2] - 1);
+      const where = `${bank ? 'handlers, ' : ''}line ${place[1]}`;
+      return { fault: true, bank, line, column: decoder.decode(before).length, says: place[3], where };
     }
     const step = bank ? null : says.match(/^step (\d+): warning: (.*)$/) || says.match(/^bad step (\d+):? ?(.*)$/);
     if (step) {
@@ -49,6 +53,47 @@ export function read_trace(out) {
   });
 }
 
+/** A rank as a policy writes it: real-time, quota or weak. @param {number} n */
+export const rank_text = n => n >= 512 ? 'f' + (n - 512) : n >= 256 ? 'q' + (n - 256) : 'w' + n;
+/** A rank, with an arrow where it isn't the one that the policy gives. @param {string} policy @param {number} rank */
+function rank_of(policy, rank) {
+  const parts = policy.split(' '), own = parts[0] === 'rr' ? +parts[1] : +parts[parts.length - 1];
+  return rank_text(rank) + (rank % 256 === own ? '' : ' ↑');
+}
+/** @typedef {{ name: string, stage: string, policy: string, rank: string, is: string, wait: string }} Thread */
+const THREAD = /^(T\d+) (oob|inband)((?: (?!rank|picked)\w+)*)(?: rank (\d+))?( picked)?(?:, ([^:]*)(?:: (.*))?)?$/;
+const ROW = /^(oob|inband|date|(?:sem|flags|xbuf|mutex|timer) \d+),? (.*)$/;
+/**
+ * A thread of `ps all`: it has a policy and a rank while it is attached, and a call while it has an unfinished wait.
+ * @param {string[]} it @returns {Thread}
+ */
+function thread_of([, name, stage, policy, rank, picked, how = '', call = '']) {
+  const wait = call.replace(/ until=none/, '');
+  const is = how === 'waits' ? 'blocked' : !rank ? '–' : picked ? 'picked' : stage === 'oob' ? 'ready' : 'in-band';
+  return { name, stage: stage === 'oob' ? 'oob' : 'in-band', policy: policy.trim() || '–',
+    rank: rank ? rank_of(policy.trim(), +rank) : '–', is, wait: how && how !== 'waits' ? `${how}: ${wait}` : wait };
+}
+/**
+ * What a driven machine answers to `ps all`: each thread, and a row for each element, stage and timer and for the date.
+ * Mutexes are reported only while they have an owner: a trace's first line says how many there are.
+ * @param {string} told @param {string} head
+ */
+export function read_state(told, head) {
+  /** @type {Thread[]} */
+  const threads = [], rows = new Map(), mutexes = +(head.match(/ mutexes=(\d+)/)?.[1] || 0);
+  for (let n = 0; n < mutexes; n++) rows.set(`mutex ${n}`, 'no owner');
+  for (const line of told.split('\n')) {
+    const thread = line.match(THREAD), row = line.match(ROW);
+    if (thread) threads.push(thread_of(thread));
+    else if (row) {
+      const [, of, says] = row, waiting = says.match(/^count -(\d+)$/);
+      rows.set({ oob: 'out-of-band', inband: 'in-band' }[of] || of,
+        waiting ? `0, ${waiting[1]} waiting` : of === 'date' ? says + ' ns' : says.replace(/^(count|bits) /, ''));
+    }
+  }
+  return { threads, rows };
+}
+
 /** What `lab orders` printed: how many orders, and each outcome with its notes and its scenario. @param {string} out */
 export function read_orders(out) {
   const [head, ...parts] = out.split(/^(?=# outcome \d+:)/m), found = head.match(/^# (\d+) orders?, \d+ outcomes?/m);
@@ -66,6 +111,8 @@ export function read_orders(out) {
   return { orders: found ? found[1] : '', cut: /^# cut off.*$/m.exec(out)?.[0] || '', outcomes };
 }
 
+/** What may stand for a word of a form. @type {Record<string, string>} */
+const SAMPLES = { PRIO: '10', SLICE: '500', GROUP: '0', MASK: '3' };
 /**
  * The calls of `lab help`, each with its keys: whether each must be there, and which values are offered.
  * @param {string[]} told  the answer of `lab help WORD` for each
@@ -79,7 +126,8 @@ export function read_calls(told) {
     for (const line of rest) {
       const [, name, wanted] = line.match(/^ +(\w+): (.*)$/) || [];
       if (!name) continue;
-      const values = [...wanted.matchAll(/"([^"]*)"/g)].map(value => `"${value[1]}"`);
+      const sample = wanted.replace(/[A-Z]{2,}/g, word => SAMPLES[word] || word);
+      const values = sample.match(/"[^"]*"/g) || [];
       if (wanted.startsWith('true or false')) values.push('true', 'false');
       keys.set(name, { wanted, must: !form.includes(`[${name}=`), values });
     }

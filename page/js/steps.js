@@ -1,19 +1,29 @@
 // The trace and how the machine is after each step, walked step by step.
-import { $, all, now, escaped, text_now } from './now.js';
+import { $, all, now, escaped, text_now, NARROW } from './now.js';
 import { callers_at, drawn, machine_of, played, state_at } from './asks.js';
 import { paint_step, show_line } from './editor.js';
-import { has_step, mark_picture, rank_text, show_picture } from './picture.js';
+import { fit_lanes, mark_picture, read_lanes, show_key, show_picture } from './picture.js';
 import { Parts } from './parts.js';
 import { actions_of, HOLE, passes_at, plays_at } from './text.js';
 
 const MOST_THREADS = 12, MARKS = 2000;
 /** The picture that is shown: of which text and trace, and which page of how many. */
-let shown_picture = { it: { kind: '', text: '', bank: '' }, out: '', title: '', page: 1, pages: 1 };
+const NO_PICTURE = { it: { kind: '', text: '', bank: '' }, out: '', title: '', page: 1, pages: 1 };
+let shown_picture = NO_PICTURE;
 /** The program's own callbacks, where the text has no handlers of its own. */
 let own_bank = '';
 export const know_bank = (/** @type {string} */ text) => { own_bank = text; };
 /** The lines of each step, by their places in the trace. @type {Map<number, number[]>} */
 let places = new Map();
+/** Of each line of the trace how many marks are before it in the picture. @type {number[]} */
+let marks_before = [];
+/** The rows of lanes beside the trace, where time goes down. */
+let lanes = read_lanes('');
+/** The row of lanes of a line, where the page of the picture has it. @param {number} i */
+function lanes_at(i) {
+  const row = lanes.rows[marks_before[i] - (shown_picture.page - 1) * MARKS] || { y: 0, parts: '' };
+  return lanes.wide ? `<svg viewBox="0 ${row.y - 10} ${lanes.wide} 20" aria-hidden="true">${row.parts}</svg>` : '';
+}
 /** @param {any} it @param {number} i */
 function line_of(it, i) {
   const answer = ' <span class="nb">-&gt; <b>$1</b></span><i>$2</i>';
@@ -21,7 +31,7 @@ function line_of(it, i) {
   if (it.kind === 'board') return `<div class="board">${escaped(it.line)}</div>`;
   const refused = it.kind === 'entry' && /^[A-Z]/.test(it.answer) ? ' refused' : '';
   return `<div id="line-${i}" role="option" aria-selected="false" class="${it.kind}${refused}" `
-    + `data-step="${it.number}">${text}</div>`;
+    + `data-step="${it.number}">${lanes_at(i)}${text}</div>`;
 }
 const trace = new Parts('lines', 'entries', part => part.lines.map((it, i) => line_of(it, part.from + i)).join(''),
   part => { part.box.classList.add('far'); part.box.textContent = ''; });
@@ -30,13 +40,30 @@ function show_trace(entries) {
   now.entries = entries;
   now.count = entries.reduce((most, it) => Math.max(most, it.number), 0);
   places = new Map();
-  for (const [i, it] of entries.entries()) if (it.kind !== 'board')
+  marks_before = [];
+  let before = 0;
+  for (const [i, it] of entries.entries()) {
+    marks_before.push(before);
+    if (it.kind === 'board') continue;
+    before++;
     if (places.has(it.number)) places.get(it.number)?.push(i);
     else places.set(it.number, [i]);
-  trace.put(entries, part => part.lines.map(it => `${it.number} ${it.line}`).join('\n'));
+  }
+  put_lines();
   $('no-trace').hidden = true;
   $('slider').max = now.count;
   $('slider').disabled = !now.count;
+}
+const put_lines = () => trace.put(now.entries, part =>
+  part.lines.map((it, i) => `${it.number} ${it.line}${lanes_at(part.from + i)}`).join('\n'));
+/** Puts lanes beside the trace, of a picture that goes down, or none. @param {string} picture */
+function show_lanes(picture) {
+  lanes = read_lanes(picture);
+  document.body.classList.toggle('down', lanes.wide > 0);
+  $('names').innerHTML = lanes.wide
+    ? `<svg viewBox="0 -10 ${lanes.wide} 20" aria-hidden="true">${lanes.names}</svg>` : '';
+  fit_lanes(lanes.wide, now.entries.reduce((most, it) => Math.max(most, it.line.length), 0));
+  show_key(picture);
 }
 /** For paper. */
 export const fill_trace = () => trace.fill_all();
@@ -53,31 +80,21 @@ export function show_none(why) {
   $('no-trace').hidden = false;
   $('no-trace').textContent = why;
   now.machine = now.callers = null;
-  show_picture('', '');
+  shown_picture = { ...NO_PICTURE };
+  put_picture('');
   show_state(0);
 }
 /** How a machine is after a step: asked once. @param {any} machine @param {number} step */
 async function known_at(machine, step) {
   const ask = machine.kind === 'callers' ? callers_at : state_at;
-  const known = machine.states.get(step) || ask(machine, step, machine.entries);
+  const known = machine.states.get(step) || ask(machine, step);
   machine.states.set(step, known);
   return known;
 }
-/** The rows of a thread: its stage, policy, rank, what it is, and for what it waits. @param {any} at @param {any} it */
-function thread_row(at, it) {
-  const rank = at.ranks.get(it.name), policy = at.policies.get(it.name) || '', parts = policy.split(' ');
-  const own = parts[0] === 'rr' ? +parts[1] : +parts[parts.length - 1];
-  const says = rank === undefined ? '–' : rank_text(rank) + (policy && rank % 256 !== own ? ' ↑' : '');
-  const is = it.how === 'waits' ? 'blocked' : rank === undefined ? '–' : it.name === at.picked ? 'picked'
-    : it.stage === 'oob' ? 'ready' : 'in-band';
-  const stage = it.stage === 'oob' ? 'oob' : 'in-band';
-  const wait = (it.how && it.how !== 'waits' ? it.how + ': ' : '') + it.call.replace(/ until=none/, '');
-  return [it.name, stage, policy || '–', says, is, wait];
-}
 /** Of many threads only those that are attached or wait. @param {any} at */
 function table_of(at) {
-  const is_told = (/** @type {any} */ it) => at.threads.length <= MOST_THREADS || it.how || at.ranks.has(it.name);
-  const threads = at.threads.filter(is_told).map((/** @type {any} */ it) => thread_row(at, it));
+  const is_told = (/** @type {any} */ it) => at.threads.length <= MOST_THREADS || it.policy !== '–' || it.wait;
+  const threads = at.threads.filter(is_told).map((/** @type {any} */ it) => Object.values(it));
   return { threads, rows: [...at.rows] };
 }
 /** Of callers' texts: the locks as they were last shown, the threads with the passes they hold, and the kernel. */
@@ -143,7 +160,7 @@ export async function show_state(step) {
   $('slider').value = step;
   $('at').textContent = `step ${step} of ${now.count}`;
   for (const it of all('#lines [aria-selected=true]')) it.setAttribute('aria-selected', 'false');
-  const lines = (step && places.get(step) || []).map(i => trace.line_at(i));
+  const lines = lines_of(step).map(i => trace.line_at(i));
   for (const it of lines) it.setAttribute('aria-selected', 'true');
   for (const it of all('#story .at')) it.classList.toggle('now', it.dataset.step === String(step));
   if (lines[0]) $('lines').setAttribute('aria-activedescendant', lines[0].id);
@@ -151,7 +168,8 @@ export async function show_state(step) {
   else $('lines').scrollTop = 0;
   paint_step();
   mark_picture();
-  if (step && shown_picture.pages > 1 && !has_step(step)) turn_page(page_of(step));
+  const pages = lines_of(step).map(page_of);
+  if (pages.length && !pages.includes(shown_picture.page)) turn_page(pages[0]);
   if (now.steps[step - 1] && !now.viewed) show_line(now.steps[step - 1].from);
   const machine = now.machine || now.callers, table = now.callers ? callers_table : table_of;
   if (!machine) return show_table(locks_at(step), locks_at(Math.max(0, step - 1)), step);
@@ -166,34 +184,44 @@ export function walk(by) {
   const to = by === 'first' ? 0 : by === 'last' ? now.count : Math.max(0, Math.min(now.count, now.shown + Number(by)));
   return show_state(to);
 }
-/** The page of the picture that has a step: each has 2,000 lines of the trace. @param {number} step */
-function page_of(step) {
-  const marks = now.entries.filter(it => it.kind === 'entry' || it.kind === 'play');
-  return Math.floor(Math.max(0, marks.findIndex(it => it.number === step)) / MARKS) + 1;
-}
+/** The lines of a step, by their places. @param {number} step */
+const lines_of = step => step && places.get(step) || [];
+/** The page of the picture that has a line. @param {number} i */
+const page_of = i => Math.floor(marks_before[i] / MARKS) + 1;
 /** @param {number} to */
-async function turn_page(to) {
+async function turn_page(to, again = false) {
   const mine = now.turn, page = Math.max(1, Math.min(shown_picture.pages, to));
-  if (page === shown_picture.page) return;
+  if (page === shown_picture.page && !again) return;
   shown_picture.page = page;
-  const svg = await drawn(shown_picture.it, Promise.resolve(shown_picture), page);
+  const svg = await drawn(shown_picture.it, Promise.resolve(shown_picture), way_now(), page);
   if (mine !== now.turn || shown_picture.page !== page) return;
-  show_picture(svg.out, shown_picture.title);
-  show_pages();
+  put_picture(svg.out);
+  const first = marks_before.lastIndexOf((page - 1) * MARKS);
+  if (!lines_of(now.shown).some(i => page_of(i) === page)) show_in($('lines'), trace.line_at(first));
+}
+/** The picture goes another way. */
+export const draw_again = () => shown_picture.out && turn_page(shown_picture.page, true);
+/** Which way time goes: as is asked, or by the length of the trace; where there is little room it goes across. */
+const way_now = () => $('way').value || (innerWidth <= NARROW ? 'across' : '');
+/** Shows a page of the picture, beside the trace or by itself. @param {string} picture */
+function put_picture(picture) {
+  const { title, page, pages } = shown_picture;
+  show_lanes(picture);
+  put_lines();
+  show_picture(lanes.wide ? '' : picture, title);
+  $('pages').hidden = pages < 2;
+  $('page').textContent = `page ${page} of ${pages}`;
   mark_picture();
 }
 /** @param {string} by */
 export const turn_by = by => turn_page(shown_picture.page + Number(by));
-function show_pages() {
-  $('pages').hidden = shown_picture.pages < 2;
-  $('page').textContent = `page ${shown_picture.page} of ${shown_picture.pages}`;
-}
 /** Plays and draws a scenario: the text's own, or that of an outcome. @param {number} mine */
 export async function play_text(mine, step = 0) {
   // All is asked at once: one worker plays and makes the machine, another draws; the trace is shown when it is there.
-  const it = text_now(), trace = played(it), picture = drawn(it, trace);
+  const it = text_now(), trace = played(it), picture = drawn(it, trace, way_now());
   const made = it.kind === 'callers' ? null : machine_of(it), answer = await trace;
-  if (mine === now.turn && answer.out) show_trace(answer.entries);
+  // Lanes and their lines come together.
+  if (mine === now.turn && answer.out && !lanes.wide) show_trace(answer.entries);
   const [svg, machine] = await Promise.all([picture, made]);
   if (mine !== now.turn) return answer;
   const title = now.viewed ? now.viewed.title : now.lesson?.title || 'the text';
@@ -204,10 +232,12 @@ export async function play_text(mine, step = 0) {
     $('stale').hidden = true;
     const pages = Number(svg.err.match(/page 1 of (\d+)/)?.[1] || 1);
     shown_picture = { it, out: answer.out, title, page: 1, pages };
-    show_picture(svg.out, title);
-    show_pages();
+    lanes = read_lanes('');
+    if (now.entries !== answer.entries) show_trace(answer.entries);
+    put_picture(svg.out);
   } else {
-    const why = answer.err.trim().replace(/^lab: /, '').replace('scenario.toml: ', '') || 'there is nothing to play';
+    const told = answer.err.trim().replace(/^lab: /, '').replace(/scenario\.toml:(\d+:\d+:)? /, '');
+    const why = told.replace(/; did you mean .*/, '') || 'there is nothing to play';
     show_stale(it.text.includes(HOLE) ? `The text has a hole (${HOLE}). The text is played when it is filled.`
       : answer.status === -2 ? `It was not played: ${why}.`
       : `It cannot be played: ${why}. The faults are listed below the text.`);

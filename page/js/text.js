@@ -24,8 +24,17 @@ export function bare_of(line) {
   return line;
 }
 
+const LINES = /^(T\d+(\s|$)|\d+\s+T\d+(\s|$)|(board|limit|setup)(\s+[^=\s]|\s*$))/;
+/** Whether a text is one of lines, as `T0 put sem=0`, by its first line that says something. @param {string} text */
+export function is_lines(text) {
+  const first = text.replace(/^\ufeff/, '').split('\n').find(line => /^\s*[^\s#]/.test(line));
+  return LINES.test(first?.trim() || '');
+}
+/** A line of a text of lines with no comment. @param {string} line */
+const said_of = line => line.replace(/(^|\s)#.*/, '').trim();
 /** @param {string} text */
 export function kind_of(text) {
+  if (is_lines(text)) return text.split('\n').some(line => /^setup\s+[^=]/.test(said_of(line))) ? 'orders' : 'play';
   const lines = text.split('\n').map(line => bare_of(line).trim()).filter(Boolean), whole = lines.join('\n');
   const has = (/** @type {RegExp} */ form) => form.test(whole);
   if (!lines.length) return 'empty';
@@ -36,8 +45,16 @@ export function kind_of(text) {
   return has(/^staxes\s*=/m) || has(word) ? 'callers' : 'play';
 }
 
+/** The line of each step of a text of lines: what is set up comes first. @param {string} text */
+function lines_steps(text) {
+  const lines = text.split('\n').map((line, i) => ({ from: i, to: i, says: said_of(line) }));
+  const of = (/** @type {RegExp} */ form) =>
+    lines.filter(it => form.test(it.says)).map(({ from, to }) => ({ from, to }));
+  return [...of(/^setup\s+[^=]/), ...of(/^((\d+|-)\s+)?T\d+\s/)];
+}
 /** The first and the last line of each step of a text, by its form. @param {string} text */
 export function steps_of(text) {
+  if (is_lines(text)) return lines_steps(text);
   /** @type {{ from: number, to: number }[]} */
   const found = [];
   /** @type {{ from: number, to: number } | null} */
@@ -62,15 +79,6 @@ function asks_in(lines) {
   });
 }
 
-/**
- * A text of orders as a scenario of as many lines, for its steps' faults: [ask] is blank, and a [[setup]] is a step.
- * @param {string} text
- */
-export function without_ask(text) {
-  const lines = text.split('\n'), asks = asks_in(lines);
-  return lines.map((line, i) => asks[i] ? ''
-    : line.replace(/^(\s*)\[\[\s*setup\s*\]\]/, '$1[[step]]').replace(/^(\s*)setup(\s*=)/, '$1step$2')).join('\n');
-}
 /** The lines of [ask]. @param {string} text */
 export function ask_of(text) {
   const lines = text.split('\n'), asks = asks_in(lines);

@@ -44,6 +44,16 @@ test('tables, the board and the handlers', () => {
   assert.deepEqual(at('[[callback]]\na|', 'bank')?.words, ['accepts = ', 'do = ']);
   assert.ok(at('[[callback]]\ndo = [{ st|', 'bank')?.words.includes('stop_timer = '));
 });
+test('lines of a text of lines', () => {
+  assert.deepEqual(at('board threads=2\n|'), { size: 0, words: ['T0 ', 'T1 ', 'board ', 'limit ', 'setup '] });
+  assert.deepEqual(at('board threads=2\nsetup T|')?.words, ['T0 ', 'T1 ']);
+  assert.deepEqual(at('board threads=2\n3 T1 p|'), { size: 1, words: ['put ', 'stall '] });
+  assert.deepEqual(at('board threads=2\nsetup T1 put s|')?.words, ['sem=']);
+  assert.deepEqual(at('board threads=2\nT1 stall stage=o|'), { size: 1, words: ['inband', 'oob'] });
+  assert.ok(at('board threads=2 s|')?.words.includes('sems=') && !at('board threads=2 s|')?.words.includes('threads='));
+  assert.equal(at('board threads=2\nT0 put # |'), null);
+  assert.ok(at('b|')?.words.includes('board threads='));
+});
 test('lines of the console', () => {
   assert.ok(offered_line('T0', 2)?.words.includes('T0 '));
   assert.deepEqual(offered_line('T0 p', 4), { size: 1, words: ['put ', 'stall '] });

@@ -4,8 +4,8 @@ import fs from 'node:fs';
 import path from 'node:path';
 import test from 'node:test';
 import { read_trace } from '../js/reads.js';
-import { ask_of, bare_of, first_steps, kind_of, lost_line } from '../js/text.js';
-import { actions_of, passes_at, plays_at, steps_of, with_ask, without_ask } from '../js/text.js';
+import { ask_of, bare_of, first_steps, is_lines, kind_of, lost_line } from '../js/text.js';
+import { actions_of, passes_at, plays_at, steps_of, with_ask } from '../js/text.js';
 
 const top = path.join(import.meta.dirname || path.dirname(new URL(import.meta.url).pathname), '../..');
 const folder = name => ['examples', '.'].map(above => path.join(top, above, name)).find(it => fs.existsSync(it)) || '';
@@ -26,6 +26,25 @@ test('comments and quotes do not mislead', () => {
   assert.equal(bare_of('a = "\\"#" # no'), 'a = "\\"#" ');
   assert.equal(kind_of(' \n# nothing\n'), 'empty');
 });
+test('texts of lines are seen by their first line that says anything', () => {
+  const are = ['board threads=1', '\ufeffboard', ' # a\n\nlimit 5\n', 'T0 put sem=0', '3 T1 pick', 'setup T1 x'];
+  const not = ['', '# T0 put', 'board = { threads = 1 }', 'limit=5', 'board.threads = 1', '[board]', 'T put', 'T0x put', '3'];
+  for (const text of are) assert.ok(is_lines(text), text);
+  for (const text of not) assert.ok(!is_lines(text), text);
+  assert.deepEqual(['board threads=1\nT0 now\n', 'board\nsetup T1 now\n', 'board # setup T1\n'].map(kind_of),
+    ['play', 'orders', 'play']);
+});
+test('the trace of each scenario is a text of lines, with a step for each entry', () => {
+  for (const name of fs.readdirSync(folder('scenarios')).filter(it => it.endsWith('.trace'))) {
+    const trace = fs.readFileSync(path.join(folder('scenarios'), name), 'utf8');
+    const entries = read_trace(trace).filter(it => it.kind === 'entry').length;
+    assert.deepEqual([kind_of(trace), steps_of(trace).length], ['play', entries], name);
+  }
+});
+test('what is set up comes first among the steps of lines', () => {
+  const text = 'board threads=2\nT0 now # setup\n\n  setup T1 now\n- T1 now -> HistoryFull\n  line 5 oob count 1\n';
+  assert.deepEqual(steps_of(text).map(it => it.from), [3, 1, 4]);
+});
 test('steps are found as tables and in a list', () => {
   const tables = steps_of('[board]\n[[step]]\ndo = "put"\nwho = 0\n\n[[setup]]\nx = 1\n');
   assert.deepEqual(tables, [{ from: 1, to: 3 }, { from: 5, to: 6 }]);
@@ -34,7 +53,6 @@ test('steps are found as tables and in a list', () => {
 });
 test('[ask] is taken out and put in, line for line', () => {
   const text = '[board]\n[ask]\nalways_ends = true\n[[setup]]\ndo = "x"\n';
-  assert.equal(without_ask(text), '[board]\n\n\n[[step]]\ndo = "x"\n');
   assert.equal(ask_of(text), '[ask]\nalways_ends = true');
   assert.equal(with_ask(text, '[ask]\nnever = []'), '[board]\n[[setup]]\ndo = "x"\n\n[ask]\nnever = []\n');
 });
