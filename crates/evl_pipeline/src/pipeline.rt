@@ -226,6 +226,17 @@ impl<C, A: Allocator> PipelineOf<C, A> {
         self.oob.is_idle() && self.inband.is_idle()
     }
 
+    /// Whether no event is pending on the stage.
+    #[inline(always)]
+    pub fn is_idle_on(&self, stage: Stage) -> bool
+        ensures idle { result ≡ is_none (least (side self.now stage).pending) }
+    {
+        match stage {
+            Stage::Oob => self.oob.is_idle(),
+            Stage::Inband => self.inband.is_idle(),
+        }
+    }
+
     /// Whether the stage is stalled.
     pub fn is_stalled(&self, stage: Stage) -> bool
         ensures stalled { result ≡ (side self.now stage).stalled }

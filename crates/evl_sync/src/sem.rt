@@ -1,7 +1,7 @@
 //! One semaphore.
-ghost use Rattle.std.specs.Prelude.{◌≡◌, ◌<◌, ◌≤◌, false, option_map, slice_get, IfErr};
+ghost use Rattle.std.specs.Prelude.{◌≡◌, ◌<◌, ◌≤◌, nat_lt, ◌&&◌, true, false, None, Ok, option_map, slice_get, IfErr};
 ghost use Rattle.evl_base.specs.Limits.{thread_limit};
-ghost use Rattle.evl_sync.specs.Queues.{number_of, stands_in};
+ghost use Rattle.evl_sync.specs.Queues.{is_nobody, number_of, stands_in};
 ghost use Rattle.evl_sync.specs.Steps.{step_by};
 ghost use Rattle.evl_sync.specs.Semaphores.{IsSoundSemaphore, begin_get, drop_waiter, opened_semaphore, peek, put_count, try_get};
 
@@ -71,6 +71,21 @@ impl Sem {
         }
         self.count += 1;
         Ok(None)
+    }
+
+    /// Raises the count by 1 where nobody waits and the count is less than 2,147,483,647, and says whether it did;
+    /// nothing changes else. (Xenomai 4: EVL semaphore; this profile)
+    #[inline(always)]
+    pub fn raise(&mut self) -> bool
+        ensures raised { result ≡ true → put_count self.old ≡ Ok (None, self.new) }
+        ensures whether { result ≡ (is_nobody self.old.waiters && nat_lt self.old.count 2147483647) }
+        ensures kept { result ≡ false → self.new ≡ self.old }
+    {
+        if self.queue.len() != 0 || self.count >= MAX_COUNT {
+            return false;
+        }
+        self.count += 1;
+        true
     }
 
     /// Lowers the count by 1 where it isn't 0; else the thread, which doesn't wait here yet, begins to wait, behind
