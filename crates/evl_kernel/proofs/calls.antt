@@ -19,3 +19,4 @@ pub mod ElementLaws
 pub mod OwnerSteps
 pub mod AnswerLaws
 pub mod MutexEffects
+pub mod QuickLaws

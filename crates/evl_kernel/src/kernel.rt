@@ -1,5 +1,5 @@
 //! The kernel and its history.
-ghost use Rattle.std.specs.Prelude.{◌≡◌, ◌⊎◌, ◌↔◌, ◌+◌, ◌-◌, ◌≤◌, ◌<◌, length, vec_len, vec_capacity, true, false, None, option_map, IsTrue, IsFalse, OnOk, OnErr, IfOk, IfErr};
+ghost use Rattle.std.specs.Prelude.{◌≡◌, ◌⊎◌, ◌↔◌, ◌+◌, ◌-◌, ◌≤◌, ◌<◌, length, vec_len, vec_capacity, true, false, None, Ok, option_map, IsTrue, IsFalse, OnOk, OnErr, IfOk, IfErr};
 ghost use Rattle.std.specs.Option.{option_map_or};
 ghost use Rattle.evl_pipeline.specs.Counts.{count_at};
 ghost use Rattle.evl_pipeline.specs.Limits.{line_count};
@@ -26,8 +26,8 @@ use crate::allocators::another;
 use crate::records::Records;
 use crate::served_lists::ServedLists;
 use evl_base::{
-    Board, Call, Entry, LINES, LineNo, MAX_THREADS, MutexId, Play, Refusal, Reply, Spares, Stage,
-    ThreadId, TimerId,
+    Board, Call, Entry, LINES, LineNo, MAX_THREADS, MutexId, Play, Refusal, Reply, SemId, Spares,
+    Stage, ThreadId, TimerId,
 };
 use evl_clock::TimerState;
 use evl_pipeline::{Callback, Handler};
@@ -201,6 +201,9 @@ impl<C: Handler, A: Allocator> KernelOf<C, A> {
         ensures called { AddsByCalls C.gives self.old.callbacks self.old.history caller.0 call self.new.history }
         ensures places { AreInOnePlace self.new.callbacks }
     {
+        if self.answers_quickly(caller, &call) {
+            return Ok(Reply::Done);
+        }
         if self.history.len() == self.limit {
             return Err(Refusal::HistoryFull);
         }
@@ -233,6 +236,84 @@ impl<C: Handler, A: Allocator> KernelOf<C, A> {
                 Ok(given)
             }
         }
+    }
+
+    // Answers a call at which nobody is served and nothing is played, where that takes one look and one step, and says
+    // whether it did; nothing changes else.
+    #[inline(always)]
+    fn answers_quickly(&mut self, caller: ThreadId, call: &Call) -> bool
+        ensures entry { result ≡ true → AddsEntry self.old.history caller.0 call.now (Ok Reply.Done) self.new.history }
+        ensures plays { self.new.history.plays ≡ self.old.history.plays }
+        ensures within { result ≡ true → length self.old.history.entries < self.old.limit }
+        ensures kept { result ≡ false → self.new ≡ self.old }
+        ensures callbacks { self.new.callbacks ≡ self.old.callbacks }
+        ensures limit { self.new.limit ≡ self.old.limit }
+        ensures room { self.old.room ≤ self.new.room + 1 }
+        ensures legal { IsLegal self.new.history }
+        ensures places { AreInOnePlace self.new.callbacks }
+    {
+        let _ = &self.board;
+        match call {
+            Call::Put { sem } => self.put_quickly(caller, *sem),
+            Call::TryGet { sem } => self.get_quickly(caller, *sem),
+            _ => false,
+        }
+    }
+
+    // Answers a put at which nobody is served and nothing is played, and says whether it did; nothing changes else.
+    #[inline(always)]
+    fn put_quickly(&mut self, caller: ThreadId, sem: SemId) -> bool
+        ensures entry { result ≡ true → AddsEntry self.old.history caller.0 (Call.Put sem) (Ok Reply.Done) self.new.history }
+        ensures plays { self.new.history.plays ≡ self.old.history.plays }
+        ensures within { result ≡ true → length self.old.history.entries < self.old.limit }
+        ensures kept { result ≡ false → self.new ≡ self.old }
+        ensures callbacks { self.new.callbacks ≡ self.old.callbacks }
+        ensures limit { self.new.limit ≡ self.old.limit }
+        ensures room { self.old.room ≤ self.new.room + 1 }
+        ensures legal { IsLegal self.new.history }
+        ensures places { AreInOnePlace self.new.callbacks }
+    {
+        if !has_place(&self.history, self.limit) {
+            return false;
+        }
+        if !self.records.put_quickly(caller, sem) {
+            return false;
+        }
+        self.history.push_reserved(Entry {
+            caller,
+            call: Call::Put { sem },
+            reply: Ok(Reply::Done),
+            plays: 0,
+        });
+        true
+    }
+
+    // Answers a get at which nothing is played, and says whether it did; nothing changes else.
+    #[inline(always)]
+    fn get_quickly(&mut self, caller: ThreadId, sem: SemId) -> bool
+        ensures entry { result ≡ true → AddsEntry self.old.history caller.0 (Call.TryGet sem) (Ok Reply.Done) self.new.history }
+        ensures plays { self.new.history.plays ≡ self.old.history.plays }
+        ensures within { result ≡ true → length self.old.history.entries < self.old.limit }
+        ensures kept { result ≡ false → self.new ≡ self.old }
+        ensures callbacks { self.new.callbacks ≡ self.old.callbacks }
+        ensures limit { self.new.limit ≡ self.old.limit }
+        ensures room { self.old.room ≤ self.new.room + 1 }
+        ensures legal { IsLegal self.new.history }
+        ensures places { AreInOnePlace self.new.callbacks }
+    {
+        if !has_place(&self.history, self.limit) {
+            return false;
+        }
+        if !self.records.get_quickly(caller, sem) {
+            return false;
+        }
+        self.history.push_reserved(Entry {
+            caller,
+            call: Call::TryGet { sem },
+            reply: Ok(Reply::Done),
+            plays: 0,
+        });
+        true
     }
 }
 
@@ -358,6 +439,15 @@ impl<C, A: Allocator> KernelOf<C, A> {
     {
         self.records.waiters(mutex)
     }
+}
+
+// Whether a history has room for one entry more, within its limit.
+#[inline(always)]
+fn has_place<A: Allocator>(history: &Vec<Entry, A>, limit: usize) -> bool
+    ensures room { result ≡ true → vec_len history.now < vec_capacity history.now }
+    ensures within { result ≡ true → length history.now.items < limit }
+{
+    history.len() < limit && history.len() < history.capacity()
 }
 
 // Makes room for the entries, the plays and the bytes of so many calls. `NoMemory` where it was refused.

@@ -22,6 +22,7 @@ mod elements;
 mod likeness;
 mod line_calls;
 mod mutexes;
+mod quick;
 mod readers;
 mod serving;
 mod settling;

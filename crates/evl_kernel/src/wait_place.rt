@@ -59,11 +59,14 @@ impl WaitPlace {
     }
 
     /// A wait begins, in place of any other; where it was served at once, with what.
+    #[inline(always)]
     pub(crate) fn begin(&mut self, on: Awaited, outcome: Option<Outcome<'_>>)
         requires fits { FitsBox outcome }
         ensures begun { self.new ≡ Some (record { on = on; outcome = option_map reply_of outcome.entry }) }
     {
-        self.clear();
+        if self.wait.is_some() {
+            let _ = self.clear();
+        }
         match outcome {
             None => self.wait = Some(Wait { on, outcome: None }),
             Some(ending) => {
@@ -77,16 +80,16 @@ impl WaitPlace {
     }
 
     /// The wait has ended, and this ended it; nothing changes where there is no wait.
+    #[inline(always)]
     pub(crate) fn end(&mut self, outcome: Outcome<'_>)
         requires fits { FitsBox (Some outcome) }
         ensures ended { self.new ≡ option_map (ended_by (reply_of outcome.entry)) self.old }
     {
-        if let Some(on) = self.clear() {
-            let reply = told(&mut self.own, outcome);
-            self.wait = Some(Wait {
-                on,
-                outcome: Some(reply),
-            });
+        if let Some(wait) = &mut self.wait {
+            if let Some(Reply::Bytes(bytes)) = wait.outcome.take() {
+                self.own = Some(bytes);
+            }
+            wait.outcome = Some(told(&mut self.own, outcome));
         }
     }
 
@@ -139,6 +142,7 @@ impl WaitPlace {
 }
 
 // The answer that ends a wait; bytes that were read lie in the thread's box.
+#[inline(always)]
 fn told(own: &mut Option<Transfer>, outcome: Outcome<'_>) -> Reply
     requires there { IsSome own.old }
     requires fits { FitsBox (Some outcome) }

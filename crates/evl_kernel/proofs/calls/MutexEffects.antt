@@ -288,7 +288,8 @@ follows_ok : (old : State) (e : Effect) (r : Result Reply Refusal) (plays : List
 follows_ok old (Ok (given, y)) r plays new said x is follows = (given, follows.0)
 follows_ok old (Err refusal) r plays new said x is follows = absurd (cc)
 
-passed_general : (s : State) (caller : ℕ) (asked : Call) → ends_a_wait (task_of asked) ≡ false → caller < s.threads → wait_at s caller ≡ None → general_refusal s caller asked ≡ None
+-- a thread that has no wait passes what all calls are refused by
+pub passed_general : (s : State) (caller : ℕ) (asked : Call) → ends_a_wait (task_of asked) ≡ false → caller < s.threads → wait_at s caller ≡ None → general_refusal s caller asked ≡ None
 passed_general s caller asked other there idle = by (ends_a_wait (task_of asked)) other (wait_at s caller) idle (nat_le s.threads caller) (let x = there in grind (arith, nat_tests))
   where
     by : (e : Bool) → e ≡ false → (o : Option Wait) → o ≡ None → (b : Bool) → b ≡ false → (if (not e && is_some o) then Some Busy else (if b then Some Unknown else None)) ≡ None

@@ -115,3 +115,13 @@ pub kernel_adds : {C : Type 0} (gives : C → Fire → Answer → Type 0) (w : W
     → new.entries ≡ old.entries ++ counted_entry caller asked result n ∷ [] → n ≡ length so.made → Adds old caller asked result so.made new
 kernel_adds gives w old new caller asked result n same same_bank so more counted =
     one_more_entry old new caller asked result so.made same same_bank (more ∙ ap (λ (k : ℕ). old.entries ++ counted_entry caller asked result k ∷ []) counted) so.appended so.step (omega (arith, so.few))
+
+-- a step without a play was made, and its entry was entered
+pub quick_adds : (old new : History) (caller : ℕ) (asked : Call) (reply : Reply) → new.board ≡ old.board → new.bank ≡ old.bank → new.plays ≡ old.plays
+    → new.entries ≡ old.entries ++ counted_entry caller asked (Ok reply) 0 ∷ [] → Step old.state caller asked (Ok reply) [] new.state → Adds old caller asked (Ok reply) [] new
+quick_adds old new caller asked reply same same_bank same_plays more step =
+    one_more_entry old new caller asked (Ok reply) [] same same_bank more (same_plays ∙ sym (append-nil old.plays)) step (omega arith)
+
+-- and nothing was called
+pub quick_calls : {C : Type 0} (gives : C → Fire → Answer → Type 0) (w : Whereabouts C) (old new : History) (caller : ℕ) (asked : Call) → new.plays ≡ old.plays → AddsByCalls gives w old caller asked new
+quick_calls gives w old new caller asked same plays added = adds_nothing gives w old caller asked plays (sym same ∙ added)

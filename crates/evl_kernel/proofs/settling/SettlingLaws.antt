@@ -9,6 +9,8 @@ use Rattle.evl_base.specs.declared.play.Play.TheVariants.{Clock, Timer, Deadline
 use Rattle.evl_pipeline.specs.declared.answer.Answer.{Answer}
 use Rattle.evl_pipeline.specs.declared.fire.Fire.{Fire}
 use Rattle.evl_pipeline.specs.declared.plan.Plan.{Plan}
+use Rattle.evl_pipeline.specs.declared.ran.Ran.{Ran}
+use Rattle.evl_pipeline.specs.declared.ran.Ran.TheVariants as ran
 use Rattle.evl_pipeline.specs.Limits.{line_count}
 use Rattle.evl_pipeline.specs.NumberSet.{least}
 use Rattle.evl_pipeline.specs.Lines as lines
@@ -19,8 +21,9 @@ use Rattle.evl_kernel.specs.settling.Paths.{Along}
 use Rattle.evl_kernel.specs.state.States.{State}
 use Rattle.evl_kernel.specs.state.Callbacks.{Whereabouts, BringsNone}
 use Rattle.evl_kernel.specs.settling.Fires.{Called, AllCalled}
-use Rattle.evl_kernel.specs.settling.Settling.{Settling, Plays, next_play, after_call}
+use Rattle.evl_kernel.specs.settling.Settling.{Settling, Settles, Plays, next_play, after_call}
 use Rattle.evl_kernel.specs.settling.Settled.{Appends, settling, left_after}
+use Rattle.evl_kernel.specs.declared.bank.Numbered.{Numbered}
 use Rattle.evl_kernel.specs.state.Records.{RecordsView, state_of, number_of}
 use Rattle.evl_clock.specs.Clocks.{IsSoundClock}
 use Rattle.evl_clock.proofs.DueLaws.{few}
@@ -50,8 +53,44 @@ stalled_next p eligible inband stalled = rw stalled (by (least p.oob.pending) (i
     by (Some n) true true = refl
     by (Some n) true false = refl
 
+-- where an out-of-band line pends, it makes no difference whether a thread holds in-band lines back
+pub oob_goes_first : {X : Type 0} (p : lines.Pipeline X) (eligible inband : Bool) → is_none (least p.oob.pending) ≡ false → lines.next_line p false inband ≡ lines.next_line p eligible inband
+oob_goes_first p eligible inband pends = by (least p.oob.pending) (is_some (least p.inband.pending)) p.oob.stalled p.inband.stalled pends
+  where
+    by : (o : Option ℕ) (there held other : Bool) → is_none o ≡ false
+        → (if is_some o && not held then option_map {U = Stage × ℕ} (λ line. (Oob, line)) o
+        else (if there && not other && not held && is_none o && not false && inband then option_map {U = Stage × ℕ} (λ line. (Inband, line)) (least p.inband.pending) else None))
+        ≡ (if is_some o && not held then option_map {U = Stage × ℕ} (λ line. (Oob, line)) o
+        else (if there && not other && not held && is_none o && not eligible && inband then option_map {U = Stage × ℕ} (λ line. (Inband, line)) (least p.inband.pending) else None))
+    by None there held other pends = absurd (false≢true (sym pends))
+    by (Some n) there false other pends = refl
+    by (Some n) false true other pends = refl
+    by (Some n) true true false pends = refl
+    by (Some n) true true true pends = refl
+
+-- what is played depends on who holds back only by which line is next
+pub plays_as : {C : Type 0} (declared : C → ℕ) (plan : C → Plan) (gives : C → Fire → Answer → Type 0) (r : RecordsView C) (held : Bool) (inband now : ℕ) (ran : Option Ran) (q : lines.Pipeline (Numbered C))
+    → ((more : Bool) → lines.next_line r.lines held more ≡ lines.next_line r.lines (is_anyone_eligible r.sched.sched) more)
+    → lines.Plays (λ (n : Numbered C). declared n.callback) (λ (n : Numbered C). plan n.callback) (λ (n : Numbered C). gives n.callback) r.lines held (nat_lt inband inband_limit) now ran q → lines.Plays (λ (n : Numbered C). declared n.callback) (λ (n : Numbered C). plan n.callback) (λ (n : Numbered C). gives n.callback) r.lines (is_anyone_eligible r.sched.sched) (nat_lt inband inband_limit) now ran q
+plays_as declared plan gives r held inband now None q same (none, kept) = (sym (same (nat_lt inband inband_limit)) ∙ none, kept)
+plays_as declared plan gives r held inband now (Some ran.Clock) q same (clock, after) = (sym (same (nat_lt inband inband_limit)) ∙ clock, after)
+plays_as declared plan gives r held inband now (Some (ran.Line fire answer)) q same so = record {
+  stage = so.stage;
+  line = so.line;
+  chosen = sym (same (nat_lt inband inband_limit)) ∙ so.chosen;
+  not_clock = so.not_clock;
+  below = so.below;
+  at = so.at;
+  stands = so.stands;
+  fire_is = so.fire_is;
+  called = so.called;
+  answered = so.answered;
+  after = so.after;
+  sound = so.sound;
+}
+
 -- where nothing pends, nothing is playable
-idle_next : {X : Type 0} (p : lines.Pipeline X) (eligible inband : Bool) → (is_none (least p.oob.pending) && is_none (least p.inband.pending)) ≡ true → lines.next_line p eligible inband ≡ None
+pub idle_next : {X : Type 0} (p : lines.Pipeline X) (eligible inband : Bool) → (is_none (least p.oob.pending) && is_none (least p.inband.pending)) ≡ true → lines.next_line p eligible inband ≡ None
 idle_next p eligible inband idle = by (least p.oob.pending) (least p.inband.pending) p.oob.stalled p.inband.stalled idle
   where
     by : (o i : Option ℕ) (held other : Bool) → (is_none o && is_none i) ≡ true
@@ -135,6 +174,15 @@ module _ {C : Type 0} (gives : C → Fire → Answer → Type 0) (w : Whereabout
   idle_settles declared plan r before idle =
       settled_now r r 0 false before before (plays_on-none (settling r 0 false) before)
       (line_behind r 0 false (λ e. absurd (false≢true e)) ∙ none_next declared plan r 0 (idle_next r.lines (is_anyone_eligible r.sched.sched) (nat_lt 0 inband_limit) idle)) (omega arith)
+
+-- where nothing pends, it has settled already
+pub idle_settled : {C : Type 0} (declared : C → ℕ) (plan : C → Plan) (r : RecordsView C) → (is_none (least r.lines.oob.pending) && is_none (least r.lines.inband.pending)) ≡ true → Settles (state_of r) [] (state_of r)
+idle_settled declared plan r idle = record {
+  last = settling r 0 false;
+  played = refl;
+  ended = line_behind r 0 false (λ e. absurd (false≢true e)) ∙ none_next declared plan r 0 (idle_next r.lines (is_anyone_eligible r.sched.sched) (nat_lt 0 inband_limit) idle);
+  left = refl;
+}
 
 -- few plays are left after a call
 pub left_at_first : {C : Type 0} (r : RecordsView C) → lines.IsSoundPipeline r.lines → IsSoundClock r.clock → left_after (state_of r) 0 ≤ play_limit

@@ -6,7 +6,7 @@ use Rattle.evl_pipeline.specs.Lines.{Pipeline}
 use Rattle.evl_kernel.specs.declared.bank.BankPlace.{BankPlace}
 use Rattle.evl_kernel.specs.declared.bank.Numbered.{Numbered}
 use Rattle.evl_kernel.specs.state.States.{Handler}
-use Rattle.evl_kernel.specs.state.Callbacks.{Whereabouts, BringsNone, AnswersByPlan, AreFilled, handler_of}
+use Rattle.evl_kernel.specs.state.Callbacks.{Whereabouts, BringsNone, AnswersByPlan, AreFilled, handler_of, handlers_in}
 use Rattle.evl_kernel.specs.state.Records.{RecordsView, state_of, whereabouts, number_of, kinds_at, AreAllowed, KeepsCallbacks}
 use Rattle.evl_kernel.proofs.waiting.StandingLaws.{OnlyOld}
 use Rattle.evl_kernel.proofs.state.RenamedLaws.{old-renamed}
@@ -34,6 +34,10 @@ module _ {C : Type 0} where
   allowed-old r q only allowed stage line at h =
       let was = old-renamed number_of r.lines q only stage line at h in
       subst (λ (n : ℕ). is_allowed stage (kinds_at (state_of r) n) ≡ true) (sym was.2) (allowed stage line was.0 was.1)
+
+  -- callbacks that stay where they are declare and answer what they did
+  pub handlers-stand : (r s : RecordsView C) → whereabouts s ≡ whereabouts r → handlers_in s.bank ≡ handlers_in r.bank
+  handlers-stand r s stands = ap (λ (w : Whereabouts C). handlers_in w.bank) stands
 
   pub keeps-none : (r : RecordsView C) → KeepsCallbacks r r
   keeps-none r = record { brings = λ number callback stands. stands; handlers_are = refl }

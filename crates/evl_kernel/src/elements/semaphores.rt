@@ -1,5 +1,5 @@
 //! The steps of semaphores that calls and actions ask for.
-ghost use Rattle.std.specs.Prelude.{◌≡◌, Ok, Err, IfErr, IfOk};
+ghost use Rattle.std.specs.Prelude.{◌≡◌, true, false, [], Ok, Err, IfErr, IfOk};
 ghost use Rattle.evl_sync.specs.Queues.{number_of};
 ghost use Rattle.evl_kernel.specs.calls.Elements.{element, on_sem, wakes};
 ghost use Rattle.evl_kernel.specs.state.ElementsViews.{owners_of};
@@ -39,6 +39,18 @@ impl<A: Allocator> Elements<A> {
             return Err(Refusal::Unknown);
         }
         self.sems[place].put()
+    }
+
+    /// Raises a count where nobody waits and it may rise, and says whether it did; nothing changes else.
+    #[inline(always)]
+    pub(crate) fn raise_count(&mut self, sem: SemId) -> bool
+        ensures step { result ≡ true → element self.old.elements (on_sem sem.0 semaphore.put) ≡ Ok (Reply.Done, self.new.elements) }
+        ensures nobody { result ≡ true → wakes self.old.elements (on_sem sem.0 semaphore.put) ≡ [] }
+        ensures owners { owners_of self.new ≡ owners_of self.old }
+        ensures kept { result ≡ false → self.new ≡ self.old }
+    {
+        let place = usize::from(sem.0);
+        place < self.sems.len() && self.sems[place].raise()
     }
 
     /// Tells a count, or minus the number of waiters. `Unknown` where there is no such semaphore.

@@ -1,6 +1,8 @@
 //! Settling: one play after another until nothing is playable.
-ghost use Rattle.std.specs.Prelude.{◌≡◌, ◌+◌, ◌≤◌, ◌<◌, ◌*◌, ◌-◌, false, None, Some, IfSome, IfNone, length, vec_len, vec_capacity};
+ghost use Rattle.std.specs.Prelude.{◌≡◌, ◌+◌, ◌≤◌, ◌<◌, ◌*◌, ◌-◌, Bool, false, None, Some, IfSome, IfNone, length, vec_len, vec_capacity};
 ghost use Rattle.evl_clock.specs.Dues.{next_due};
+ghost use Rattle.evl_pipeline.specs.Lines as lines;
+ghost use Rattle.evl_sched.specs.Picks.{is_anyone_eligible};
 ghost use Rattle.evl_kernel.specs.state.Callbacks.{AnswersByPlan};
 ghost use Rattle.evl_kernel.specs.state.Records.{KeepsCallbacks, state_of, whereabouts};
 ghost use Rattle.evl_kernel.specs.settling.Fires.{Called};
@@ -57,6 +59,20 @@ impl<C: Drop, A: Allocator> Records<C, A> {
     }
 }
 
+impl<C, A: Allocator> Records<C, A> {
+    // Whether an eligible thread holds in-band lines back. Where an out-of-band line pends, which goes first, no thread
+    // is looked at.
+    #[inline(always)]
+    fn is_held_back(&self) -> bool
+        ensures held { (inband : Bool) → lines.next_line self.now.lines result inband ≡ lines.next_line self.now.lines (is_anyone_eligible self.now.sched.sched) inband }
+    {
+        if !self.pipeline.is_idle_on(Stage::Oob) {
+            return false;
+        }
+        self.sched.eligible()
+    }
+}
+
 impl<C: Handler, A: Allocator> Records<C, A> {
     // Plays the next due item of the clock, if something is due.
     #[inline(never)]
@@ -102,9 +118,12 @@ impl<C: Handler, A: Allocator> Records<C, A> {
         ensures ended { IfNone result ((line_goes (settling self.old inband false) ≡ None) × (self.new ≡ self.old)) }
         ensures stands { KeepsCallbacks self.old self.new }
     {
+        if self.pipeline.is_idle() {
+            return None;
+        }
         let date = self.date();
-        let eligible = self.sched.eligible();
-        match self.pipeline.next(eligible, inband < MAX_INBAND, date) {
+        let held = self.is_held_back();
+        match self.pipeline.next(held, inband < MAX_INBAND, date) {
             None => None,
             Some(Ran::Clock) => Some(Play::Clock),
             Some(Ran::Line { fire, answer }) => {
