@@ -1,5 +1,6 @@
 mod CallLaws
 mod HeadLaws
+mod HtmlLaws
 mod KeyLaws
 mod LaneLaws
 mod PictureLaws

@@ -14,29 +14,29 @@ use Rattle.lab_drawing.specs.declared.moments.Condition.{Condition}
 use Rattle.lab_drawing.specs.declared.moments.Condition.TheVariants.{Inband, Blocked, Ready, Picked, Stalled, Pending, Owned, Handed, Runs, Oob, Claimed, Taken}
 use Rattle.lab_drawing.specs.declared.ties.TieEnd.TheVariants.{Arrives, Merges, Lost}
 
-abbrev pub opening_across : ℕ → ℕ → List ℕ
-opening_across width height =
-    codes "<svg xmlns=\"http://www.w3.org/2000/svg\" width=\"" ++ (decimal width ++ (codes "\" height=\"" ++ (decimal height ++ (codes "\" viewBox=\"0 0 "
-    ++ (decimal width ++ (codes " " ++ (decimal height
-    ++ codes "\" font-family=\"DejaVu Sans Mono, monospace\" font-size=\"9\">\n<rect width=\"100%\" height=\"100%\" fill=\"#ffffff\"/>\n")))))))
-
--- how a picture that goes down looks on a dark screen, and its background
+-- how a picture looks on a dark screen, and its background
 abbrev pub dark_text : List ℕ
 dark_text =
     codes "<style>@media screen and (prefers-color-scheme:dark){[fill=\"#ffffff\"]{fill:#14181d}text,[fill=\"#202020\"]{fill:#e8e8e8}"
     ++ (codes "[fill=\"#1f5fa8\"]{fill:#7db4f0}[stroke=\"#1f5fa8\"]{stroke:#7db4f0}[fill=\"#b3261e\"]{fill:#ff8a80}[stroke=\"#b3261e\"]{stroke:#ff8a80}"
     ++ codes "[fill=\"#5c4300\"]{fill:#e6c46a}[stroke=\"#5c4300\"]{stroke:#e6c46a}[stroke=\"#8a6d00\"]{stroke:#e6c46a}[fill=\"#5f6b7a\"]{fill:#a9b4c2}[stroke=\"#5f6b7a\"]{stroke:#a9b4c2}}</style>\n<rect width=\"100%\" height=\"100%\" fill=\"#ffffff\"/>\n")
 
+-- its size
+abbrev pub sized_across : ℕ → ℕ → List ℕ
+sized_across width height =
+    codes "<svg xmlns=\"http://www.w3.org/2000/svg\" width=\"" ++ (decimal width ++ (codes "\" height=\"" ++ (decimal height ++ (codes "\" viewBox=\"0 0 "
+    ++ (decimal width ++ (codes " " ++ (decimal height ++ codes "\" font-family=\"DejaVu Sans Mono, monospace\" font-size=\"9\">\n")))))))
+
 abbrev pub sized_down : ℕ → ℕ → List ℕ
 sized_down width height =
     codes "<svg xmlns=\"http://www.w3.org/2000/svg\" width=\"" ++ (decimal width ++ (codes "\" height=\"" ++ (decimal height ++ (codes "\" viewBox=\"0 0 "
     ++ (decimal width ++ (codes " " ++ (decimal height ++ codes "\" font-family=\"DejaVu Sans Mono, monospace\" font-size=\"10\">\n")))))))
 
-abbrev pub opening_down : ℕ → ℕ → List ℕ
-opening_down width height = sized_down width height ++ dark_text
+abbrev pub sized_text : Goes → ℕ → ℕ → List ℕ
+sized_text goes width height = by_way goes (sized_across width height) (sized_down width height)
 
 abbrev pub opening_text : Goes → ℕ → ℕ → List ℕ
-opening_text goes width height = by_way goes (opening_across width height) (opening_down width height)
+opening_text goes width height = sized_text goes width height ++ dark_text
 
 -- ---- signs: a drawing, and the word that says what it means
 

@@ -1,8 +1,10 @@
+pub mod Callbacks
 pub mod Calls
 pub mod Drawings
 pub mod Events
 pub mod Frames
 pub mod Heads
+pub mod Html
 pub mod Lanes
 pub mod Marks
 pub mod Named

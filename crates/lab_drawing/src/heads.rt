@@ -20,13 +20,31 @@ const CHARACTER: usize = 6;
 pub fn opening(alloc: Global, goes: Goes, width: usize, height: usize) -> Result<String, AllocError>
     ensures { IfOk result (λ text. string_bytes text ≡ opening_text goes width height) }
 {
+    let mut text = sized(alloc, goes, width, height)?;
+    put_dark(&mut text)?;
+    Ok(text)
+}
+
+// Its size.
+fn sized(alloc: Global, goes: Goes, width: usize, height: usize) -> Result<String, AllocError>
+    ensures { IfOk result (λ text. string_bytes text ≡ heads.sized_text goes width height) }
+{
     match goes {
-        Goes::Across => opening_across(alloc, width, height),
-        Goes::Down => opening_down(alloc, width, height),
+        Goes::Across => sized_across(alloc, width, height),
+        Goes::Down => sized_down(alloc, width, height),
     }
 }
 
-// Its size, in a picture that goes down.
+// That of a picture that goes across.
+fn sized_across(alloc: Global, width: usize, height: usize) -> Result<String, AllocError>
+    ensures { IfOk result (λ text. string_bytes text ≡ heads.sized_across width height) }
+{
+    format!(in alloc;
+        "<svg xmlns=\"http://www.w3.org/2000/svg\" width=\"{width}\" height=\"{height}\" viewBox=\"0 0 {width} {height}\" font-family=\"DejaVu Sans Mono, monospace\" font-size=\"9\">\n"
+    )
+}
+
+// That of one that goes down.
 fn sized_down(alloc: Global, width: usize, height: usize) -> Result<String, AllocError>
     ensures { IfOk result (λ text. string_bytes text ≡ heads.sized_down width height) }
 {
@@ -49,24 +67,6 @@ fn put_dark(text: &mut String) -> Result<(), AllocError>
         "[fill=\"#5c4300\"]{fill:#e6c46a}[stroke=\"#5c4300\"]{stroke:#e6c46a}[stroke=\"#8a6d00\"]{stroke:#e6c46a}[fill=\"#5f6b7a\"]{fill:#a9b4c2}[stroke=\"#5f6b7a\"]{stroke:#a9b4c2}}</style>\n<rect width=\"100%\" height=\"100%\" fill=\"#ffffff\"/>\n",
     )?;
     Ok(())
-}
-
-// That of one that goes down.
-fn opening_down(alloc: Global, width: usize, height: usize) -> Result<String, AllocError>
-    ensures { IfOk result (λ text. string_bytes text ≡ heads.opening_down width height) }
-{
-    let mut text = sized_down(alloc, width, height)?;
-    put_dark(&mut text)?;
-    Ok(text)
-}
-
-// That of one that goes across.
-fn opening_across(alloc: Global, width: usize, height: usize) -> Result<String, AllocError>
-    ensures { IfOk result (λ text. string_bytes text ≡ heads.opening_across width height) }
-{
-    format!(in alloc;
-        "<svg xmlns=\"http://www.w3.org/2000/svg\" width=\"{width}\" height=\"{height}\" viewBox=\"0 0 {width} {height}\" font-family=\"DejaVu Sans Mono, monospace\" font-size=\"9\">\n<rect width=\"100%\" height=\"100%\" fill=\"#ffffff\"/>\n"
-    )
 }
 
 // Where the next sign stands, with so much room beside the word.

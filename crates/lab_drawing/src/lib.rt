@@ -3,6 +3,7 @@
 #![tactic(auto)]
 
 mod beside;
+mod callbacks;
 mod dates;
 mod downwards;
 mod drawings;
@@ -10,12 +11,14 @@ mod escapes;
 mod events;
 mod frames;
 mod heads;
+mod html;
 mod labels;
 mod lanes;
 mod marks;
 mod moments;
 mod pages;
 mod rows;
+mod snapshots;
 mod strips;
 mod svg;
 mod tables;
@@ -25,13 +28,17 @@ mod told;
 mod waits;
 mod words;
 
+pub use callbacks::missing_callback;
+pub use dates::date_text;
 pub use downwards::own_rank;
 pub use frames::{Goes, lanes_of};
+pub use html::write_html;
 pub use lanes::Lane;
 pub use marks::{Mark, Shape, marks_of};
 pub use moments::{Condition, Moment, Standing};
-pub use pages::{PAGE, page, page_count, page_moments};
+pub use pages::{PAGE, page, page_count, page_moments, page_snapshots};
 pub use rows::write_rows;
+pub use snapshots::{Cell, Place, Snapshot, put_cell};
 pub use svg::{write_down, write_svg, write_told, write_told_down};
 pub use tables::write_table;
 pub use told::told_moments;

@@ -3,4 +3,5 @@ pub mod HandedLaws
 pub mod LenderLaws
 pub mod PendingLaws
 mod RunLaws
+mod SnapLaws
 mod WithinLaws

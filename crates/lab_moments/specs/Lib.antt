@@ -1,3 +1,5 @@
 pub mod Asked
+pub mod Cells
 pub mod Moments
+pub mod Snapshots
 pub mod Standings
