@@ -13,10 +13,11 @@ _lab() {
         check) words="--bank --help" ;;
         play) words="--bank --limit --json --against --help" ;;
         convert) words="--lines --toml --help" files='*.@(toml|trace|txt)' ;;
-        live | callers) words="--bank --limit --help" ;;
+        live) words="--bank --limit --prompt --help" ;;
+        callers) words="--bank --limit --help" ;;
         orders) words="--bank --most --outcome --help" ;;
         help) mapfile -t COMPREPLY < <(compgen -W "$("${COMP_WORDS[0]}" help 2>/dev/null | cut -d' ' -f2)" -- "$word"); return ;;
-        draw) words="--svg --perfetto --csv --lanes --down --across --upto --page --help" files='*.@(toml|trace)' ;;
+        draw) words="--bank --svg --html --perfetto --csv --lanes --down --across --upto --page --help" files='*.@(toml|trace)' ;;
         *) words=--help ;;
     esac
     case $word in

@@ -22,6 +22,10 @@ number_rule name most = record (new_rule name) { long = Some name; value_names =
 abbrev pub mark_rule : Text → Rule
 mark_rule name = record (new_rule name) { long = Some name; action = Some SetTrue; is_free = false }
 
+-- nothing stands behind it
+abbrev pub free_rule : Text → Rule
+free_rule name = record (new_rule name) { long = Some name; action = Some SetTrue }
+
 -- one without a name
 abbrev pub one_rule : Text → Rule
 one_rule name = record (new_rule name) { action = Some Set }
@@ -49,7 +53,7 @@ check_part = part (codes "check") (bank_rule ∷ record (several_rule (codes "FI
 
 unfoldable pub draw_part : Shape
 draw_part =
-    part (codes "draw") (mark_rule (codes "svg") ∷ mark_rule (codes "perfetto") ∷ mark_rule (codes "csv") ∷ mark_rule (codes "lanes")
+    part (codes "draw") (bank_rule ∷ mark_rule (codes "svg") ∷ mark_rule (codes "html") ∷ mark_rule (codes "perfetto") ∷ mark_rule (codes "csv") ∷ mark_rule (codes "lanes")
     ∷ mark_rule (codes "down") ∷ mark_rule (codes "across") ∷ number_rule (codes "upto") (pos 1000000) ∷ number_rule (codes "page") (pos 1000000) ∷ file_rule ∷ [])
 
 unfoldable pub play_part : Shape
@@ -59,7 +63,7 @@ unfoldable pub convert_part : Shape
 convert_part = part (codes "convert") (mark_rule (codes "lines") ∷ mark_rule (codes "toml") ∷ file_rule ∷ [])
 
 unfoldable pub live_part : Shape
-live_part = part (codes "live") (bank_rule ∷ limit_rule ∷ file_rule ∷ [])
+live_part = part (codes "live") (bank_rule ∷ limit_rule ∷ free_rule (codes "prompt") ∷ file_rule ∷ [])
 
 unfoldable pub orders_part : Shape
 orders_part =

@@ -6,7 +6,7 @@ use Rattle.clap.specs.Words.{first_value, one_text}
 use Rattle.clap.specs.declared.parser.matches.Found.{Found}
 use Rattle.evl_shell.specs.Arguments.{number_of}
 use Rattle.lab.specs.declared.words.Form.{Form}
-use Rattle.lab.specs.declared.words.Form.TheVariants.{Svg, Events, Table, Rows}
+use Rattle.lab.specs.declared.words.Form.TheVariants.{Svg, Html, Events, Table, Rows}
 use Rattle.lab.specs.declared.words.Way.{Way}
 use Rattle.lab.specs.declared.words.Way.TheVariants.{Down, Across, Fitting}
 use Rattle.lab.specs.declared.words.Telling.{Telling}
@@ -26,6 +26,7 @@ form_of found =
     if is_set found (codes "perfetto") then Events
     else if is_set found (codes "csv") then Table
     else if is_set found (codes "lanes") then Rows
+    else if is_set found (codes "html") then Html
     else Svg
 
 -- the way that a picture goes, by the word that stands there

@@ -3,7 +3,7 @@ ghost use Rattle.std.specs.Prelude.{◌≡◌, true, map, pos, codes, IfOk, IfEr
 ghost use Rattle.clap.specs.Words.{app_of, kind_of, subcommand_of, subcommand_rows_of, takes};
 ghost use Rattle.clap.specs.declared.builder.value_parser.ValueParser.TheVariants.{Signed};
 ghost use Rattle.clap.specs.declared.error.kind.ErrorKind.TheVariants.{OutOfMemory};
-ghost use Rattle.lab.specs.Grammar.{IsPart, IsWord, bank_rule, callers_part, check_part, convert_part, draw_part, file_rule, grammar, help_part, limit_rule, live_part, mark_rule, number_rule, one_rule, orders_part, play_part, several_rule, text_rule};
+ghost use Rattle.lab.specs.Grammar.{IsPart, IsWord, bank_rule, callers_part, check_part, convert_part, draw_part, file_rule, free_rule, grammar, help_part, limit_rule, live_part, mark_rule, number_rule, one_rule, orders_part, play_part, several_rule, text_rule};
 
 use clap::builder::ValueParser;
 use clap::{Arg, ArgAction, ArgMatches, Command, Error, value_parser};
@@ -47,7 +47,7 @@ fn check_command<'a>(alloc: Global) -> Result<Command<'a>, AllocError>
 fn form_word<'a>(
     alloc: Global,
     name: &'a str,
-    others: (&'a str, &'a str, &'a str),
+    others: (&'a str, &'a str, &'a str, &'a str),
     help: &'a str,
 ) -> Result<Arg<'a>, AllocError>
     ensures { IfOk result (IsWord (mark_rule name.entry.now)) }
@@ -58,7 +58,8 @@ fn form_word<'a>(
         .help(help)
         .conflicts_with(others.0)?
         .conflicts_with(others.1)?
-        .conflicts_with(others.2)
+        .conflicts_with(others.2)?
+        .conflicts_with(others.3)
 }
 
 // The form that is drawn where none is named.
@@ -66,7 +67,16 @@ fn svg_word<'a>(alloc: Global) -> Result<Arg<'a>, AllocError>
     ensures { IfOk result (IsWord (mark_rule (codes "svg"))) }
 {
     let help = "As SVG, which is the form where none is named";
-    form_word(alloc, "svg", ("perfetto", "csv", "lanes"), help)
+    form_word(alloc, "svg", ("html", "perfetto", "csv", "lanes"), help)
+}
+
+// The form for a projector.
+fn html_word<'a>(alloc: Global) -> Result<Arg<'a>, AllocError>
+    ensures { IfOk result (IsWord (mark_rule (codes "html"))) }
+{
+    let help =
+        "As a page for a browser: the SVG, a slider over its steps, and the machine behind each";
+    form_word(alloc, "html", ("svg", "perfetto", "csv", "lanes"), help)
 }
 
 // The form for viewers of timelines.
@@ -74,7 +84,7 @@ fn perfetto_word<'a>(alloc: Global) -> Result<Arg<'a>, AllocError>
     ensures { IfOk result (IsWord (mark_rule (codes "perfetto"))) }
 {
     let help = "As trace events in JSON, for a viewer of timelines";
-    form_word(alloc, "perfetto", ("svg", "csv", "lanes"), help)
+    form_word(alloc, "perfetto", ("svg", "html", "csv", "lanes"), help)
 }
 
 // The form for tables.
@@ -82,7 +92,7 @@ fn csv_word<'a>(alloc: Global) -> Result<Arg<'a>, AllocError>
     ensures { IfOk result (IsWord (mark_rule (codes "csv"))) }
 {
     let help = "As comma-separated values";
-    form_word(alloc, "csv", ("svg", "perfetto", "lanes"), help)
+    form_word(alloc, "csv", ("svg", "html", "perfetto", "lanes"), help)
 }
 
 // The form for a terminal.
@@ -90,7 +100,7 @@ fn lanes_word<'a>(alloc: Global) -> Result<Arg<'a>, AllocError>
     ensures { IfOk result (IsWord (mark_rule (codes "lanes"))) }
 {
     let help = "As rows of characters";
-    form_word(alloc, "lanes", ("svg", "perfetto", "csv"), help)
+    form_word(alloc, "lanes", ("svg", "html", "perfetto", "csv"), help)
 }
 
 // Which way a picture goes, which goes with no other.
@@ -170,8 +180,10 @@ fn draw_command<'a>(alloc: Global) -> Result<Command<'a>, AllocError>
     let command = Command::new(alloc, "draw").about(
         "Draws a trace: a mark for each call and each play",
     );
-    let with_one = command.arg(svg_word(alloc)?)?;
-    let with_two = with_one.arg(perfetto_word(alloc)?)?;
+    let over_bank = command.arg(bank_word(alloc))?;
+    let with_one = over_bank.arg(svg_word(alloc)?)?;
+    let with_html = with_one.arg(html_word(alloc)?)?;
+    let with_two = with_html.arg(perfetto_word(alloc)?)?;
     let with_three = with_two.arg(csv_word(alloc)?)?;
     let with_four = with_three.arg(lanes_word(alloc)?)?;
     let with_down = with_four.arg(down_word(alloc)?)?;
@@ -299,6 +311,16 @@ fn first_file<'a>(alloc: Global) -> Arg<'a>
         .help("The scenario whose board and steps come first")
 }
 
+// Whether lines are prompted for.
+fn prompt_word<'a>(alloc: Global) -> Arg<'a>
+    ensures { IsWord (free_rule (codes "prompt")) result }
+{
+    Arg::new(alloc, "prompt")
+        .long("prompt")
+        .action(ArgAction::SetTrue)
+        .help("A prompt on standard error before each line, which ./lab asks for on a terminal")
+}
+
 // The words of `live`.
 fn live_command<'a>(alloc: Global) -> Result<Command<'a>, AllocError>
     ensures { IfOk result (IsPart live_part) }
@@ -308,7 +330,8 @@ fn live_command<'a>(alloc: Global) -> Result<Command<'a>, AllocError>
     );
     let over_bank = command.arg(bank_word(alloc))?;
     let with_limit = over_bank.arg(limit_word(alloc))?;
-    let with_file = with_limit.arg(first_file(alloc))?;
+    let prompted = with_limit.arg(prompt_word(alloc))?;
+    let with_file = prompted.arg(first_file(alloc))?;
     Ok(with_file)
 }
 

@@ -2,7 +2,7 @@
 ghost use Rattle.std.specs.Prelude.{◌≡◌, ◌++◌, false, codes, decimal, IfErr, IfOk, OnOk, IsSomeAnd};
 ghost use Rattle.std.specs.Io.KnownBytes.{Appends};
 ghost use Rattle.evl_scenario.specs.Lines.{line_feed};
-ghost use Rattle.lab.specs.Draws.{fault_words, neither_text, no_page_text, page_text, undrawn_text};
+ghost use Rattle.lab.specs.Draws.{fault_words, missing_text, neither_text, no_page_text, page_text, undrawn_text};
 ghost use Rattle.lab.specs.Endings.{kinded_words, line_about};
 ghost use Rattle.lab.specs.Streams.{EndsEarly};
 
@@ -36,6 +36,20 @@ pub fn tell_page<E: Stream>(err: &mut E, number: u32, all: usize) -> io::Result<
         return Ok(());
     }
     writeln!(err, "lab: page {number} of {all}")
+}
+
+/// Tells of a callback that a call names and that a bank of so many hasn't, where there is one.
+pub fn tell_missing<E: Stream>(err: &mut E, missing: Option<u16>, count: usize) -> io::Result<()>
+    ensures text { OnOk result (Appends (E.contents err.old) (E.contents err.new) (missing_text count missing)) }
+    ensures early { IfErr result (EndsEarly false false (E.has_failed err.new)) }
+{
+    let Some(number) = missing else {
+        return Ok(());
+    };
+    writeln!(
+        err,
+        "lab: a call names callback {number}, and the bank has {count}: --bank BANK draws over another"
+    )
 }
 
 // Tells which line of a text is none of a trace, and what is wrong with it as a scenario.

@@ -1,36 +1,36 @@
 //! `lab draw`: the picture of a trace, of a scenario, which is played, or of what `lab callers` tells.
-ghost use Rattle.std.specs.Prelude.{◌≡◌, ◌++◌, codes, length, take, None, Ok, option_map, unwrap_or, IfErr, IfOk, OnOk, false};
+ghost use Rattle.std.specs.Prelude.{◌≡◌, ◌≤◌, ◌++◌, codes, length, map, take, None, option_map, unwrap_or, IfErr, IfOk, OnOk, false};
 ghost use Rattle.std.specs.Str.{is_utf8};
 ghost use Rattle.std.specs.Io.KnownBytes.{Appends};
-ghost use Rattle.evl_bank.specs.Bank.{program_bank};
-ghost use Rattle.evl_plans.specs.Traces.{Refuses};
+ghost use Rattle.evl_plans.specs.Told.{handler_of};
 ghost use Rattle.evl_scenario.specs.Lines.{line_feed};
 ghost use Rattle.evl_shell.specs.Runs as runs;
 ghost use Rattle.lab.specs.Draws as draws;
-ghost use Rattle.lab.specs.Draws.{AreMomentsOf, DrawsGiven, DrawsIf, DrawsLines, DrawsMarks, DrawsPage, DrawsPlayed, DrawsRead, DrawsSvg, DrawsText, DrawsTrace, DrawsWhole, IsPicture, first_of, goes_for, origin_of};
+ghost use Rattle.lab.specs.Draws.{AreMomentsOf, Draws, DrawsGiven, DrawsIf, DrawsLines, DrawsMade, DrawsMarks, DrawsOver, DrawsPage, DrawsPlayed, DrawsRead, DrawsSvg, DrawsText, DrawsWhole, IsPicture, first_of, goes_for, origin_of};
 ghost use Rattle.lab_drawing.specs.Pictures.{going_text, shown_with};
 ghost use Rattle.lab_drawing.specs.declared.frames.Shows.TheVariants.{Words};
 ghost use Rattle.lab.specs.Outputs.{Writes, WritesOfText};
 ghost use Rattle.lab.specs.Texts as texts;
 ghost use Rattle.lab.specs.Streams.{EndsEarly};
 
+use crate::banks::read_plans;
 use crate::converts::tell_place;
-use crate::draw_faults::{tell_neither, tell_no_page, tell_page, tell_undrawn};
+use crate::draw_faults::{tell_missing, tell_neither, tell_no_page, tell_page, tell_undrawn};
+use crate::draw_html::drawn_of;
 use crate::endings::{put, tell_unread};
-use crate::statuses::refused;
+use crate::statuses::{AT_FAULT, refused};
 use crate::streams::Stream;
 use crate::texts::{called, read_text, text_in, with_line_feed};
 use crate::words::{Drawing, Form, Way};
-use evl_plans::trace_plans;
-use evl_scenario::Fault;
+use evl_plans::{Planned, trace_plans};
 use lab_drawing::{
-    Goes, Mark, Moment, lanes_of, marks_of, page, page_count, page_moments, told_moments,
-    write_down, write_rows, write_svg, write_table, write_told, write_told_down,
+    Goes, Mark, Moment, lanes_of, marks_of, missing_callback, page, page_count, page_moments,
+    told_moments, write_down, write_rows, write_svg, write_table, write_told, write_told_down,
 };
 use lab_kinds::kind_of;
 use lab_lines::plain_text;
 use lab_moments::moments_of;
-use lab_reports::{program_plans, write_events};
+use lab_reports::write_events;
 use lab_traces::{Misread, TraceLine, read_lines};
 use std::alloc::{AllocError, Global};
 use std::io::{self, Read};
@@ -39,25 +39,32 @@ use std::rt::Files;
 // What stands between the lines of callers and what is told of their machine's end.
 const CLOSING: &str = "\nclose -> ";
 
-// What marks come from: a trace alone, a scenario that was played, or the lines of callers.
-#[derive(Clone, Copy, PartialEq, Eq, Debug)]
-enum Source<'a> {
+/// What marks come from: a trace alone, a scenario that was played over these callbacks, or the lines of callers.
+#[derive(Clone, Copy)]
+pub(crate) enum Source<'a> {
     Trace,
-    Scenario(&'a str),
+    Scenario(&'a [Planned], &'a str),
     Callers,
 }
 
-// How the lanes of marks stand after each step of a scenario, over the program's callbacks.
+// What is asked for, and the callbacks that a scenario is played over.
+#[derive(Clone, Copy, Drop)]
+struct View<'a> {
+    drawing: Drawing,
+    bank: &'a [Planned],
+}
+
+// How the lanes of marks stand after each step of a scenario over these callbacks.
 fn scenario_moments(
     alloc: Global,
     marks: &[Mark<'_>],
+    bank: &[Planned],
     text: &str,
 ) -> Result<Vec<Moment>, AllocError>
-    ensures { IfOk result (λ moments. AreMomentsOf (draws.scenario text.now) marks.now moments.items) }
+    ensures { IfOk result (λ moments. AreMomentsOf (draws.scenario (map handler_of bank.now) text.now) marks.now moments.items) }
 {
     let lanes = lanes_of(alloc, marks)?;
-    let plans = program_plans(alloc)?;
-    moments_of(alloc, plans.as_slice(), text.as_bytes(), lanes.as_slice())
+    moments_of(alloc, bank, text.as_bytes(), lanes.as_slice())
 }
 
 // How the lanes of marks stand after each entry, as far as their source tells it.
@@ -70,7 +77,7 @@ fn known_moments(
 {
     match source {
         Source::Trace => Ok(Vec::new(alloc)),
-        Source::Scenario(text) => scenario_moments(alloc, marks, text),
+        Source::Scenario(bank, text) => scenario_moments(alloc, marks, bank, text),
         Source::Callers => told_moments(alloc, marks),
     }
 }
@@ -120,8 +127,8 @@ fn known_picture(
     }
 }
 
-// The picture of a page of marks, from 0, that goes this way.
-fn picture_of(
+/// The picture of a page of marks, from 0, that goes this way. `AllocError` where memory couldn't grow.
+pub(crate) fn picture_of(
     alloc: Global,
     marks: &[Mark<'_>],
     source: Source<'_>,
@@ -154,7 +161,7 @@ fn draw_page<O: Stream, E: Stream>(
     tell_page(err, drawing.page, all)?;
     let goes = goes_for(drawing.way, marks.len());
     let number = (drawing.page as usize).saturating_sub(1);
-    match picture_of(alloc, marks, source, goes, number) {
+    match drawn_of(alloc, marks, source, drawing.form, goes, number) {
         Ok(picture) => put(out, picture.as_slice()),
         Err(error) => Err(error.into()),
     }
@@ -230,6 +237,7 @@ fn draw_marks<O: Stream, E: Stream>(
 {
     match drawing.form {
         Form::Svg => draw_svg(alloc, marks, source, drawing, out, err),
+        Form::Html => draw_svg(alloc, marks, source, drawing, out, err),
         Form::Events => draw_events(alloc, marks, out),
         Form::Table => draw_table(alloc, marks, out),
         Form::Rows => draw_rows(alloc, marks, out),
@@ -278,15 +286,22 @@ fn draw_lines<O: Stream, E: Stream>(
     }
 }
 
-// The trace of a scenario over the program's callbacks.
-fn trace_of(alloc: Global, text: &str) -> Result<Vec<u8>, Fault>
-    ensures traced { IfOk result (λ trace. runs.trace_of program_bank None text.now ≡ Ok trace.items) }
-    ensures refused { IfErr result (λ fault. Refuses (runs.trace_of program_bank None text.now) fault) }
+// Writes the picture of the lines of a scenario's trace, behind what is told of the callbacks that they name.
+fn draw_over<O: Stream, E: Stream>(
+    alloc: Global,
+    lines: &[TraceLine<'_>],
+    scenario: &str,
+    view: &View<'_>,
+    out: &mut O,
+    err: &mut E,
+) -> io::Result<u8>
+    ensures writes { IfOk result (Writes (DrawsOver (map handler_of view.now.bank.now) view.now.drawing scenario.now lines.now) (O.contents out.old) (O.contents out.new) (E.contents err.old) (E.contents err.new)) }
+    ensures early { IfErr result (EndsEarly false (O.has_failed out.new) (E.has_failed err.new)) }
 {
-    match program_plans(alloc) {
-        Ok(plans) => trace_plans(alloc, plans.as_slice(), text.as_bytes(), None),
-        Err(_) => Err(Fault::Memory),
-    }
+    let count = view.bank.len();
+    tell_missing(err, missing_callback(lines, count), count)?;
+    let source = Source::Scenario(view.bank, scenario);
+    draw_lines(alloc, lines, source, view.drawing, out, err)
 }
 
 // Writes the picture of a trace that was made of a scenario.
@@ -294,18 +309,15 @@ fn draw_trace<O: Stream, E: Stream>(
     alloc: Global,
     trace: &[u8],
     scenario: &str,
-    drawing: Drawing,
+    view: &View<'_>,
     out: &mut O,
     err: &mut E,
 ) -> io::Result<u8>
-    ensures writes { IfOk result (Writes (DrawsTrace drawing (draws.scenario scenario.now) (texts.text_in trace.now)) (O.contents out.old) (O.contents out.new) (E.contents err.old) (E.contents err.new)) }
+    ensures writes { IfOk result (Writes (DrawsMade (map handler_of view.now.bank.now) view.now.drawing scenario.now (texts.text_in trace.now)) (O.contents out.old) (O.contents out.new) (E.contents err.old) (E.contents err.new)) }
     ensures early { IfErr result (EndsEarly false (O.has_failed out.new) (E.has_failed err.new)) }
 {
     match read_lines(alloc, text_in(trace)) {
-        Ok(lines) => {
-            let source = Source::Scenario(scenario);
-            draw_lines(alloc, lines.as_slice(), source, drawing, out, err)
-        }
+        Ok(lines) => draw_over(alloc, lines.as_slice(), scenario, view, out, err),
         Err(_) => Err(AllocError.into()),
     }
 }
@@ -315,17 +327,19 @@ fn draw_scenario<O: Stream, E: Stream>(
     alloc: Global,
     text: &str,
     line: usize,
-    drawing: Drawing,
+    view: &View<'_>,
     out: &mut O,
     err: &mut E,
 ) -> io::Result<u8>
-    ensures writes { IfOk result (Writes (DrawsPlayed drawing text.now line (runs.trace_of program_bank None text.now)) (O.contents out.old) (O.contents out.new) (E.contents err.old) (E.contents err.new)) }
+    requires few { length view.now.bank.now ≤ 64 }
+    ensures writes { IfOk result (Writes (DrawsPlayed (map handler_of view.now.bank.now) view.now.drawing text.now line (runs.trace_of (map handler_of view.now.bank.now) None text.now)) (O.contents out.old) (O.contents out.new) (E.contents err.old) (E.contents err.new)) }
     ensures early { IfErr result (EndsEarly false (O.has_failed out.new) (E.has_failed err.new)) }
 {
-    match trace_of(alloc, text) {
-        Ok(trace) => draw_trace(alloc, trace.as_slice(), text, drawing, out, err),
+    let bytes = text.as_bytes();
+    match trace_plans(alloc, view.bank, bytes, None) {
+        Ok(trace) => draw_trace(alloc, trace.as_slice(), text, view, out, err),
         Err(fault) => {
-            let kind = kind_of(alloc, text.as_bytes())?;
+            let kind = kind_of(alloc, bytes)?;
             tell_neither(err, line, kind, fault)
         }
     }
@@ -336,16 +350,17 @@ fn draw_given<O: Stream, E: Stream>(
     alloc: Global,
     text: &str,
     line: usize,
-    drawing: Drawing,
+    view: &View<'_>,
     out: &mut O,
     err: &mut E,
 ) -> io::Result<u8>
-    ensures writes { IfOk result (Writes (DrawsGiven drawing text.now line) (O.contents out.old) (O.contents out.new) (E.contents err.old) (E.contents err.new)) }
+    requires few { length view.now.bank.now ≤ 64 }
+    ensures writes { IfOk result (Writes (DrawsGiven (map handler_of view.now.bank.now) view.now.drawing text.now line) (O.contents out.old) (O.contents out.new) (E.contents err.old) (E.contents err.new)) }
     ensures early { IfErr result (EndsEarly false (O.has_failed out.new) (E.has_failed err.new)) }
 {
     let given = Vec::from_slice(alloc, text.as_bytes())?;
     match plain_text(alloc, given) {
-        Ok(plain) => draw_scenario(alloc, text_in(plain.as_slice()), line, drawing, out, err),
+        Ok(plain) => draw_scenario(alloc, text_in(plain.as_slice()), line, view, out, err),
         Err(fault) => refused(tell_place(err, "lab", &fault)),
     }
 }
@@ -356,17 +371,18 @@ fn draw_whole<O: Stream, E: Stream>(
     read: &str,
     source: Source<'_>,
     text: &str,
-    drawing: Drawing,
+    view: &View<'_>,
     out: &mut O,
     err: &mut E,
 ) -> io::Result<u8>
-    ensures writes { IfOk result (Writes (DrawsWhole drawing (origin_of source.entry) read.now text.now) (O.contents out.old) (O.contents out.new) (E.contents err.old) (E.contents err.new)) }
+    requires few { length view.now.bank.now ≤ 64 }
+    ensures writes { IfOk result (Writes (DrawsWhole (map handler_of view.now.bank.now) view.now.drawing (origin_of source.entry) read.now text.now) (O.contents out.old) (O.contents out.new) (E.contents err.old) (E.contents err.new)) }
     ensures early { IfErr result (EndsEarly false (O.has_failed out.new) (E.has_failed err.new)) }
 {
     match read_lines(alloc, read) {
-        Ok(lines) => draw_lines(alloc, lines.as_slice(), source, drawing, out, err),
+        Ok(lines) => draw_lines(alloc, lines.as_slice(), source, view.drawing, out, err),
         Err(Misread::Memory) => Err(AllocError.into()),
-        Err(Misread::Line(line)) => draw_given(alloc, text, line, drawing, out, err),
+        Err(Misread::Line(line)) => draw_given(alloc, text, line, view, out, err),
     }
 }
 
@@ -375,23 +391,16 @@ fn draw_callers<O: Stream, E: Stream>(
     alloc: Global,
     front: &str,
     text: &str,
-    drawing: Drawing,
+    view: &View<'_>,
     out: &mut O,
     err: &mut E,
 ) -> io::Result<u8>
-    ensures writes { IfOk result (Writes (DrawsWhole drawing draws.callers (front.now ++ line_feed) text.now) (O.contents out.old) (O.contents out.new) (E.contents err.old) (E.contents err.new)) }
+    requires few { length view.now.bank.now ≤ 64 }
+    ensures writes { IfOk result (Writes (DrawsWhole (map handler_of view.now.bank.now) view.now.drawing draws.callers (front.now ++ line_feed) text.now) (O.contents out.old) (O.contents out.new) (E.contents err.old) (E.contents err.new)) }
     ensures early { IfErr result (EndsEarly false (O.has_failed out.new) (E.has_failed err.new)) }
 {
     match with_line_feed(alloc, front) {
-        Ok(told) => draw_whole(
-            alloc,
-            told.as_str(),
-            Source::Callers,
-            text,
-            drawing,
-            out,
-            err,
-        ),
+        Ok(told) => draw_whole(alloc, told.as_str(), Source::Callers, text, view, out, err),
         Err(error) => Err(error.into()),
     }
 }
@@ -400,16 +409,17 @@ fn draw_callers<O: Stream, E: Stream>(
 fn draw_text<O: Stream, E: Stream>(
     alloc: Global,
     text: &str,
-    drawing: Drawing,
+    view: &View<'_>,
     out: &mut O,
     err: &mut E,
 ) -> io::Result<u8>
-    ensures writes { IfOk result (Writes (DrawsText drawing text.now) (O.contents out.old) (O.contents out.new) (E.contents err.old) (E.contents err.new)) }
+    requires few { length view.now.bank.now ≤ 64 }
+    ensures writes { IfOk result (Writes (DrawsText (map handler_of view.now.bank.now) view.now.drawing text.now) (O.contents out.old) (O.contents out.new) (E.contents err.old) (E.contents err.new)) }
     ensures early { IfErr result (EndsEarly false (O.has_failed out.new) (E.has_failed err.new)) }
 {
     match text.split_once(CLOSING) {
-        Some((front, _)) => draw_callers(alloc, front, text, drawing, out, err),
-        None => draw_whole(alloc, text, Source::Trace, text, drawing, out, err),
+        Some((front, _)) => draw_callers(alloc, front, text, view, out, err),
+        None => draw_whole(alloc, text, Source::Trace, text, view, out, err),
     }
 }
 
@@ -417,35 +427,63 @@ fn draw_text<O: Stream, E: Stream>(
 fn draw_bytes<O: Stream, E: Stream>(
     alloc: Global,
     bytes: &[u8],
-    drawing: Drawing,
+    view: &View<'_>,
     out: &mut O,
     err: &mut E,
 ) -> io::Result<u8>
-    ensures writes { IfOk result (Writes (DrawsIf (is_utf8 bytes.now) drawing bytes.now) (O.contents out.old) (O.contents out.new) (E.contents err.old) (E.contents err.new)) }
+    requires few { length view.now.bank.now ≤ 64 }
+    ensures writes { IfOk result (Writes (DrawsIf (map handler_of view.now.bank.now) (is_utf8 bytes.now) view.now.drawing bytes.now) (O.contents out.old) (O.contents out.new) (E.contents err.old) (E.contents err.new)) }
     ensures early { IfErr result (EndsEarly false (O.has_failed out.new) (E.has_failed err.new)) }
 {
     match std::str::from_utf8(bytes) {
-        Ok(text) => draw_text(alloc, text, drawing, out, err),
+        Ok(text) => draw_text(alloc, text, view, out, err),
         Err(_) => tell_undrawn(err, "the text is no UTF-8"),
     }
 }
 
-/// Draws the trace that a file holds, or that of its scenario, or what is told of callers there, or of the input where
-/// none is named. The status is 2 where it holds none of these.
-pub fn draw<R: Files + AllocGlobal, I: Read, O: Stream, E: Stream>(
+// Draws what a file holds, or the input where none is named.
+fn draw_file<R: Files + AllocGlobal, I: Read, O: Stream, E: Stream>(
     rt: &R,
-    drawing: Drawing,
+    view: &View<'_>,
     file: Option<&str>,
     input: &mut I,
     out: &mut O,
     err: &mut E,
 ) -> io::Result<u8>
-    ensures writes { IfOk result (WritesOfText (DrawsRead drawing (unwrap_or (option_map (λ name. name.now) file.entry) (codes "-"))) (option_map (λ name. name.now) file.entry) (I.remaining input.old) (O.contents out.old) (O.contents out.new) (E.contents err.old) (E.contents err.new)) }
+    requires few { length view.now.bank.now ≤ 64 }
+    ensures writes { IfOk result (WritesOfText (DrawsRead (map handler_of view.now.bank.now) view.now.drawing (unwrap_or (option_map (λ name. name.now) file.entry) (codes "-"))) (option_map (λ name. name.now) file.entry) (I.remaining input.old) (O.contents out.old) (O.contents out.new) (E.contents err.old) (E.contents err.new)) }
     ensures early { IfErr result (EndsEarly false (O.has_failed out.new) (E.has_failed err.new)) }
 {
     let name = called(file);
     match read_text(rt, file, input) {
-        Ok(given) => draw_bytes(rt.alloc(), given.as_slice(), drawing, out, err),
+        Ok(given) => draw_bytes(rt.alloc(), given.as_slice(), view, out, err),
         Err(why) => refused(tell_unread(err, name, why)),
+    }
+}
+
+/// Draws the trace that a file holds, or that of its scenario over a bank, or what is told of callers there, or of the
+/// input where none is named. The status is 2 where it holds none of these, or the bank is at fault.
+pub fn draw<R: Files + AllocGlobal, I: Read, O: Stream, E: Stream>(
+    rt: &R,
+    drawing: Drawing,
+    bank: Option<&str>,
+    file: Option<&str>,
+    input: &mut I,
+    out: &mut O,
+    err: &mut E,
+) -> io::Result<u8>
+    ensures writes { IfOk result (Draws drawing (option_map (λ name. name.now) bank.entry) (option_map (λ name. name.now) file.entry) (I.remaining input.old) (O.contents out.old) (O.contents out.new) (E.contents err.old) (E.contents err.new)) }
+    ensures early { IfErr result (EndsEarly false (O.has_failed out.new) (E.has_failed err.new)) }
+{
+    match read_plans(rt, bank, err) {
+        Ok(Some(plans)) => {
+            let view = View {
+                drawing,
+                bank: plans.as_slice(),
+            };
+            draw_file(rt, &view, file, input, out, err)
+        }
+        Ok(None) => Ok(AT_FAULT),
+        Err(error) => Err(error),
     }
 }

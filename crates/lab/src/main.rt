@@ -16,6 +16,7 @@ mod commands;
 mod compares;
 mod converts;
 mod draw_faults;
+mod draw_html;
 mod draws;
 mod endings;
 mod helps;
@@ -24,6 +25,7 @@ mod order_faults;
 mod orders;
 mod parts;
 mod plays;
+mod prompts;
 mod statuses;
 mod streams;
 mod texts;
@@ -33,6 +35,7 @@ use clap::Error;
 use clap::error::ErrorKind;
 use commands::read_words;
 use parts::do_part;
+use prompts::Prompted;
 use statuses::{FAILED, NO_MEMORY, REFUSED};
 use std::alloc::{AllocError, Global};
 use std::env;
@@ -102,7 +105,8 @@ fn do_words<R: Files + AllocGlobal, I: Source, O: Stream, E: Stream>(
 fn do_own_words(rt: &HostRuntime) -> io::Result<u8> {
     let words: Vec<String> = env::args(rt)?.collect(rt.alloc())?;
     let texts: Vec<&str> = words.iter().map(|word| word.as_str()).collect(rt.alloc())?;
-    let mut input = Watched::new(rt.stdin());
+    let is_prompted = texts.iter().any(|word| *word == "--prompt");
+    let mut input = Prompted::new(Watched::new(rt.stdin()), rt.stderr(), is_prompted);
     let mut out = Watched::new(io::writer(rt));
     let mut err = Watched::new(rt.stderr());
     do_words(rt, texts.as_slice(), &mut input, &mut out, &mut err)

@@ -36,6 +36,7 @@ pub fn do_part<R: Files + AllocGlobal, I: Source, O: Stream, E: Stream>(
         Some(("draw", inner)) => draw(
             rt,
             drawing_of(inner),
+            inner.get_str("bank"),
             inner.get_str("FILE"),
             input,
             out,

@@ -10,6 +10,7 @@ use clap::ArgMatches;
 #[derive(Clone, Copy, PartialEq, Eq, Debug)]
 pub enum Form {
     Svg,
+    Html,
     Events,
     Table,
     Rows,
@@ -98,6 +99,8 @@ fn form_of(matches: &ArgMatches<'_>) -> Form
         Form::Table
     } else if is_set(matches, "lanes") {
         Form::Rows
+    } else if is_set(matches, "html") {
+        Form::Html
     } else {
         Form::Svg
     }

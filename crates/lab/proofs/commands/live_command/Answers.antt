@@ -14,6 +14,8 @@ returns c =
     let local_over_bank = c.in_ok-over_bank.ensures.globals ∙ ap₂ ◌||◌ local c.bank_word.ensures.1 in
     let with_limit = c.in_ok-with_limit.ensures.shape c.limit_word.ensures.1 ∙ ap₂ with_rule over_bank c.limit_word.ensures.0 in
     let local_with_limit = c.in_ok-with_limit.ensures.globals ∙ ap₂ ◌||◌ local_over_bank c.limit_word.ensures.1 in
-    let with_file = c.in_ok-with_file.ensures.shape c.first_file.ensures.1 ∙ ap₂ with_rule with_limit c.first_file.ensures.0 in
-    let local_with_file = c.in_ok-with_file.ensures.globals ∙ ap₂ ◌||◌ local_with_limit c.first_file.ensures.1 in
+    let prompted = c.in_ok-prompted.ensures.shape c.prompt_word.ensures.1 ∙ ap₂ with_rule with_limit c.prompt_word.ensures.0 in
+    let local_prompted = c.in_ok-prompted.ensures.globals ∙ ap₂ ◌||◌ local_with_limit c.prompt_word.ensures.1 in
+    let with_file = c.in_ok-with_file.ensures.shape c.first_file.ensures.1 ∙ ap₂ with_rule prompted c.first_file.ensures.0 in
+    let local_with_file = c.in_ok-with_file.ensures.globals ∙ ap₂ ◌||◌ local_prompted c.first_file.ensures.1 in
     λ old new adds. adds.shape local_with_file ∙ ap (λ app. with_subcommand (app_of old) app.top) with_file

@@ -1,11 +1,21 @@
-use Rattle.std.proofs.Common.{refl}
+use Rattle.std.proofs.Common.{refl, subst, sym}
+use Rattle.std.specs.Prelude.{IfOk}
 use Rattle.lab.specs.Draws.{DrawsMarks, events_of, origin_of, rows_of, table_of}
+use Rattle.lab.specs.Outputs.{Writes}
+use Rattle.lab.specs.declared.words.Form.{Form}
 use Rattle.lab.specs.declared.words.Form.TheVariants.{Events, Rows, Table}
 use Rattle.lab.proofs.OutputLemmas.{printed}
 use Rattle.lab.proofs.draws.draw_marks.Goals as goal
 
 pub returns-in-Svg-clause-writes : goal.returns-in-Svg-clause-writes
-returns-in-Svg-clause-writes g c = rw c.in-Svg.is c.draw_svg.ensures.writes
+returns-in-Svg-clause-writes g c =
+    subst (λ (f : Form). IfOk c.draw_svg.result (Writes (DrawsMarks f c.args.drawing (origin_of c.args.source) c.args.marks.now) (g.O.Stream.contents c.args.out.now) (g.O.Stream.contents c.draw_svg.new.out) (g.E.Stream.contents c.args.err.now) (g.E.Stream.contents c.draw_svg.new.err)))
+    (sym c.in-Svg.is) c.draw_svg.ensures.writes
+
+pub returns-in-Html-clause-writes : goal.returns-in-Html-clause-writes
+returns-in-Html-clause-writes g c =
+    subst (λ (f : Form). IfOk c.draw_svg-in-Html.result (Writes (DrawsMarks f c.args.drawing (origin_of c.args.source) c.args.marks.now) (g.O.Stream.contents c.args.out.now) (g.O.Stream.contents c.draw_svg-in-Html.new.out) (g.E.Stream.contents c.args.err.now) (g.E.Stream.contents c.draw_svg-in-Html.new.err)))
+    (sym c.in-Html.is) c.draw_svg-in-Html.ensures.writes
 
 pub returns-in-Events-clause-writes : goal.returns-in-Events-clause-writes
 returns-in-Events-clause-writes g c =

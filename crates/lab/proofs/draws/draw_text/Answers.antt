@@ -1,4 +1,6 @@
-use Rattle.std.proofs.Common.{◌++◌, inl, inr}
+use Rattle.std.proofs.Common.{List, ◌++◌, inl, inr, map}
+use Rattle.evl_kernel.specs.state.States.{Handler}
+use Rattle.evl_plans.specs.Told.{handler_of}
 use Rattle.evl_scenario.specs.Lines.{line_feed}
 use Rattle.lab.specs.Draws.{DrawsText, DrawsWhole, callers, trace}
 use Rattle.lab.proofs.OutputLemmas.{written_as}
@@ -6,11 +8,13 @@ use Rattle.lab.proofs.draws.draw_text.Goals as goal
 
 pub returns-in-Some-clause-writes : goal.returns-in-Some-clause-writes
 returns-in-Some-clause-writes g c =
+    let bank : List Handler = map handler_of c.args.view.now.bank.now in
     let text = c.args.text.now in
-    written_as _ (DrawsText c.args.drawing text) _ _ _ _ (DrawsWhole c.args.drawing callers (c.in-Some.front.now ++ line_feed) text) c.draw_callers.result
+    written_as _ (DrawsText bank c.args.view.now.drawing text) _ _ _ _ (DrawsWhole bank c.args.view.now.drawing callers (c.in-Some.front.now ++ line_feed) text) c.draw_callers.result
     (λ output h. inl (_, _, c.in-Some.ensures.cases, h)) c.draw_callers.ensures.writes
 
 pub returns-in-None-clause-writes : goal.returns-in-None-clause-writes
 returns-in-None-clause-writes g c =
+    let bank : List Handler = map handler_of c.args.view.now.bank.now in
     let text = c.args.text.now in
-    written_as _ (DrawsText c.args.drawing text) _ _ _ _ (DrawsWhole c.args.drawing trace text text) c.draw_whole.result (λ output h. inr (c.in-None.ensures.cases, h)) c.draw_whole.ensures.writes
+    written_as _ (DrawsText bank c.args.view.now.drawing text) _ _ _ _ (DrawsWhole bank c.args.view.now.drawing trace text text) c.draw_whole.result (λ output h. inr (c.in-None.ensures.cases, h)) c.draw_whole.ensures.writes
