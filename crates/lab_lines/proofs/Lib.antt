@@ -5,3 +5,5 @@ mod HeardLaws
 mod SaidLaws
 mod TextLaws
 mod GatherLaws
+mod TableLaws
+mod MetLaws

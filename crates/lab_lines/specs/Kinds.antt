@@ -5,6 +5,7 @@ use Rattle.std.specs.Str.{bytes_eq, is_utf8}
 use Rattle.std.specs.Str.Lines.{lines}
 use Rattle.evl_scenario.specs.Lines.{line_feed}
 use Rattle.lab_lines.specs.Lines.{bytes_at, is_digit, is_number, said_words}
+use Rattle.lab_lines.specs.Tables.{unexpecting}
 use Rattle.lab_lines.specs.Texts.{IsRefused, Means}
 use Rattle.lab_lines.specs.declared.places.Part.{Part}
 use Rattle.lab_lines.specs.declared.texts.LinesFault.{LinesFault}
@@ -57,9 +58,9 @@ pub record IsRead (text : List ℕ) (meant : Meant) : Type 0 where
   pub is : is_lines text ≡ true
   pub means : Means text meant
 
--- A text of lines that can be read stands for its scenario, a text that is none of lines for itself.
+-- A text of lines that can be read stands for its scenario, a text that is none of lines for the scenario in it.
 abbrev pub IsPlain : List ℕ → List ℕ → Type 0
-IsPlain text plain = ((is_lines text ≡ false) × (plain ≡ text)) ⊎ ((meant : Meant) × IsRead text meant × (plain ≡ string_bytes meant.scenario))
+IsPlain text plain = ((is_lines text ≡ false) × (plain ≡ unexpecting text)) ⊎ ((meant : Meant) × IsRead text meant × (plain ≡ string_bytes meant.scenario))
 
 -- A text of lines that can't be read stands for nothing.
 abbrev pub IsUnread : List ℕ → LinesFault → Type 0

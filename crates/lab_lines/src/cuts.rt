@@ -49,8 +49,8 @@ fn is_end(line: &[u8], word: Part) -> bool
     bytes.first().copied().unwrap_or(0) == b'#' || bytes == b"->".as_slice()
 }
 
-// The place of the word that ends what is said.
-fn end_of(line: &[u8], words: &[Part]) -> Option<usize>
+/// The place of the word that ends what is said: a comment, or the arrow before an answer.
+pub fn end_of(line: &[u8], words: &[Part]) -> Option<usize>
     ensures { result ≡ position (ends_said line.now) words.now }
 {
     words.iter().position(|word| is_end(line, *word))

@@ -5,9 +5,11 @@ ghost use Rattle.evl_scenario.specs.Lines.{line_feed};
 ghost use Rattle.lab_lines.specs.Kinds as kinds;
 ghost use Rattle.lab_lines.specs.Kinds.{IsOfCallers, IsPlain, IsUnread, begin_said, callers_text, is_first_of, set_up};
 ghost use Rattle.lab_lines.specs.Lines.{said_words};
+ghost use Rattle.lab_lines.specs.Tables.{unexpecting};
 
 use crate::cuts::{behind_first, has_digits, is_number, said_of};
 use crate::places::{Part, bytes_at, words_in};
+use crate::tables::unexpecting;
 use crate::texts::{LinesFault, Meant, lines_of, read_lines, text_of};
 use std::alloc::{AllocError, Global};
 
@@ -122,15 +124,26 @@ fn plain_lines(alloc: Global, text: &[u8]) -> Result<Vec<u8>, LinesFault>
     }
 }
 
-/// The scenario of a text of lines, and any other text as it is. Refused where a text of lines can't be read;
-/// `Memory` where memory couldn't grow.
+// The scenario in a text that is none of lines.
+fn plain_tables(alloc: Global, text: &[u8]) -> Result<Vec<u8>, LinesFault>
+    ensures plain { IfOk result (λ plain. plain.items ≡ unexpecting text.now) }
+    ensures unread { IfErr result (λ e. e ≡ LinesFault.Memory) }
+{
+    match unexpecting(alloc, text) {
+        Ok(plain) => Ok(plain),
+        Err(_) => Err(LinesFault::Memory),
+    }
+}
+
+/// The scenario of a text of lines, and of any other text the scenario in it, without what it expects. Refused where a
+/// text of lines can't be read; `Memory` where memory couldn't grow.
 pub fn plain_text(alloc: Global, text: Vec<u8>) -> Result<Vec<u8>, LinesFault>
     ensures plain { IfOk result (λ plain. IsPlain text.items plain.items) }
     ensures unread { IfErr result (IsUnread text.items) }
 {
     match is_lines(alloc, text.as_slice()) {
         Ok(true) => plain_lines(alloc, text.as_slice()),
-        Ok(false) => Ok(text),
+        Ok(false) => plain_tables(alloc, text.as_slice()),
         Err(_) => Err(LinesFault::Memory),
     }
 }

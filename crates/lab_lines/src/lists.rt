@@ -9,8 +9,8 @@ use crate::small::put_bare;
 use evl_scenario::number_of_text;
 use std::alloc::{AllocError, Global};
 
-// The text that these bytes are; none where they are no UTF-8.
-fn text_in(bytes: &[u8]) -> &str
+/// The text that these bytes are; none where they are no UTF-8.
+pub fn text_in(bytes: &[u8]) -> &str
     ensures { result.now ≡ boards.text_in bytes.now }
 {
     match std::str::from_utf8(bytes) {

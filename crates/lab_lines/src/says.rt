@@ -27,8 +27,8 @@ pub enum Says {
     Unread(Unread),
 }
 
-// Whether a word is this one.
-fn is_word(line: &[u8], word: Part, text: &[u8]) -> bool
+/// Whether a word is this one.
+pub fn is_word(line: &[u8], word: Part, text: &[u8]) -> bool
     ensures { result ≡ texts.is_word line.now word text.now }
 {
     bytes_at(line, word) == text
@@ -86,8 +86,8 @@ fn read_kind(alloc: Global, line: &[u8], words: &[Part]) -> Result<Says, AllocEr
     }
 }
 
-// Whether a line is a play of a trace.
-fn is_play(line: &[u8], words: &[Part]) -> bool
+/// Whether a line is a play of a trace.
+pub fn is_play(line: &[u8], words: &[Part]) -> bool
     ensures { result ≡ texts.is_play line.now words.now }
 {
     match words.first() {
