@@ -6,3 +6,4 @@ mod LineLaws
 mod AnswerLaws
 mod HelpLaws
 mod StateLaws
+mod UndoLaws

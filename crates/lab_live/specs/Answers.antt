@@ -1,13 +1,16 @@
 -- What a line is answered.
-use Rattle.std.specs.Prelude.{◌≡◌, ◌≢◌, ◌⊎◌, ◌==◌, ◌||◌, ℕ, Bool, false, List, [], ◌∷◌, ◌++◌, codes, length, if◌then◌else◌, Option, Some, None}
-use Rattle.std.specs.Str.{is_utf8}
-use Rattle.evl_kernel.specs.histories.Histories.{History}
+use Rattle.std.specs.Prelude.{◌≡◌, ◌≢◌, ◌⊎◌, ◌==◌, ◌||◌, ℕ, Bool, false, List, [], ◌∷◌, ◌++◌, codes, decimal, length, if◌then◌else◌, Option, Some, None}
+use Rattle.std.specs.Str.{bytes_eq, is_utf8}
+use Rattle.evl_base.specs.Call.{call_text}
+use Rattle.evl_base.specs.declared.entry.Entry.{Entry}
+use Rattle.evl_base.specs.declared.play.Play.{Play}
+use Rattle.evl_kernel.specs.histories.Histories.{Extends, History}
 use Rattle.evl_scenario.specs.Lines.{line_feed}
 use Rattle.evl_scenario.specs.Scenarios.{Script}
 use Rattle.evl_scenario.specs.Writings.{IsUnwritten, scenario_text, script_of_history}
 use Rattle.evl_scenario.specs.declared.steps.Step.{Step}
 use Rattle.evl_scenario.specs.declared.writing.Unwritten.TheVariants as unwritten
-use Rattle.lab_live.specs.Sessions.{Driven, Enters, TellsEntry, TellsFull}
+use Rattle.lab_live.specs.Sessions.{Driven, Enters, TakesBack, TellsEntry, TellsFull, all_but_last}
 
 -- ---- the line
 
@@ -30,15 +33,19 @@ abbrev pub may_call : List ℕ → Bool
 may_call [] = false
 may_call (c ∷ rest) = c == 84 || c == 32
 
+-- only such a line, and one that takes the last call back, may change the machine
+abbrev pub may_change : List ℕ → Bool
+may_change line = may_call line || bytes_eq line (codes "undo")
+
 -- ---- the machine
 
--- It stays, or has one entry more, whose lines were told behind the text before.
+-- It stays, or has one entry more, whose lines were told behind the text before, or its last call was taken back.
 abbrev pub GoesOn : Driven → Driven → List ℕ → List ℕ → Type 0
-GoesOn old new before after = (new ≡ old) ⊎ ((step : Step) × TellsEntry old.history new.history step before after)
+GoesOn old new before after = (new ≡ old) ⊎ (((step : Step) × TellsEntry old.history new.history step before after) ⊎ TakesBack old new)
 
--- Its history stays, or has one entry more.
+-- Its history stays, or has one entry more, or one less.
 abbrev pub MayGoOn : History → History → Type 0
-MayGoOn old new = (new ≡ old) ⊎ ((step : Step) × Enters old step new)
+MayGoOn old new = (new ≡ old) ⊎ (((step : Step) × Enters old step new) ⊎ ((entry : Entry) × (plays : List Play) × Extends new old entry plays))
 
 -- The call of this step was made: its entry's lines were told, or that the history is full.
 pub record Makes (old new : Driven) (step : Step) (before after : List ℕ) : Type 0 where
@@ -66,9 +73,23 @@ comment_text line = (if is_utf8 line then line else codes "#") ++ line_feed
 abbrev pub script_of : Driven → Script
 script_of driven = script_of_history driven.board driven.limit driven.history.entries
 
+-- It was told why there is no scenario.
+abbrev pub TellsUnwritten : Script → List ℕ → List ℕ → Type 0
+TellsUnwritten script before after =
+    (IsUnwritten unwritten.TooLong script × (after ≡ before ++ codes "! 1: the scenario would have more than 1048576 bytes\n"))
+    ⊎ ((IsUnwritten unwritten.Board script ⊎ IsUnwritten unwritten.Limit script) × (after ≡ before ++ codes "! 1: no scenario has this board and limit\n"))
+
 -- The scenario was told, or why there is none.
 abbrev pub TellsScenario : Script → List ℕ → List ℕ → Type 0
-TellsScenario script before after =
-    (after ≡ before ++ scenario_text script)
-    ⊎ ((IsUnwritten unwritten.TooLong script × (after ≡ before ++ codes "! 1: the scenario would have more than 1048576 bytes\n"))
-    ⊎ ((IsUnwritten unwritten.Board script ⊎ IsUnwritten unwritten.Limit script) × (after ≡ before ++ codes "! 1: no scenario has this board and limit\n")))
+TellsScenario script before after = (after ≡ before ++ scenario_text script) ⊎ TellsUnwritten script before after
+
+-- a call that was taken back
+abbrev pub undone_text : Entry → List ℕ
+undone_text entry = codes "undone: T" ++ (decimal entry.caller.0 ++ (codes " " ++ (call_text entry.call ++ line_feed)))
+
+-- The last call was taken back and told. Or the machine stays: there is no call, or no scenario of those before the last, for the true reason.
+abbrev pub Undoes : Driven → Driven → List ℕ → List ℕ → Type 0
+Undoes old new before after =
+    ((back : TakesBack old new) × (after ≡ before ++ undone_text back.entry))
+    ⊎ ((new ≡ old) × (((old.history.entries ≡ []) × (after ≡ before ++ codes "! 1: nothing was asked so far\n"))
+    ⊎ TellsUnwritten (script_of_history old.board old.limit (all_but_last old.history.entries)) before after))

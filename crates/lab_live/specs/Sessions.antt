@@ -4,7 +4,7 @@ use Rattle.evl_base.specs.declared.board.Board.{Board}
 use Rattle.evl_base.specs.declared.entry.Entry.{Entry}
 use Rattle.evl_base.specs.declared.play.Play.{Play}
 use Rattle.evl_base.specs.declared.refusal.Refusal.TheVariants.{HistoryFull}
-use Rattle.evl_kernel.specs.histories.Histories.{Extends, History}
+use Rattle.evl_kernel.specs.histories.Histories.{Extends, History, IsLegal}
 use Rattle.evl_kernel.specs.state.States.{Handler}
 use Rattle.evl_scenario.specs.Lines.{line_text}
 use Rattle.evl_scenario.specs.Scenarios.{Script}
@@ -52,6 +52,23 @@ pub record Enters (old : History) (step : Step) (new : History) : Type 0 where
 -- The history has one entry more, that of this step, or is as it was.
 abbrev pub MayEnter : History → Step → History → Type 0
 MayEnter old step new = (new ≡ old) ⊎ Enters old step new
+
+-- all but the last of some entries
+abbrev pub all_but_last : List Entry → List Entry
+all_but_last entries = take (length entries - 1) entries
+
+-- The last call was taken back: board and limit stay, and the history is the run of its calls, which with one entry more and its plays is the one that was.
+pub record TakesBack (old new : Driven) : Type 0 where
+  pub board : new.board ≡ old.board
+  pub limit : new.limit ≡ old.limit
+  pub legal : IsLegal new.history
+  pub entry : Entry
+  pub plays : List Play
+  pub extends : Extends new.history old.history entry plays
+
+-- The machine stays, or its last call was taken back.
+abbrev pub MayTakeBack : Driven → Driven → Type 0
+MayTakeBack old new = (new ≡ old) ⊎ TakesBack old new
 
 -- The history has one entry more, that of this step, and what was told behind the text before are the lines of that entry and of its plays.
 pub record TellsEntry (old new : History) (step : Step) (before after : List ℕ) : Type 0 where

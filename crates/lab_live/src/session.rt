@@ -3,17 +3,19 @@ ghost use Rattle.std.specs.Prelude.{◌≡◌, ◌≢◌, ◌≤◌, ◌⊎◌, 
 ghost use Rattle.evl_base.specs.declared.entry.Entry.{Entry};
 ghost use Rattle.evl_kernel.specs.histories.Histories.{IsLegal};
 ghost use Rattle.evl_kernel.specs.state.KernelViews.{makes_entry};
+ghost use Rattle.evl_plans.specs.Told.{handler_of};
 ghost use Rattle.evl_scenario.specs.Lines.{line_around, step_text};
 ghost use Rattle.evl_scenario.specs.Scenarios.{Script, scenario_of};
 ghost use Rattle.evl_scenario.specs.Traces.{entry_lines, history_trace};
 ghost use Rattle.evl_scenario.specs.Writings.{IsUnwritten, scenario_text, script_of_history, step_of_entry};
 ghost use Rattle.evl_shell.specs.Histories.{PlaysAgain};
 ghost use Rattle.evl_shell.specs.Runs.{handlers_of};
-ghost use Rattle.lab_live.specs.Sessions.{Enters, KeepsWithin, MayEnter, Opens, TellsEntry, TellsFull, TellsTrace, asked_under};
+ghost use Rattle.lab_live.specs.Sessions as sessions;
+ghost use Rattle.lab_live.specs.Sessions.{TakesBack, Enters, KeepsWithin, MayEnter, Opens, TellsEntry, TellsFull, TellsTrace, asked_under};
 
-use evl_base::{Board, Play, Refusal, Reply};
+use evl_base::{Board, Entry, Play, Refusal, Reply};
 use evl_kernel::KernelOf;
-use evl_plans::{Planned, PlannedKernel};
+use evl_plans::{Planned, PlannedKernel, copied_bank};
 use evl_scenario::{
     EntryNumber, Fault, Scenario, Step, StepAnswer, StepLine, Unwritten, read_scenario,
     write_entry, write_scenario,
@@ -22,23 +24,25 @@ use evl_shell::trace_kernel;
 use std::alloc::{AllocError, Global};
 use std::marker::Model;
 
-/// A machine, its board, and the limit of its history.
+/// A machine, its board, the limit of its history, and its callbacks once more.
 #[derive(Drop)]
 pub struct Session {
     board: Board,
     limit: u32,
+    bank: Vec<Planned>,
     machine: PlannedKernel,
 }
 
 impl Model for Session {
-    ghost use Rattle.std.specs.Prelude.{◌≡◌};
+    ghost use Rattle.std.specs.Prelude.{◌≡◌, map};
+    ghost use Rattle.evl_plans.specs.Told.{handler_of};
     ghost use Rattle.lab_live.specs.Sessions.{Driven, IsDriven};
 
     ghost Value = { Driven };
 
     ghost view = { λ s. record { board = s.board; limit = s.limit; history = s.machine.history } };
 
-    ghost invariant = { λ s. (s.machine.limit ≡ s.limit) × IsDriven (record { board = s.board; limit = s.limit; history = s.machine.history }) };
+    ghost invariant = { λ s. (s.machine.limit ≡ s.limit) × (map handler_of s.bank.items ≡ s.machine.history.bank) × IsDriven (record { board = s.board; limit = s.limit; history = s.machine.history }) };
 }
 
 // Whether a call that was answered so has an entry.
@@ -88,15 +92,17 @@ fn make_steps(machine: &mut PlannedKernel, steps: Vec<Step>) -> Result<(), Fault
     Ok(())
 }
 
-// The board and the limit of a scenario, and a machine of the same that has made its steps.
+// The board and the limit of a scenario, and a machine of the same that has made its steps, with its callbacks once more.
 #[tactic(auto, using(crate::proofs::OpeningLaws::few_open))]
 fn open_scenarios(
     alloc: Global,
     kept: Scenario,
     played: Scenario,
     bank: Vec<Planned>,
+    copy: Vec<Planned>,
 ) -> Result<Session, Fault>
     requires same { kept ≡ played }
+    requires copied { map handler_of copy.items ≡ map handler_of bank.items }
     ensures opened { IfOk result (Opens kept (handlers_of (λ p. p.kinds.0) (λ p. p.plan) bank.items)) }
     ensures few { IfOk result (λ s. length bank.items ≤ 64) }
     ensures refused { IfErr result (λ e. e ≡ Fault.Memory) }
@@ -110,6 +116,7 @@ fn open_scenarios(
         Ok(()) => Ok(Session {
             board,
             limit,
+            bank: copy,
             machine,
         }),
         Err(_) => {
@@ -167,6 +174,70 @@ fn text_of(alloc: Global, step: &Step) -> Result<String, AllocError>
     Ok(text)
 }
 
+// The machine of a text, over callbacks of which there is a copy.
+fn open_copied(
+    alloc: Global,
+    text: &[u8],
+    limit: Option<u32>,
+    bank: Vec<Planned>,
+    copy: Vec<Planned>,
+) -> Result<Session, Fault>
+    requires copied { map handler_of copy.items ≡ map handler_of bank.items }
+    ensures opened { IfOk result (λ s. (script : Script) × (scenario_of limit text.now ≡ Ok script) × Opens script (handlers_of (λ p. p.kinds.0) (λ p. p.plan) bank.items) s) }
+    ensures few { IfOk result (λ s. length bank.items ≤ 64) }
+    ensures refused { IfErr result (λ e. (e ≡ Fault.Memory) ⊎ (scenario_of limit text.now ≡ Err e)) }
+{
+    let kept = read_scenario(alloc, text, limit)?;
+    let played = read_scenario(alloc, text, limit)?;
+    open_scenarios(alloc, kept, played, bank, copy)
+}
+
+// All but the last of some entries.
+fn all_but_last(entries: &[Entry]) -> &[Entry]
+    ensures { result.now ≡ sessions.all_but_last entries.now }
+{
+    if entries.is_empty() {
+        return entries;
+    }
+    entries.get(..entries.len() - 1).unwrap_or(entries)
+}
+
+// A machine of this board and limit over these callbacks, that is asked for the calls of these entries.
+#[tactic(auto, using(crate::proofs::UndoLaws::reopens))]
+fn reopened(
+    alloc: Global,
+    board: &Board,
+    limit: u32,
+    bank: &[Planned],
+    entries: &[Entry],
+) -> Result<Session, Unwritten>
+    ensures opened { IfOk result (Opens (script_of_history board.now limit entries.now) (map handler_of bank.now)) }
+    ensures refused { IfErr result (λ e. IsUnwritten e (script_of_history board.now limit entries.now)) }
+{
+    let text = write_scenario(alloc, board, limit, entries)?;
+    let Ok(copy) = copied_bank(alloc, bank) else {
+        return Err(Unwritten::Memory);
+    };
+    match Session::open(alloc, text.as_str().as_bytes(), None, copy) {
+        Ok(session) => Ok(session),
+        Err(_) => Err(Unwritten::Memory),
+    }
+}
+
+// The history of a machine is the run of its calls.
+fn know_legal(session: &Session)
+    ensures { IsLegal session.now.history }
+{
+    let _plays = session.machine.kernel().plays();
+}
+
+// Puts a machine in the place of another.
+fn put_back(session: &mut Session, before: Session)
+    ensures { session.new ≡ before }
+{
+    *session = before;
+}
+
 impl Session {
     /// A machine of the scenario's board that has made its steps, over a bank of at most 64 callbacks, under a limit
     /// that may be handed in. `Text`, `Board` and `Step` say what is wrong with the text, `Memory` that a growth was
@@ -181,9 +252,10 @@ impl Session {
         ensures few { IfOk result (λ s. length bank.items ≤ 64) }
         ensures refused { IfErr result (λ e. (e ≡ Fault.Memory) ⊎ (scenario_of limit text.now ≡ Err e)) }
     {
-        let kept = read_scenario(alloc, text, limit)?;
-        let played = read_scenario(alloc, text, limit)?;
-        open_scenarios(alloc, kept, played, bank)
+        match copied_bank(alloc, bank.as_slice()) {
+            Ok(copy) => open_copied(alloc, text, limit, bank, copy),
+            Err(_) => Err(Fault::Memory),
+        }
     }
 
     /// The machine's kernel, to read it.
@@ -253,6 +325,49 @@ impl Session {
     {
         let entries = self.machine.kernel().history();
         write_scenario(alloc, &self.board, self.limit, entries)
+    }
+
+    // The machine as it was before the last call, if there is one.
+    #[tactic(auto, using(crate::proofs::UndoLaws::taken_back))]
+    fn before_last(&self, alloc: Global) -> Result<Session, Unwritten>
+        ensures back { IfOk result (λ before. self.now.history.entries ≢ [] → TakesBack self.now before) }
+        ensures refused { IfErr result (λ e. IsUnwritten e (script_of_history self.now.board self.now.limit (sessions.all_but_last self.now.history.entries))) }
+    {
+        let earlier = all_but_last(self.machine.kernel().history());
+        match reopened(
+            alloc,
+            &self.board,
+            self.limit,
+            self.bank.as_slice(),
+            earlier,
+        ) {
+            Ok(before) => {
+                know_legal(&before);
+                Ok(before)
+            }
+            Err(why) => Err(why),
+        }
+    }
+
+    /// Takes the last call back, and answers whether there is one: the machine is then as it was before that call.
+    /// Refused where no scenario of the calls before it can be written: `Board`, `Limit` and `TooLong`; `Memory` where
+    /// a growth was refused. Nothing is changed then.
+    #[tactic(auto, using(crate::proofs::UndoLaws::some_entries))]
+    pub fn undo(&mut self, alloc: Global) -> Result<bool, Unwritten>
+        ensures undone { IfOk result (λ undone. IsTrue undone → TakesBack self.old self.new) }
+        ensures none { IfOk result (λ undone. IsFalse undone → (self.new ≡ self.old) × (self.old.history.entries ≡ [])) }
+        ensures refused { IfErr result (λ e. (self.new ≡ self.old) × IsUnwritten e (script_of_history self.old.board self.old.limit (sessions.all_but_last self.old.history.entries))) }
+    {
+        if self.machine.kernel().history().is_empty() {
+            return Ok(false);
+        }
+        match self.before_last(alloc) {
+            Ok(before) => {
+                put_back(self, before);
+                Ok(true)
+            }
+            Err(why) => Err(why),
+        }
     }
 
     // Makes a step, and writes its lines behind what was told.
