@@ -1,5 +1,5 @@
 -- Where two traces differ.
-use Rattle.std.specs.Prelude.{◌≡◌, ℕ, ◌<◌, ◌+◌, ◌==◌, Bool, true, false, ◌&&◌, ◌||◌, List, Option, Some, None, option_map, slice_get}
+use Rattle.std.specs.Prelude.{◌≡◌, ℕ, ◌+◌, ◌-◌, ◌==◌, Bool, true, false, ◌&&◌, ◌||◌, List, [], ◌∷◌, ◌++◌, if◌then◌else◌, Option, Some, None, length, option_map, take}
 use Rattle.std.specs.Str.{bytes_eq}
 use Rattle.lab_traces.specs.Lines.{Said, entry, line_read}
 use Rattle.lab_reports.specs.declared.differences.Difference.{Difference}
@@ -16,27 +16,28 @@ are_alike (Some one) (Some other) = bytes_eq one other || are_one_entry (line_re
 are_alike None None = true
 are_alike _ _ = false
 
--- what stands at this index in both, from 0
-abbrev pub alike_at : List (List ℕ) → List (List ℕ) → ℕ → Bool
-alike_at stored made i = are_alike (slice_get stored i) (slice_get made i)
+-- the number of a line, and what stands there in each of two lists, none behind their ends
+abbrev pub Apart : Type 0
+Apart = ℕ × Option (List ℕ) × Option (List ℕ)
 
-abbrev pub AlikeBefore : List (List ℕ) → List (List ℕ) → ℕ → Type 0
-AlikeBefore stored made index = (i : ℕ) → i < index → alike_at stored made i ≡ true
+-- what stands there, if it isn't alike
+abbrev pub apart_at : ℕ → Option (List ℕ) → Option (List ℕ) → List Apart
+apart_at line stored made = if are_alike stored made then [] else (line, stored, made) ∷ []
 
--- the lines differ first at an index, or nowhere
-abbrev pub DifferAt : List (List ℕ) → List (List ℕ) → Option ℕ → Type 0
-DifferAt stored made None = (i : ℕ) → alike_at stored made i ≡ true
-DifferAt stored made (Some index) = AlikeBefore stored made index × (alike_at stored made index ≡ false)
+-- each line at which two lists differ, where their first lines have this number
+abbrev pub differing : ℕ → List (List ℕ) → List (List ℕ) → List Apart
+differing line [] [] = []
+differing line (one ∷ stored) [] = apart_at line (Some one) None ++ differing (line + 1) stored []
+differing line [] (other ∷ made) = apart_at line None (Some other) ++ differing (line + 1) [] made
+differing line (one ∷ stored) (other ∷ made) = apart_at line (Some one) (Some other) ++ differing (line + 1) stored made
 
--- there they differ first, and this is what stands there in each
-pub record DifferFirst (stored made : List (List ℕ)) (d : Difference) : Type 0 where
-  pub index : ℕ
-  pub line_is : d.line ≡ index + 1
-  pub differ : DifferAt stored made (Some index)
-  pub stored_is : option_map (λ line. line.now) d.stored ≡ slice_get stored index
-  pub made_is : option_map (λ line. line.now) d.made ≡ slice_get made index
+-- what is told of a difference
+abbrev pub told_apart : Difference → Apart
+told_apart d = (d.line, option_map (λ line. line.now) d.stored, option_map (λ line. line.now) d.made)
 
--- what is told of these lines: where they differ first, or that they are alike
-abbrev pub IsDifference : List (List ℕ) → List (List ℕ) → Option Difference → Type 0
-IsDifference stored made None = DifferAt stored made None
-IsDifference stored made (Some d) = DifferFirst stored made d
+-- ---- for private clauses
+
+-- what is noted of the differences that come first, at most so many: of one place more, if it isn't alike and there is room
+abbrev pub Notes : ℕ → List Apart → List Apart → Apart → List Apart → Type 0
+Notes most noted noted_now here rest =
+    noted_now ++ take (most - length noted_now) rest ≡ noted ++ take (most - length noted) (apart_at here.0 here.1 here.2 ++ rest)

@@ -1,13 +1,15 @@
 -- A trace as lines of JSON.
-use Rattle.std.specs.Prelude.{ℕ, ◌==◌, Bool, true, false, not, ◌&&◌, ◌||◌, List, [], ◌∷◌, ◌++◌, length, map, codes, decimal, if◌then◌else◌, Option, Some, None}
+use Rattle.std.specs.Prelude.{ℕ, ◌==◌, Bool, true, false, not, ◌&&◌, ◌||◌, List, [], ◌∷◌, ◌++◌, length, map, codes, decimal, if◌then◌else◌, Option, Some, None, is_some, unwrap_or}
 use Rattle.std.specs.Char.{is_ascii_digit}
 use Rattle.std.specs.List.{concat, list_all}
 use Rattle.std.specs.Str.{bytes_eq}
 use Rattle.evl_base.specs.Stage.{stage_text}
 use Rattle.evl_base.specs.declared.play.Play.{Play}
 use Rattle.evl_base.specs.declared.play.Play.TheVariants.{Clock, Timer, Deadline, Line}
+use Rattle.evl_scenario.specs.Values.{around_space, past_front}
 use Rattle.lab_traces.specs.Entries.{EntryParts, names_refusal}
 use Rattle.lab_traces.specs.Lines.{Said, board, entry, play}
+use Rattle.lab_traces.specs.Parts.{before_end}
 use Rattle.lab_reports.specs.Calls.{Pair, call_pairs, call_word}
 use Rattle.lab_reports.specs.Quotes.{json_text}
 
@@ -51,12 +53,16 @@ abbrev pub json_list : Bool → List (List ℕ) → List ℕ
 json_list is_first [] = []
 json_list is_first (text ∷ texts) = comma is_first ++ (text ++ json_list false texts)
 
-abbrev pub is_number : List ℕ → Bool
-is_number value = not (length value == 0) && list_all is_ascii_digit value
+abbrev pub are_digits : List ℕ → Bool
+are_digits value = not (length value == 0) && list_all is_ascii_digit value
 
--- a number, true or false
+-- without a minus at its front
+abbrev pub unsigned : List ℕ → List ℕ
+unsigned value = unwrap_or (past_front (codes "-") value) value
+
+-- a number, negative or not, true or false
 abbrev pub is_bare : List ℕ → Bool
-is_bare value = is_number value || (bytes_eq value (codes "true") || bytes_eq value (codes "false"))
+is_bare value = are_digits (unsigned value) || (bytes_eq value (codes "true") || bytes_eq value (codes "false"))
 
 abbrev pub truth_json : Bool → List ℕ
 truth_json truth = if truth then codes "true" else codes "false"
@@ -87,9 +93,29 @@ abbrev pub number_json : Option ℕ → List ℕ
 number_json None = codes "null"
 number_json (Some number) = decimal number
 
+-- the kind of an answer and the text of its value: of a refusal its name, `none` where it has no value
+abbrev pub answer_parts : List ℕ → Pair
+answer_parts answer =
+    if names_refusal answer then (codes "refused", answer)
+    else if bytes_eq answer (codes "timed out") then (answer, codes "none")
+    else unwrap_or (around_space answer) (answer, codes "none")
+
+-- who owns a mutex now, if anybody does, and whether others still wait
+abbrev pub owner_json : List ℕ → List ℕ
+owner_json value =
+    codes "{\"thread\": " ++ (value_json (codes "thread") (unwrap_or (before_end (codes " more") value) value)
+    ++ (codes ", \"more\": " ++ (truth_json (is_some (before_end (codes " more") value)) ++ codes "}")))
+
+-- the value of an answer of a kind, as that of a key
+abbrev pub kind_json : List ℕ → List ℕ → List ℕ
+kind_json kind value = if bytes_eq kind (codes "next") then owner_json value else value_json kind value
+
 -- an answer, and whether it is a refusal
 abbrev pub answer_json : List ℕ → List ℕ
-answer_json answer = codes ", \"answer\": " ++ (json_text answer ++ (codes ", \"refused\": " ++ truth_json (names_refusal answer)))
+answer_json answer =
+    codes ", \"answer\": {\"kind\": " ++ (json_text (answer_parts answer).0
+    ++ (codes ", \"value\": " ++ (kind_json (answer_parts answer).0 (answer_parts answer).1
+    ++ (codes "}, \"refused\": " ++ truth_json (names_refusal answer)))))
 
 -- what stands of a group between its file and its plays
 abbrev pub entry_json : Option EntryParts → List ℕ

@@ -1,14 +1,14 @@
-//! The first difference of two traces.
-ghost use Rattle.std.specs.Prelude.{◌≡◌, ◌<◌, ◌≤◌, ◌+◌, ◌-◌, ◌^◌, IfOk, IfSome, length, map, option_map, slice_get};
+//! Where two traces differ.
+ghost use Rattle.std.specs.Prelude.{◌≡◌, ◌<◌, ◌≤◌, ◌+◌, ◌-◌, ◌^◌, IfOk, List, OnOk, length, map, option_map, slice_get, take};
 ghost use Rattle.std.specs.Str.Lines.{lines};
 ghost use Rattle.lab_traces.specs.Lines.{line_read};
 ghost use Rattle.lab_reports.specs.Differences as differences;
-ghost use Rattle.lab_reports.specs.Differences.{DifferAt, IsDifference};
+ghost use Rattle.lab_reports.specs.Differences.{Apart, Notes, differing, told_apart};
 
 use lab_traces::{Says, read_line};
 use std::alloc::{AllocError, Global};
 
-/// Where two traces differ first: the line, from 1, and what stands there in each; none behind the last line.
+/// Where two traces differ: the line, from 1, and what stands there in each; none behind the last line.
 #[derive(Clone, Copy, PartialEq, Eq, Debug)]
 pub struct Difference<'a> {
     pub line: usize,
@@ -67,26 +67,10 @@ fn most_lines(old: &[&str], new: &[&str]) -> usize
     }
 }
 
-// The index at which two lists of lines differ first.
-fn first_index(old: &[&str], new: &[&str]) -> Option<usize>
-    ensures apart { DifferAt (map (λ line. line.now) old.now) (map (λ line. line.now) new.now) result }
-    ensures few { IfSome result (λ index. index < 2 ^ 64 - 1) }
-{
-    let count = most_lines(old, new);
-    for i in 0..count {
-        if !are_alike(line_at(old, i), line_at(new, i)) {
-            return Some(i);
-        }
-    }
-    None
-}
-
-// What is told of two lists of lines that differ first at an index.
+// What is told of two lists of lines at an index.
 fn told<'a>(old: &[&'a str], new: &[&'a str], index: usize) -> Difference<'a>
     requires { index < 2 ^ 64 - 1 }
-    ensures line { result.line ≡ index + 1 }
-    ensures stored { option_map (λ line. line.now) result.stored ≡ slice_get (map (λ line. line.now) old.now) index }
-    ensures made { option_map (λ line. line.now) result.made ≡ slice_get (map (λ line. line.now) new.now) index }
+    ensures { told_apart result ≡ (index + 1, slice_get (map (λ line. line.now) old.now) index, slice_get (map (λ line. line.now) new.now) index) }
 {
     Difference {
         line: index + 1,
@@ -95,20 +79,50 @@ fn told<'a>(old: &[&'a str], new: &[&'a str], index: usize) -> Difference<'a>
     }
 }
 
-/// The first line at which two traces differ in more than the numbers of entries; none where they don't. Lines are cut
-/// as by `str::lines`: a carriage return in front of a line feed, and a line feed that is missing at the end, are no
+// Notes what is told of two lists, where it isn't alike, and fewer than these are noted.
+#[tactic(auto, using(crate::proofs::DifferenceLaws::noted_one))]
+fn note<'a>(
+    found: &mut Vec<Difference<'a>>,
+    most: usize,
+    difference: Difference<'a>,
+) -> Result<(), AllocError>
+    ensures { OnOk result ((rest : List Apart) → Notes most (map told_apart found.old.items) (map told_apart found.new.items) (told_apart difference.entry) rest) }
+{
+    if found.len() < most && !are_alike(difference.stored, difference.made) {
+        found.push(difference)?;
+    }
+    Ok(())
+}
+
+// The first differences of two lists of lines, at most so many.
+#[tactic(auto, using(crate::proofs::DifferenceLaws::noted_all, crate::proofs::DifferenceLaws::noted_more))]
+fn noted<'a>(
+    alloc: Global,
+    old: &[&'a str],
+    new: &[&'a str],
+    most: usize,
+) -> Result<Vec<Difference<'a>>, AllocError>
+    ensures { IfOk result (λ found. map told_apart found.items ≡ take most (differing 1 (map (λ line. line.now) old.now) (map (λ line. line.now) new.now))) }
+{
+    let mut found = Vec::new(alloc);
+    for i in 0..most_lines(old, new) {
+        note(&mut found, most, told(old, new, i))?;
+    }
+    Ok(found)
+}
+
+/// The first lines at which two traces differ in more than the numbers of entries, at most so many. Lines are cut as by
+/// `str::lines`: a carriage return in front of a line feed, and a line feed that is missing at the end, are no
 /// difference. `AllocError` where memory couldn't grow.
-pub fn first_difference<'a>(
+pub fn find_differences<'a>(
     alloc: Global,
     stored: &'a str,
     made: &'a str,
-) -> Result<Option<Difference<'a>>, AllocError>
-    ensures { IfOk result (IsDifference (lines stored.now) (lines made.now)) }
+    most: usize,
+) -> Result<Vec<Difference<'a>>, AllocError>
+    ensures { IfOk result (λ found. map told_apart found.items ≡ take most (differing 1 (lines stored.now) (lines made.now))) }
 {
     let old = lines_of(alloc, stored)?;
     let new = lines_of(alloc, made)?;
-    match first_index(old.as_slice(), new.as_slice()) {
-        Some(index) => Ok(Some(told(old.as_slice(), new.as_slice(), index))),
-        None => Ok(None),
-    }
+    noted(alloc, old.as_slice(), new.as_slice(), most)
 }

@@ -4,50 +4,14 @@ ghost use Rattle.evl_base.specs.declared.play.Play.TheVariants as play;
 ghost use Rattle.lab_traces.specs.Lines.{Said};
 ghost use Rattle.lab_traces.specs.Says.{parts_of, says_of};
 ghost use Rattle.lab_reports.specs.Json as told;
-ghost use Rattle.lab_reports.specs.Json.{call_json, head_json, left_json, json_list, pair_json, play_json, trace_json, value_json};
+ghost use Rattle.lab_reports.specs.Json.{call_json, head_json, left_json, json_list, pair_json, play_json, trace_json};
 
 use crate::calls::call_parts;
 use crate::quotes::put_text;
+use crate::values::{put_answer, put_value};
 use evl_base::{LineNo, Play, Stage, ThreadId, TimerId};
-use lab_traces::{EntryLine, Says, TraceLine, is_refused};
+use lab_traces::{EntryLine, Says, TraceLine};
 use std::alloc::{AllocError, Global};
-
-// Whether a text is a number.
-fn is_number(text: &str) -> bool
-    ensures { result ≡ told.is_number text.now }
-{
-    !text.is_empty() && text.bytes().all(|byte| byte.is_ascii_digit())
-}
-
-// Whether a text is a number, true or false.
-fn is_bare(text: &str) -> bool
-    ensures { result ≡ told.is_bare text.now }
-{
-    is_number(text) || text == "true" || text == "false"
-}
-
-// The digits of bytes, none where the trace has a dash.
-fn digits_of(value: &str) -> &str
-    ensures { result.now ≡ told.digits_of value.now }
-{
-    if value == "-" { "" } else { value }
-}
-
-// Writes the value of a key.
-fn put_value(alloc: Global, json: &mut String, key: &str, value: &str) -> Result<(), AllocError>
-    ensures { OnOk result (string_bytes json.new ≡ string_bytes json.old ++ value_json key.now value.now) }
-{
-    if key == "bytes" {
-        return put_text(alloc, json, digits_of(value));
-    }
-    if value == "none" {
-        return json.push_str("null");
-    }
-    if is_bare(value) {
-        return json.push_str(value);
-    }
-    put_text(alloc, json, value)
-}
 
 // Writes what stands before the next of several texts.
 fn put_comma(json: &mut String, is_first: bool) -> Result<(), AllocError>
@@ -101,17 +65,6 @@ fn put_number(json: &mut String, number: Option<u64>) -> Result<(), AllocError>
         Some(number) => write!(json, "{number}")?,
         None => json.push_str("null")?,
     }
-    Ok(())
-}
-
-// Writes the answer of an entry, and whether that is a refusal.
-fn put_answer(alloc: Global, json: &mut String, answer: &str) -> Result<(), AllocError>
-    ensures { OnOk result (string_bytes json.new ≡ string_bytes json.old ++ told.answer_json answer.now) }
-{
-    json.push_str(", \"answer\": ")?;
-    put_text(alloc, json, answer)?;
-    let refused = is_refused(answer);
-    write!(json, ", \"refused\": {refused}")?;
     Ok(())
 }
 

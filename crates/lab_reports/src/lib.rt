@@ -1,5 +1,5 @@
-//! What is told of scenarios that were played: their traces as lines of JSON and as trace events, and the first
-//! difference of two traces; and the program's callbacks as plans.
+//! What is told of scenarios that were played: their traces as lines of JSON and as trace events, and the
+//! differences of two traces; and the program's callbacks as plans.
 #![tactic(auto)]
 
 mod calls;
@@ -8,8 +8,9 @@ mod events;
 mod json;
 mod program;
 mod quotes;
+mod values;
 
-pub use differences::{Difference, first_difference};
+pub use differences::{Difference, find_differences};
 pub use events::write_events;
 pub use json::write_json;
 pub use program::program_plans;

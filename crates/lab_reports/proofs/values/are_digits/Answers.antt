@@ -3,7 +3,7 @@ use Rattle.std.proofs.lemmas.Iterator.Adapters.{YieldsList-from_bytes}
 use Rattle.std.proofs.lemmas.Iterator.Search.{all_from_yields_List}
 use Rattle.std.specs.Char.{is_ascii_digit}
 use borrow.Author.Tests.{tests}
-use Rattle.lab_reports.proofs.json.is_number.Goals as goal
+use Rattle.lab_reports.proofs.values.are_digits.Goals as goal
 
 pub returns-then-not-is_empty : goal.returns-then-not-is_empty
 returns-then-not-is_empty c =

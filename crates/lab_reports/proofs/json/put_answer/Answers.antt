@@ -1,7 +1,0 @@
-use Rattle.lab_reports.proofs.JsonLaws.{answer_told}
-use Rattle.lab_reports.proofs.json.put_answer.Goals as goal
-
-pub returns : goal.returns
-returns c =
-    answer_told c.args.answer.now c.is_refused-refused.result _ _ _ _ c.in_ok-push_str.ensures.bytes c.in_ok-put_text.ensures
-    c.in_ok-write.ensures.bytes c.is_refused-refused.ensures.named
