@@ -50,7 +50,9 @@ own_keys word =
 
 -- the keys of `[ask]`, of a callback, and of its rows
 unfoldable pub ask_keys : List (List ℕ)
-ask_keys = codes "never" ∷ codes "always_ends" ∷ codes "ends_waits" ∷ codes "as_picked" ∷ []
+ask_keys =
+    codes "never" ∷ codes "always_ends" ∷ codes "ends_waits" ∷ codes "as_picked" ∷ codes "never_state" ∷ codes "sometimes"
+    ∷ codes "always" ∷ codes "outcomes" ∷ []
 
 unfoldable pub callback_keys : List (List ℕ)
 callback_keys = codes "accepts" ∷ codes "do" ∷ []
@@ -64,7 +66,9 @@ abbrev pub is_pass_key : List ℕ → Bool
 is_pass_key key = bytes_eq key (codes "as") || bytes_eq key (codes "pass")
 
 abbrev pub is_list_key : List ℕ → Bool
-is_list_key key = bytes_eq key (codes "never") || bytes_eq key (codes "do")
+is_list_key key =
+    (bytes_eq key (codes "never") || bytes_eq key (codes "do"))
+    || (bytes_eq key (codes "never_state") || (bytes_eq key (codes "sometimes") || bytes_eq key (codes "always")))
 
 abbrev pub is_truth_key : List ℕ → Bool
 is_truth_key key = bytes_eq key (codes "always_ends") || (bytes_eq key (codes "ends_waits") || bytes_eq key (codes "as_picked"))

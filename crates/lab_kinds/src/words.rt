@@ -21,7 +21,16 @@ const PASS_KEYS: [&str; 2] = ["who", "pass"];
 
 const CORE_KEYS: [&str; 1] = ["who"];
 
-const ASK_KEYS: [&str; 4] = ["never", "always_ends", "ends_waits", "as_picked"];
+const ASK_KEYS: [&str; 8] = [
+    "never",
+    "always_ends",
+    "ends_waits",
+    "as_picked",
+    "never_state",
+    "sometimes",
+    "always",
+    "outcomes",
+];
 
 const CALLBACK_KEYS: [&str; 2] = ["accepts", "do"];
 
@@ -104,7 +113,7 @@ fn is_pass_key(key: &str) -> bool
 fn is_list_key(key: &str) -> bool
     ensures { result ≡ words.is_list_key key.now }
 {
-    matches!(key, "never" | "do")
+    matches!(key, "never" | "do") || matches!(key, "never_state" | "sometimes" | "always")
 }
 
 fn is_truth_key(key: &str) -> bool

@@ -2,6 +2,7 @@ pub mod Totals
 pub mod Leads
 pub mod Weighing
 pub mod Fronts
+pub mod Noticing
 pub mod Going
 pub mod EveryRun
 pub mod Once

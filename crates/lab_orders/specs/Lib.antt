@@ -1,3 +1,4 @@
+pub mod Firsts
 pub mod Fronts
 pub mod Laws
 pub mod Machines

@@ -1,9 +1,11 @@
 //! All orders of a world.
 ghost use Rattle.std.specs.Prelude.{ℕ, [], ◌∷◌, ◌++◌, if◌then◌else◌, ◌≡◌, ◌+◌, ◌<◌, ◌≤◌, ◌⊎◌, ◌||◌, true, false, min, not, is_some, length, vec_len, OnOk, IfOk, IfErr, ◌*◌};
+ghost use Rattle.lab_orders.specs.Firsts.{AreFirsts};
 ghost use Rattle.lab_orders.specs.Fronts.{AddsSteps, AreFit, AreLed, AreOver, AreShortest, IsFront, IsGone, LeadsOn};
 ghost use Rattle.lab_orders.specs.Machines.{numbers_below, is_over, orders, runs};
 ghost use Rattle.lab_orders.specs.Weights.{ahead, ahead_by, count_limit, total, weight};
 
+use crate::firsts::{First, no_firsts, noticed};
 use crate::levels::{Level, OrdersError, add_orders, first_level};
 use crate::nodes::Node;
 use crate::worlds::World;
@@ -14,6 +16,8 @@ use std::alloc::{AllocError, Global};
 pub struct Explored<M> {
     /// The moments at which nobody can make a step, those of the shortest orders first.
     pub ends: Vec<Node<M>>,
+    /// For each question of the world the first order that leads to a moment at which it holds.
+    pub firsts: Vec<First>,
     /// How many steps were gone through: the orders are those of fewer.
     pub steps: usize,
     /// How many moments were gone through.
@@ -188,8 +192,9 @@ fn next_front<W: World>(
 }
 
 // What was found, as far as it was gone.
-fn found<M: Drop>(front: Front<M>) -> Explored<M>
+fn found<M: Drop>(front: Front<M>, firsts: Vec<First>) -> Explored<M>
     ensures ends { result.ends.items ≡ front.ends.items }
+    ensures firsts { result.firsts.items ≡ firsts.items }
     ensures steps { result.steps ≡ front.steps }
     ensures moments { result.moments ≡ front.moments }
     ensures whole { result.whole ≡ true → front.level.nodes.items ≡ [] }
@@ -204,6 +209,7 @@ fn found<M: Drop>(front: Front<M>) -> Explored<M>
     let whole = level.nodes.is_empty();
     Explored {
         ends,
+        firsts,
         steps,
         moments,
         whole,
@@ -245,6 +251,11 @@ pub fn explore<W: World>(
     ensures over { IfOk result (λ found. AreOver (W.machine world.now) (W.state world.now) found.ends.items) }
     ensures shortest { IfOk result (λ found. AreShortest found.steps found.ends.items) }
 
+    // Of each question there is the first order that leads to a moment at which it holds; where there is none, it holds
+    // at no moment of any order that was gone through.
+    ensures firsts { IfOk result (λ found. AreFirsts (W.machine world.now) (W.state world.now start) (W.holds world.now) found.steps 0 found.firsts.items) }
+    ensures each { IfOk result (λ found. length found.firsts.items ≡ W.asked world.now) }
+
     // It is `Count` only where some number of steps, no more than asked, has more runs than a count can tell.
     ensures uncounted { IfErr result (λ error. error ≡ OrdersError.Count → (k : ℕ) × (k ≤ steps) × (count_limit ≤ length (runs (W.machine world.now) (W.state world.now start) k))) }
 {
@@ -252,18 +263,26 @@ pub fn explore<W: World>(
         Ok(front) => front,
         Err(_) => return Err(OrdersError::Memory),
     };
+    let mut firsts = match no_firsts(alloc, world.questions()) {
+        Ok(firsts) => firsts,
+        Err(_) => return Err(OrdersError::Memory),
+    };
     for _step in 0..steps {
         let count = front.level.nodes.len();
         if count == 0 {
-            return Ok(found(front));
+            return Ok(found(front, firsts));
         }
         if count > most {
-            return Ok(found(front));
+            return Ok(found(front, firsts));
         }
+        firsts = match noticed(alloc, world, firsts, front.level.nodes.as_slice()) {
+            Ok(firsts) => firsts,
+            Err(_) => return Err(OrdersError::Memory),
+        };
         front = match next_front(alloc, world, front) {
             Ok(next) => next,
             Err(error) => return Err(error),
         };
     }
-    Ok(found(front))
+    Ok(found(front, firsts))
 }

@@ -3,6 +3,7 @@
 #![tactic(auto)]
 
 mod exploring;
+mod firsts;
 mod laws;
 mod levels;
 mod nodes;
@@ -10,6 +11,7 @@ mod tallies;
 mod worlds;
 
 pub use exploring::{Explored, explore};
+pub use firsts::First;
 pub use laws::{
     merges_are_orders, orders_are_merges, orders_end, runs_are_all_runs, runs_are_there_once,
 };

@@ -1,5 +1,5 @@
 //! What callers drive.
-ghost use Rattle.std.specs.Prelude.{ℕ, ◌≡◌, ◌<◌, true, IfOk, IfSome, option_map};
+ghost use Rattle.std.specs.Prelude.{ℕ, Bool, ◌≡◌, ◌<◌, true, IfOk, IfSome, option_map};
 
 use std::alloc::{AllocError, Global};
 
@@ -22,6 +22,12 @@ pub trait World {
 
     /// That a moment is one of this world.
     ghost fits: { Self → Self.Moment → Type 0 };
+
+    /// What is asked at each moment: whether the question with this number holds of a state.
+    ghost holds: { Self → ℕ → Self.State → Bool };
+
+    /// How many questions are asked.
+    ghost asked: { Self → ℕ };
 
     /// How many callers there are.
     fn callers(&self) -> u16
@@ -47,4 +53,13 @@ pub trait World {
         requires one { fits self.now one.now }
         requires other { fits self.now other.now }
         ensures { result ≡ true → state self.now one.now ≡ state self.now other.now };
+
+    /// How many questions are asked at each moment.
+    fn questions(&self) -> usize
+        ensures { result ≡ asked self.now };
+
+    /// Whether the question with this number holds at a moment.
+    fn holds(&self, question: usize, moment: &Self::Moment) -> bool
+        requires { fits self.now moment.now }
+        ensures { result ≡ holds self.now question (state self.now moment.now) };
 }

@@ -9,3 +9,4 @@ pub mod ShareLaws
 pub mod TextLaws
 pub mod ToldLaws
 pub mod TrailLaws
+pub mod WatchLaws

@@ -1,6 +1,6 @@
 -- Texts that are the same.
-use Rattle.std.proofs.Common.{◌≡◌, ℕ, zero, suc, ◌<◌, true, ◌&&◌, List, [], ◌∷◌, length, get_or, map, Result, refl, sym, ap, ◌∙◌, arith}
-use Rattle.std.specs.Prelude.{String, slice_index, slice_index_or, slice_set, string_bytes, string_eq}
+use Rattle.std.proofs.Common.{◌≡◌, ℕ, zero, suc, ◌<◌, true, ◌&&◌, List, [], ◌∷◌, ◌++◌, append_assoc, length, get_or, map, Result, refl, sym, ap, ◌∙◌, arith}
+use Rattle.std.specs.Prelude.{Err, Ok, OnOk, String, if◌then◌else◌, is_ok, slice_index, slice_index_or, slice_set, string_bytes, string_eq}
 use Rattle.std.specs.Cmp.Lexicographic.{pointwise, same_text}
 use Rattle.std.proofs.lemmas.Bool.{and_parts}
 use Rattle.evl_base.specs.declared.refusal.Refusal.{Refusal}
@@ -41,3 +41,14 @@ answers_set answers all i told r reply lt same is said =
     let now : string_bytes told ≡ answer_line (slice_index_or (map string_bytes answers) i []) reply =
     said ∙ ap (λ (text : List ℕ). answer_line text reply) (sym (mapped_at string_bytes answers i r [] lt is)) in
     mapped_set string_bytes all i told ∙ (λ k. slice_set (same k) i (now k))
+
+-- three texts that were written one after another
+pub three_written : (text one two a b c d : List ℕ) → one ≡ text ++ a → two ≡ one ++ b → b ≡ d → two ++ c ≡ text ++ (a ++ (d ++ c))
+three_written text one two a b c d first second same =
+    ap (λ (t : List ℕ). t ++ c) (second ∙ (ap (λ (t : List ℕ). t ++ b) first ∙ (append_assoc text a b ∙ ap (λ (t : List ℕ). text ++ (a ++ t)) same)))
+    ∙ (append_assoc text (a ++ d) c ∙ ap (λ (t : List ℕ). text ++ t) (append_assoc a d c))
+
+-- the last of them is written, or memory ran out
+pub written_if : {X E : Type 0} (r : Result X E) (new old text whole : List ℕ) → new ≡ (if is_ok r then old ++ text else old) → old ++ text ≡ whole → OnOk r (new ≡ whole)
+written_if (Ok x) new old text whole is same = is ∙ same
+written_if (Err e) new old text whole is same = tt

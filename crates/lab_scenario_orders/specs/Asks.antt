@@ -1,5 +1,5 @@
 -- What is asked of all orders, by what is told of their ends.
-use Rattle.std.specs.Prelude.{ℕ, ◌≡◌, ◌==◌, Bool, true, false, ◌&&◌, ◌||◌, if◌then◌else◌, List, [], ◌∷◌, ◌++◌, codes, map, drop, take, length, string_bytes, Option, Some, None, is_some, option_and_then, unwrap_or, All}
+use Rattle.std.specs.Prelude.{ℕ, ◌≡◌, ◌==◌, Bool, true, false, ◌&&◌, ◌||◌, if◌then◌else◌, List, [], ◌∷◌, ◌++◌, codes, map, drop, take, length, string_bytes, Option, Some, None, is_some, option_and_then, option_map, unwrap_or, All}
 use Rattle.std.specs.Fmt.{decimal}
 use Rattle.std.specs.List.{list_any}
 use Rattle.std.specs.Char.{is_ascii_digit}
@@ -7,9 +7,10 @@ use Rattle.std.specs.Str.{bytes_eq, trim}
 use Rattle.std.specs.Str.Iter.{HasSubslice}
 use Rattle.std.specs.Cmp.Lexicographic.{pointwise}
 use Rattle.std.specs.Option.{option_map_or}
-use Rattle.toml.specs.Data.{Data, Members, no_members, get_member, as_array, as_str, as_table}
-use Rattle.evl_scenario.specs.Tables.{all_given, has_only, value_or}
-use Rattle.evl_scenario.specs.Values.{truth_from}
+use Rattle.toml.specs.Data.{Data, Members, no_members, get_member, as_table}
+use Rattle.evl_scenario.specs.Tables.{has_only, value_or}
+use Rattle.evl_scenario.specs.Values.{half_word_from, truth_from}
+use Rattle.lab_scenario_orders.specs.WatchTexts.{texts_in, watch_text, watched_in}
 use Rattle.lab_scenario_orders.specs.declared.asks.Ask.{Ask}
 use Rattle.lab_scenario_orders.specs.declared.asks.Never.{Never}
 use Rattle.lab_scenario_orders.specs.declared.callers.Caller.{Caller}
@@ -100,21 +101,24 @@ pub record IsAnswerOf (callers : List Caller) (never : Never) : Type 0 where
 abbrev pub AreOfCallers : List Caller → List Never → Type 0
 AreOfCallers callers never = All (IsAnswerOf callers) never
 
--- the texts at `never`
-abbrev pub never_in : Option Data → Option (List (List ℕ))
-never_in None = Some []
-never_in (Some value) = option_and_then (all_given as_str) (as_array value)
-
 abbrev pub ask_keys : List (List ℕ)
-ask_keys = codes "never" ∷ codes "always_ends" ∷ codes "ends_waits" ∷ codes "as_picked" ∷ []
+ask_keys =
+    codes "never" ∷ codes "always_ends" ∷ codes "ends_waits" ∷ codes "as_picked" ∷ codes "never_state" ∷ codes "sometimes"
+    ∷ codes "always" ∷ codes "outcomes" ∷ []
+
+-- how many outcomes there are to be, below 2 ^ 16
+abbrev pub number_given : Data → Option (Option ℕ)
+number_given value = option_map (λ n. Some n) (half_word_from value)
 
 -- a table asks just this
 pub record Asks (ms : Members) (ask : Ask) : Type 0 where
   pub keys : has_only ask_keys ms ≡ true
-  pub never : never_in (get_member (codes "never") ms) ≡ Some (map never_text ask.never.items)
+  pub never : texts_in (get_member (codes "never") ms) ≡ Some (map never_text ask.never.items)
   pub ends : value_or truth_from false (get_member (codes "always_ends") ms) ≡ Some ask.always_ends
   pub waits : value_or truth_from false (get_member (codes "ends_waits") ms) ≡ Some ask.ends_waits
   pub picked : value_or truth_from false (get_member (codes "as_picked") ms) ≡ Some ask.as_picked
+  pub watches : watched_in ms ≡ Some (map watch_text ask.watches.items)
+  pub outcomes : value_or number_given None (get_member (codes "outcomes") ms) ≡ Some ask.outcomes
 
 -- the table of a document, which is empty where there is none
 abbrev pub ask_table : Members → Option Members

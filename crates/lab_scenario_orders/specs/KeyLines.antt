@@ -43,9 +43,14 @@ key_name key.Never = Some (codes "never")
 key_name key.AlwaysEnds = Some (codes "always_ends")
 key_name key.EndsWaits = Some (codes "ends_waits")
 key_name key.AsPicked = Some (codes "as_picked")
+key_name key.NeverState = Some (codes "never_state")
+key_name key.Sometimes = Some (codes "sometimes")
+key_name key.Always = Some (codes "always")
+key_name key.Outcomes = Some (codes "outcomes")
 key_name key.Other = None
 
--- a fault of a key has the line that sets it
+-- a fault of a key, or of facts at it, has the line that sets it
 abbrev pub IsPlaced : List ℕ → AskFault → Type 0
 IsPlaced text (fault.Key key line) = line ≡ line_set (key_name key) text
+IsPlaced text (fault.Facts key n why line) = line ≡ line_set (key_name key) text
 IsPlaced text _ = Unit {0}

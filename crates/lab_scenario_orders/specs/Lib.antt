@@ -1,7 +1,11 @@
 pub mod Answers
 pub mod Asks
 pub mod Callers
+pub mod Claims
+pub mod FactTexts
+pub mod Facts
 pub mod Firsts
+pub mod Json
 pub mod KeyLines
 pub mod Leaving
 pub mod Moments
@@ -11,3 +15,6 @@ pub mod Scenarios
 pub mod Shares
 pub mod Splits
 pub mod Told
+pub mod Warnings
+pub mod Watches
+pub mod WatchTexts

@@ -6,8 +6,10 @@ use Rattle.evl_base.specs.declared.reply.Reply.{Reply}
 use Rattle.evl_kernel.specs.state.States.{State, Handler}
 use Rattle.evl_kernel.specs.histories.Replays.{step_outcome}
 use Rattle.lab_scenario_orders.specs.Callers.{Seen, state_begun}
+use Rattle.lab_scenario_orders.specs.Watches.{is_noted}
 use Rattle.lab_scenario_orders.specs.declared.callers.Callers.{Callers}
 use Rattle.lab_scenario_orders.specs.declared.moments.Moment.{Moment}
+use Rattle.lab_scenario_orders.specs.declared.watches.Watch.{Watch}
 
 -- the records after the step at this place
 abbrev pub made_at : Callers → State → ℕ → State
@@ -38,3 +40,8 @@ seen_at c bank moment = seen_from c (state_begun c bank) moment
 pub record IsMoment (c : Callers) (moment : Moment) : Type 0 where
   pub made : length moment.made.items ≡ length c.callers.items
   pub answers : length moment.answers.items ≡ length c.callers.items
+
+-- and of what is asked of moments, it is noted what the records are as is looked for
+pub record IsNoted (c : Callers) (bank : List Handler) (watches : List Watch) (moment : Moment) : Type 0 where
+  pub places : IsMoment c moment
+  pub noted : moment.noted.items ≡ map (is_noted (seen_at c bank moment).state) watches

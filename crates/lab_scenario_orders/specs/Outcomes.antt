@@ -1,6 +1,7 @@
 -- What all orders of callers end in.
 use Rattle.std.specs.Prelude.{ℕ, ◌≡◌, ◌≤◌, ◌<◌, ◌+◌, ◌⊎◌, true, false, List, [], length, map, All, AllPairs}
 use Rattle.evl_kernel.specs.state.States.{Handler}
+use Rattle.lab_orders.specs.Firsts.{AreFirsts}
 use Rattle.lab_orders.specs.Fronts.{IsGone}
 use Rattle.lab_orders.specs.Machines.{orders, runs}
 use Rattle.lab_orders.specs.Tallies.{AreDistinct, told_weight}
@@ -10,8 +11,10 @@ use Rattle.lab_scenario_orders.specs.Callers.{first_seen, machine}
 use Rattle.lab_scenario_orders.specs.Firsts.{LeadThere}
 use Rattle.lab_scenario_orders.specs.Moments.{seen_at}
 use Rattle.lab_scenario_orders.specs.Told.{told_text}
+use Rattle.lab_scenario_orders.specs.Watches.{is_noted_at}
 use Rattle.lab_scenario_orders.specs.declared.callers.Callers.{Callers}
 use Rattle.lab_scenario_orders.specs.declared.outcomes.Outcomes.{Outcomes}
+use Rattle.lab_scenario_orders.specs.declared.watches.Watch.{Watch}
 
 -- how many steps the order of each outcome has
 abbrev pub lengths : List Tally → List ℕ
@@ -27,7 +30,7 @@ pub record AreRisen (k : ℕ) (outcomes : List Tally) : Type 0 where
   pub below : All (λ n. n ≤ k) (lengths outcomes)
 
 -- The outcomes of all orders of callers over a bank.
-pub record AreOutcomes (c : Callers) (bank : List Handler) (most : ℕ) (found : Outcomes) : Type 0 where
+pub record AreOutcomes (c : Callers) (bank : List Handler) (watches : List Watch) (most : ℕ) (found : Outcomes) : Type 0 where
   -- whatever is counted of what is told: the outcomes, each as often as its count says, give what all orders give
   pub counted : (f : List ℕ → ℕ) → told_weight f found.all.items ≡ total (λ seen. f (told_text c seen)) (orders (machine c) (first_seen c bank) found.steps)
   -- no two are told alike
@@ -37,6 +40,9 @@ pub record AreOutcomes (c : Callers) (bank : List Handler) (most : ℕ) (found :
   pub rise : AreRising found.all.items
   -- there are so many orders
   pub count : found.count ≡ length (orders (machine c) (first_seen c bank) found.steps)
+  -- of what is asked of moments, the first order that leads to one where it is noted, or that none does
+  pub firsts : AreFirsts (machine c) (first_seen c bank) (λ n seen. is_noted_at watches n seen.state) found.steps 0 found.firsts.items
+  pub watched : length found.firsts.items ≡ length watches
   -- no number of steps that leads to more than `most` moments was gone on from, and so many moments were gone through
   pub asked : found.steps ≤ length c.steps.items + 1
   pub gone : IsGone (machine c) (seen_at c bank) (first_seen c bank) most found.steps found.moments

@@ -29,14 +29,14 @@ pub fn ask_all<B: BankMaker>(
     ask: &Ask,
     most: usize,
 ) -> Result<Asked, OrdersError>
-    ensures outcomes { IfOk result (λ asked. AreOutcomes callers.now (B.bank bank.now) most asked.outcomes) }
+    ensures outcomes { IfOk result (λ asked. AreOutcomes callers.now (B.bank bank.now) ask.now.watches.items most asked.outcomes) }
     ensures against { IfOk result (λ asked. asked.against ≡ position (λ outcome. is_against ask.now (string_bytes outcome.told)) asked.outcomes.all.items) }
 
     // Where no outcome is, no order ends so.
     ensures none { IfOk result (λ asked. asked.against ≡ None
         → All (λ run. is_against ask.now (told_text callers.now run.at) ≡ false) (orders (machine callers.now) (first_seen callers.now (B.bank bank.now)) asked.outcomes.steps)) }
 {
-    let outcomes = match outcomes_of(alloc, callers, bank, most) {
+    let outcomes = match outcomes_of(alloc, callers, bank, ask.watches.as_slice(), most) {
         Ok(outcomes) => outcomes,
         Err(error) => return Err(error),
     };

@@ -1,5 +1,5 @@
 //! What is asked of all orders.
-ghost use Rattle.std.specs.Prelude.{◌≡◌, ◌++◌, IfErr, IfOk, IfSome, IsSomeAnd, Some, codes, false, map, option_and_then, option_map, position, string_bytes, true};
+ghost use Rattle.std.specs.Prelude.{◌≡◌, ◌++◌, IfErr, IfOk, IfSome, IsSomeAnd, None, Some, codes, false, map, option_and_then, option_map, position, string_bytes, true};
 ghost use Rattle.std.specs.List.{list_any};
 ghost use Rattle.std.specs.Str.{bytes_eq};
 ghost use Rattle.std.specs.Str.Iter.{HasSubslice};
@@ -7,16 +7,21 @@ ghost use Rattle.toml.specs.Data.{as_str, get_member};
 ghost use Rattle.toml.specs.Parse.{parse_document};
 ghost use Rattle.toml.specs.View.{items_view, table_view, view};
 ghost use Rattle.evl_scenario.specs.Tables.{all_given, value_or};
-ghost use Rattle.evl_scenario.specs.Values.{truth_from};
-ghost use Rattle.lab_scenario_orders.specs.Asks.{AreOfCallers, Asks, IsAnswerOf, IsParted, ask_table, caller_text, is_against, is_caller_text, is_line_of, is_stuck_line, is_wait_line, never_in, never_text, past_stuck, some_line};
+ghost use Rattle.evl_scenario.specs.Values.{number_from, truth_from};
+ghost use Rattle.lab_scenario_orders.specs.Asks.{AreOfCallers, Asks, IsAnswerOf, IsParted, ask_table, caller_text, is_against, is_caller_text, is_line_of, is_stuck_line, is_wait_line, never_text, number_given, past_stuck, some_line};
 ghost use Rattle.lab_scenario_orders.specs.KeyLines.{IsPlaced, key_name};
 ghost use Rattle.lab_scenario_orders.specs.Splits.{ask_part};
+ghost use Rattle.lab_scenario_orders.specs.WatchTexts.{texts_in};
+ghost use Rattle.lab_scenario_orders.specs.Watches.{AreWatches};
 
 use crate::callers::{Caller, Callers};
-use crate::key_lines::line_set;
+use crate::facts::Part;
+use crate::key_lines::{ASK_KEYS, line_set};
 use crate::searches::{Question, begins, behind, is_answered, some_line, waits_behind_number};
 use crate::splits::split_text;
-use evl_scenario::{field, has_only_keys};
+use crate::watch_texts::read_watches;
+use crate::watches::Watch;
+use evl_scenario::{field, has_only_keys, number_of_text};
 use lab_orders::Tally;
 use std::alloc::{AllocError, Global};
 use toml::{Table, Value};
@@ -43,6 +48,10 @@ pub struct Ask {
     pub ends_waits: bool,
     /// Whether only such orders are asked for in which steps are made as threads are picked.
     pub as_picked: bool,
+    /// Facts that are asked for at each moment.
+    pub watches: Vec<Watch>,
+    /// How many outcomes there are to be.
+    pub outcomes: Option<u16>,
 }
 
 /// A key of `[ask]`.
@@ -52,8 +61,21 @@ pub enum AskKey {
     AlwaysEnds,
     EndsWaits,
     AsPicked,
+    NeverState,
+    Sometimes,
+    Always,
+    Outcomes,
     /// Any other: `[ask]` doesn't have it.
     Other,
+}
+
+/// Why a text isn't facts of a board.
+#[derive(Clone, Copy, PartialEq, Eq, Debug)]
+pub enum FactFault {
+    /// It isn't facts with `and` between them; and the word of facts that may be meant in it.
+    Unread(Option<&'static str>),
+    /// It names something that the board lacks.
+    Lacking(Part),
 }
 
 /// Why it can't be read what is asked.
@@ -61,11 +83,13 @@ pub enum AskKey {
 pub enum AskFault {
     /// The text isn't UTF-8, or its tables `[ask]` aren't one table of TOML.
     Table,
-    /// This key has another value than a list of texts, at `never`, or `true` or `false`, at the others; or `[ask]`
-    /// doesn't have it. With its line, from 1, where one is found.
+    /// This key has another value than it may have: a list of texts, a number, or `true` or `false`; or `[ask]` doesn't
+    /// have it. With its line, from 1, where one is found.
     Key(AskKey, Option<usize>),
     /// This text of `never`, from 1, isn't a caller and one answer, as `T1 -> timed out`.
     Never(usize),
+    /// This text of a key, from 1, isn't facts of the board. With the key's line, from 1, where one is found.
+    Facts(AskKey, usize, FactFault, Option<usize>),
     /// A growth was refused.
     Memory,
 }
@@ -182,7 +206,7 @@ fn read_all(alloc: Global, callers: &Callers, values: &[Value]) -> Result<Vec<Ne
 
 // The answers at `never`.
 fn never_at(alloc: Global, callers: &Callers, table: &Table) -> Result<Vec<Never>, AskFault>
-    ensures texts { IfOk result (λ all. never_in (get_member (codes "never") (table_view table.now)) ≡ Some (map never_text all.items)) }
+    ensures texts { IfOk result (λ all. texts_in (get_member (codes "never") (table_view table.now)) ≡ Some (map never_text all.items)) }
     ensures who { IfOk result (λ all. AreOfCallers callers.now.callers.items all.items) }
 {
     match field(table, "never") {
@@ -207,12 +231,44 @@ fn truth_at(table: &Table, key: &str, fault: AskKey) -> Result<bool, AskFault>
     }
 }
 
+// An integer that isn't negative, or a text of a number.
+fn number_in(value: &Value) -> Option<u64>
+    ensures { result ≡ number_from (view value.now) }
+{
+    match value {
+        Value::Integer(number) => u64::try_from(*number).ok(),
+        Value::String(text) => number_of_text(text.as_str()),
+        _ => None,
+    }
+}
+
+// How many outcomes a value asks for.
+fn number_given(value: &Value) -> Option<Option<u16>>
+    ensures { result ≡ number_given (view value.now) }
+{
+    Some(Some(u16::try_from(number_in(value)?).ok()?))
+}
+
+// The number at `outcomes`.
+fn number_at(table: &Table) -> Result<Option<u16>, AskFault>
+    ensures { IfOk result (λ number. value_or number_given None (get_member (codes "outcomes") (table_view table.now)) ≡ Some number) }
+{
+    match field(table, "outcomes") {
+        Some(value) => match number_given(value) {
+            Some(number) => Ok(number),
+            None => Err(AskFault::Key(AskKey::Outcomes, None)),
+        },
+        None => Ok(None),
+    }
+}
+
 // What a table `[ask]` asks.
 fn read_table(alloc: Global, callers: &Callers, table: &Table) -> Result<Ask, AskFault>
     ensures asks { IfOk result (Asks (table_view table.now)) }
     ensures who { IfOk result (λ ask. AreOfCallers callers.now.callers.items ask.never.items) }
+    ensures watches { IfOk result (λ ask. AreWatches callers.now.board ask.watches.items) }
 {
-    if !has_only_keys(table, &["never", "always_ends", "ends_waits", "as_picked"]) {
+    if !has_only_keys(table, &ASK_KEYS) {
         return Err(AskFault::Key(AskKey::Other, None));
     }
     let always_ends = match truth_at(table, "always_ends", AskKey::AlwaysEnds) {
@@ -227,12 +283,22 @@ fn read_table(alloc: Global, callers: &Callers, table: &Table) -> Result<Ask, As
         Ok(as_picked) => as_picked,
         Err(fault) => return Err(fault),
     };
+    let outcomes = match number_at(table) {
+        Ok(outcomes) => outcomes,
+        Err(fault) => return Err(fault),
+    };
+    let watches = match read_watches(alloc, &callers.board, table) {
+        Ok(watches) => watches,
+        Err(fault) => return Err(fault),
+    };
     match never_at(alloc, callers, table) {
         Ok(never) => Ok(Ask {
             never,
             always_ends,
             ends_waits,
             as_picked,
+            watches,
+            outcomes,
         }),
         Err(fault) => Err(fault),
     }
@@ -242,6 +308,7 @@ fn read_table(alloc: Global, callers: &Callers, table: &Table) -> Result<Ask, As
 fn read_document(alloc: Global, callers: &Callers, document: &Table) -> Result<Ask, AskFault>
     ensures asks { IfOk result (λ ask. IsSomeAnd (ask_table (table_view document.now)) (λ table. Asks table ask)) }
     ensures who { IfOk result (λ ask. AreOfCallers callers.now.callers.items ask.never.items) }
+    ensures watches { IfOk result (λ ask. AreWatches callers.now.board ask.watches.items) }
 {
     match field(document, "ask") {
         Some(value) => match value.as_table() {
@@ -253,6 +320,8 @@ fn read_document(alloc: Global, callers: &Callers, document: &Table) -> Result<A
             always_ends: false,
             ends_waits: false,
             as_picked: false,
+            watches: Vec::new(alloc),
+            outcomes: None,
         }),
     }
 }
@@ -261,6 +330,7 @@ fn read_document(alloc: Global, callers: &Callers, document: &Table) -> Result<A
 fn read_text(alloc: Global, callers: &Callers, text: &str) -> Result<Ask, AskFault>
     ensures asks { IfOk result (λ ask. IsSomeAnd (option_and_then ask_table (parse_document text.now)) (λ table. Asks table ask)) }
     ensures who { IfOk result (λ ask. AreOfCallers callers.now.callers.items ask.never.items) }
+    ensures watches { IfOk result (λ ask. AreWatches callers.now.board ask.watches.items) }
 {
     match toml::table_from_str(alloc, text) {
         Ok(document) => read_document(alloc, callers, &document),
@@ -283,6 +353,10 @@ fn key_name(key: AskKey) -> Option<&'static str>
         AskKey::AlwaysEnds => Some("always_ends"),
         AskKey::EndsWaits => Some("ends_waits"),
         AskKey::AsPicked => Some("as_picked"),
+        AskKey::NeverState => Some("never_state"),
+        AskKey::Sometimes => Some("sometimes"),
+        AskKey::Always => Some("always"),
+        AskKey::Outcomes => Some("outcomes"),
         AskKey::Other => None,
     }
 }
@@ -296,6 +370,10 @@ fn placed(alloc: Global, text: &str, fault: AskFault) -> AskFault
             Ok(line) => AskFault::Key(key, line),
             Err(_) => AskFault::Memory,
         },
+        AskFault::Facts(key, number, why, _) => match line_set(alloc, text, key_name(key)) {
+            Ok(line) => AskFault::Facts(key, number, why, line),
+            Err(_) => AskFault::Memory,
+        },
         AskFault::Never(number) => AskFault::Never(number),
         AskFault::Table => AskFault::Table,
         AskFault::Memory => AskFault::Memory,
@@ -306,6 +384,7 @@ fn placed(alloc: Global, text: &str, fault: AskFault) -> AskFault
 pub fn read_ask(alloc: Global, callers: &Callers, bytes: &[u8]) -> Result<Ask, AskFault>
     ensures asks { IfOk result (λ ask. IsSomeAnd (option_and_then ask_table (parse_document (ask_part bytes.now))) (λ table. Asks table ask)) }
     ensures who { IfOk result (λ ask. AreOfCallers callers.now.callers.items ask.never.items) }
+    ensures watches { IfOk result (λ ask. AreWatches callers.now.board ask.watches.items) }
 
     // A fault of a key is told with the first line that sets it.
     ensures placed { IfErr result (IsPlaced bytes.now) }

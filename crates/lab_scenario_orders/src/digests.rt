@@ -1,6 +1,6 @@
 //! Digests of moments, and of how kernels stand.
 use crate::moments::Moment;
-use evl_base::{Board, FlagId, MutexId, SemId, ThreadId, Way, XbufId};
+use evl_base::{Board, FlagId, MutexId, SemId, Stage, ThreadId, Way, XbufId};
 use evl_kernel::{Awaited, KernelOf};
 use std::alloc::Global;
 
@@ -59,6 +59,7 @@ fn with_threads<C>(digest: u64, kernel: &KernelOf<C, Global>, count: u16) -> u64
         all = with_number(all, u64::from(kernel.ready(thread)));
         all = with_number(all, u64::from(kernel.waits(thread)));
         all = with_number(all, u64::from(kernel.finished(thread)));
+        all = with_number(all, u64::from(kernel.timed_out(thread)));
     }
     all
 }
@@ -135,10 +136,17 @@ fn with_ready<C>(alloc: Global, digest: u64, kernel: &KernelOf<C, Global>) -> u6
     all
 }
 
+// A digest with the date and the stalls of both stages.
+fn with_stages<C>(digest: u64, kernel: &KernelOf<C, Global>) -> u64 {
+    let date = with_number(digest, kernel.now());
+    let oob = with_number(date, u64::from(kernel.stalled(Stage::Oob)));
+    with_number(oob, u64::from(kernel.stalled(Stage::Inband)))
+}
+
 /// A number that is the same for kernels that stand alike, and seldom for others.
 pub(crate) fn standing_of<C>(alloc: Global, kernel: &KernelOf<C, Global>, board: &Board) -> u64 {
-    let date = with_number(START, kernel.now());
-    let ready = with_ready(alloc, date, kernel);
+    let stages = with_stages(START, kernel);
+    let ready = with_ready(alloc, stages, kernel);
     let threads = with_threads(with_thread(ready, kernel.picked()), kernel, board.threads);
     let sems = with_sems(threads, kernel, few(board.sems.len()));
     let flags = with_flags(sems, kernel, few(board.flags.len()));

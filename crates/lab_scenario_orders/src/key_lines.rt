@@ -9,6 +9,18 @@ use crate::splits::{bare, is_asked};
 use crate::text_lines::lines_of;
 use std::alloc::{AllocError, Global};
 
+/// The keys of `[ask]`.
+pub(crate) const ASK_KEYS: [&str; 8] = [
+    "never",
+    "always_ends",
+    "ends_waits",
+    "as_picked",
+    "never_state",
+    "sometimes",
+    "always",
+    "outcomes",
+];
+
 // What stands before the first `=`, and what behind it.
 fn around_equals(text: &str) -> Option<(&str, &str)>
     ensures { option_map (λ parts. (parts.0.now, parts.1.now)) result ≡ around_equals text.now }
@@ -29,8 +41,8 @@ fn key_set(line: &str) -> Option<&str>
     }
 }
 
-// Whether a key is among these.
-fn is_among(known: &[&str], key: &str) -> bool
+/// Whether a key is among these.
+pub(crate) fn is_among(known: &[&str], key: &str) -> bool
     ensures { result ≡ list_any (bytes_eq key.now) (map (λ word. word.now) known.now) }
 {
     for word in known {
@@ -78,6 +90,5 @@ pub(crate) fn line_set(
     ensures { IfOk result (λ number. number ≡ line_set (option_map (λ key. key.now) named.entry) text.now) }
 {
     let all = lines_of(alloc, text)?;
-    let known = ["never", "always_ends", "ends_waits", "as_picked"];
-    Ok(number_set(&known, named, all.as_slice()))
+    Ok(number_set(&ASK_KEYS, named, all.as_slice()))
 }

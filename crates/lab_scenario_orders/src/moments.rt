@@ -20,6 +20,8 @@ pub struct Moment {
     pub(crate) trail: Vec<usize>,
     /// A digest of how the kernel stands.
     pub(crate) standing: u64,
+    /// Of each question about moments whether the kernel stands as it looks for.
+    pub(crate) noted: Vec<bool>,
 }
 
 /// As many zeros as callers.
@@ -44,11 +46,16 @@ fn no_answers(alloc: Global, callers: &[Caller]) -> Result<Vec<String>, AllocErr
     Ok(answers)
 }
 
-/// The moment before the first caller's step.
-pub(crate) fn first_moment(alloc: Global, callers: &Callers) -> Result<Moment, AllocError>
+/// The moment before the first caller's step, with what is noted there.
+pub(crate) fn first_moment(
+    alloc: Global,
+    callers: &Callers,
+    noted: Vec<bool>,
+) -> Result<Moment, AllocError>
     ensures made { IfOk result (λ moment. moment.made.items ≡ map (λ caller. 0) callers.now.callers.items) }
     ensures answers { IfOk result (λ moment. map string_bytes moment.answers.items ≡ map (λ caller. []) callers.now.callers.items) }
     ensures trail { IfOk result (λ moment. moment.trail.items ≡ []) }
+    ensures noted { IfOk result (λ moment. moment.noted ≡ noted) }
 {
     let made = none_made(alloc, callers.callers.as_slice())?;
     let answers = no_answers(alloc, callers.callers.as_slice())?;
@@ -57,6 +64,7 @@ pub(crate) fn first_moment(alloc: Global, callers: &Callers) -> Result<Moment, A
         answers,
         trail: Vec::new(alloc),
         standing: 0,
+        noted,
     })
 }
 
@@ -142,7 +150,7 @@ fn trail_with(
 }
 
 /// The moment after a step of a caller that has made so many, with what it was answered, where the kernel stands as a
-/// digest tells.
+/// digest tells and as is noted.
 pub(crate) fn moment_after(
     alloc: Global,
     before: &Moment,
@@ -151,12 +159,14 @@ pub(crate) fn moment_after(
     place: usize,
     answer: &StepAnswer,
     standing: u64,
+    noted: Vec<bool>,
 ) -> Result<Moment, AllocError>
     requires made { caller < length before.now.made.items }
     requires answers { caller < length before.now.answers.items }
     ensures made { IfOk result (λ moment. moment.made.items ≡ slice_set before.now.made.items caller (count + 1)) }
     ensures answers { IfOk result (λ moment. map string_bytes moment.answers.items ≡ slice_set (map string_bytes before.now.answers.items) caller (answer_line (slice_index_or (map string_bytes before.now.answers.items) caller []) answer.now.0)) }
     ensures trail { IfOk result (λ moment. moment.trail.items ≡ trail_after before.now.trail.items place answer.now.0) }
+    ensures noted { IfOk result (λ moment. moment.noted ≡ noted) }
 {
     let made = made_with(alloc, before.made.as_slice(), caller, count)?;
     let answers = answers_with(alloc, before.answers.as_slice(), caller, answer)?;
@@ -166,6 +176,7 @@ pub(crate) fn moment_after(
         answers,
         trail,
         standing,
+        noted,
     })
 }
 

@@ -1,5 +1,7 @@
 //! The outcomes of all orders.
 ghost use Rattle.std.specs.Prelude.{ℕ, List, ◌≡◌, ◌+◌, ◌*◌, ◌<◌, ◌≤◌, ◌⊎◌, [], true, false, IfOk, OnOk, length, string_bytes, sum_by};
+ghost use Rattle.evl_kernel.specs.state.States.{Handler};
+ghost use Rattle.lab_orders.specs.Firsts.{AreFirsts};
 ghost use Rattle.lab_orders.specs.Fronts.{AreLed, AreOver, AreShortest, IsGone};
 ghost use Rattle.lab_orders.specs.Machines.{orders, runs};
 ghost use Rattle.lab_orders.specs.Tallies.{AreDistinct, told_weight};
@@ -7,9 +9,10 @@ ghost use Rattle.lab_orders.specs.Weights.{total, weight};
 ghost use Rattle.lab_scenario_orders.specs.Asks.{is_stuck_line, some_line};
 ghost use Rattle.lab_scenario_orders.specs.Callers.{Seen, state_begun, first_seen, machine};
 ghost use Rattle.lab_scenario_orders.specs.Firsts.{LeadThere, LeadsTo};
-ghost use Rattle.lab_scenario_orders.specs.Moments.{seen_at, trailed};
+ghost use Rattle.lab_scenario_orders.specs.Moments.{IsNoted, seen_at, trailed};
 ghost use Rattle.lab_scenario_orders.specs.Outcomes.{AreOutcomes, AreRisen, AreRising};
 ghost use Rattle.lab_scenario_orders.specs.Told.{told_text};
+ghost use Rattle.lab_scenario_orders.specs.Watches.{is_noted_at};
 
 use crate::asks::tells_stuck;
 use crate::banks::BankMaker;
@@ -17,9 +20,10 @@ use crate::callers::Callers;
 use crate::kernels::{leave, led};
 use crate::moments::{Moment, first_moment};
 use crate::told::told_of;
+use crate::watches::{Watch, noted};
 use crate::worlds::Driven;
 use evl_kernel::KernelOf;
-use lab_orders::{Explored, Node, OrdersError, Tally, add_tally, explore};
+use lab_orders::{Explored, First, Node, OrdersError, Tally, add_tally, explore};
 use std::alloc::{AllocError, Global};
 
 /// The outcomes of the orders of callers, each once, those of the shortest orders first.
@@ -29,6 +33,8 @@ pub struct Outcomes {
     /// what each caller was answered; and what there is at the end. How many orders end so, and the first of them that
     /// was found.
     pub all: Vec<Tally>,
+    /// Of each question about moments the first order that leads to one as it looks for.
+    pub firsts: Vec<First>,
     /// How many orders there are.
     pub count: u128,
     /// How many steps were gone through: the orders are those of fewer.
@@ -145,11 +151,48 @@ fn outcomes_at<B: BankMaker>(
     Ok(all)
 }
 
+// The moment before the first caller's step, with what is noted of a kernel that stands there.
+fn start_at<C>(
+    alloc: Global,
+    kernel: &KernelOf<C, Global>,
+    callers: &Callers,
+    watches: &[Watch],
+) -> Result<Moment, AllocError>
+    ensures start { IfOk result (λ start. (bank : List Handler) → seen_at callers.now bank start ≡ first_seen callers.now bank) }
+    ensures noted { IfOk result (λ start. (bank : List Handler) → kernel.now.history.state ≡ state_begun callers.now bank → IsNoted callers.now bank watches.now start) }
+{
+    match noted(alloc, kernel, watches) {
+        Ok(noted) => first_moment(alloc, callers, noted),
+        Err(error) => Err(error),
+    }
+}
+
+// The moment before the first caller's step.
+fn start_of<B: BankMaker>(
+    alloc: Global,
+    callers: &Callers,
+    bank: &B,
+    watches: &[Watch],
+) -> Result<Moment, AllocError>
+    ensures start { IfOk result (λ start. seen_at callers.now (B.bank bank.now) start ≡ first_seen callers.now (B.bank bank.now)) }
+    ensures noted { IfOk result (IsNoted callers.now (B.bank bank.now) watches.now) }
+{
+    match led(alloc, callers, bank, &[]) {
+        Ok(kernel) => {
+            let start = start_at(alloc, &kernel, callers, watches);
+            leave(kernel);
+            start
+        }
+        Err(error) => Err(error),
+    }
+}
+
 // Where all orders end.
 fn ends_of<B: BankMaker>(
     alloc: Global,
     callers: &Callers,
     bank: &B,
+    watches: &[Watch],
     most: usize,
 ) -> Result<Explored<Moment>, OrdersError>
     ensures counted { IfOk result (λ found. (f : Seen → ℕ) → weight (seen_at callers.now (B.bank bank.now)) f found.ends.items
@@ -163,8 +206,10 @@ fn ends_of<B: BankMaker>(
     ensures gone { IfOk result (λ found. IsGone (machine callers.now) (seen_at callers.now (B.bank bank.now)) (first_seen callers.now (B.bank bank.now)) most found.steps found.moments) }
     ensures more { IfOk result (λ found. found.whole ≡ false → 0 < length (runs (machine callers.now) (first_seen callers.now (B.bank bank.now)) found.steps)) }
     ensures shortest { IfOk result (λ found. AreShortest found.steps found.ends.items) }
+    ensures firsts { IfOk result (λ found. AreFirsts (machine callers.now) (first_seen callers.now (B.bank bank.now)) (λ n seen. is_noted_at watches.now n seen.state) found.steps 0 found.firsts.items) }
+    ensures watched { IfOk result (λ found. length found.firsts.items ≡ length watches.now) }
 {
-    let start = match first_moment(alloc, callers) {
+    let start = match start_of(alloc, callers, bank, watches) {
         Ok(start) => start,
         Err(_) => return Err(OrdersError::Memory),
     };
@@ -173,27 +218,30 @@ fn ends_of<B: BankMaker>(
         alloc,
         callers,
         bank,
+        watches,
     };
     explore(alloc, &driven, start, steps, most)
 }
 
-/// The outcomes of all orders of the callers over a bank. It goes no further than where a number of steps leads to more
+/// The outcomes of all orders of the callers over a bank, and what is asked of each moment. It goes no further than where a number of steps leads to more
 /// than `most` moments, and tells then that it isn't whole. `Memory` where memory couldn't grow, `Count` where more
 /// orders lead to one state than a count can tell.
 pub fn outcomes_of<B: BankMaker>(
     alloc: Global,
     callers: &Callers,
     bank: &B,
+    watches: &[Watch],
     most: usize,
 ) -> Result<Outcomes, OrdersError>
-    ensures { IfOk result (AreOutcomes callers.now (B.bank bank.now) most) }
+    ensures { IfOk result (AreOutcomes callers.now (B.bank bank.now) watches.now most) }
 {
     let Explored {
         ends,
+        firsts,
         steps,
         moments,
         whole,
-    } = match ends_of(alloc, callers, bank, most) {
+    } = match ends_of(alloc, callers, bank, watches, most) {
         Ok(found) => found,
         Err(error) => return Err(error),
     };
@@ -204,6 +252,7 @@ pub fn outcomes_of<B: BankMaker>(
     match outcomes_at(alloc, callers, bank, ends) {
         Ok(all) => Ok(Outcomes {
             all,
+            firsts,
             count,
             steps,
             moments,

@@ -81,8 +81,8 @@ fn is_end(text: &[u8]) -> bool
     begins(b" -> ", text) || begins(b"\n", text)
 }
 
-// Whether an arrow and this answer, whole, stand here.
-fn stands_here(answer: &[u8], text: &[u8]) -> bool
+/// Whether an arrow and this answer, whole, stand here.
+pub(crate) fn stands_here(answer: &[u8], text: &[u8]) -> bool
     ensures { result ≡ stands_here answer.now text.now }
 {
     match behind(b" -> ", text) {

@@ -1,10 +1,11 @@
 //! The callers of a scenario as a world.
-ghost use Rattle.std.specs.Prelude.{◌≡◌, ◌<◌, Some, IfOk, IfSome, length, option_map, slice_get, slice_index};
+ghost use Rattle.std.specs.Prelude.{◌≡◌, ◌<◌, Some, IfOk, IfSome, length, map, option_map, slice_get, slice_index};
 ghost use Rattle.evl_kernel.specs.state.Callbacks.{AnswersByPlan};
 ghost use Rattle.evl_kernel.specs.histories.Replays.{step_outcome};
 ghost use Rattle.evl_kernel.specs.state.States.{State};
 ghost use Rattle.lab_scenario_orders.specs.Callers.{after, state_begun, go, step_of};
-ghost use Rattle.lab_scenario_orders.specs.Moments.{IsMoment, seen_at, seen_from, trailed};
+ghost use Rattle.lab_scenario_orders.specs.Moments.{IsMoment, IsNoted, seen_at, seen_from, trailed};
+ghost use Rattle.lab_scenario_orders.specs.Watches.{is_noted};
 
 use crate::banks::BankMaker;
 use crate::callers::Callers;
@@ -13,6 +14,7 @@ use crate::kernels::{is_held, leave, led, make_step};
 use crate::merging::are_merged;
 use crate::moments::{Moment, moment_after};
 use crate::seen::SeenState;
+use crate::watches::{Watch, noted};
 use evl_kernel::KernelOf;
 use evl_pipeline::Handler;
 use evl_scenario::Step;
@@ -25,6 +27,8 @@ pub struct Driven<'a, B> {
     pub alloc: Global,
     pub callers: &'a Callers,
     pub bank: &'a B,
+    /// What is asked of each moment.
+    pub watches: &'a [Watch],
 }
 
 // The moment after a caller's next step, which the kernel makes.
@@ -32,6 +36,7 @@ fn after_step<C: Handler>(
     alloc: Global,
     kernel: &mut KernelOf<C, Global>,
     callers: &Callers,
+    watches: &[Watch],
     moment: &Moment,
     caller: usize,
     place: usize,
@@ -44,6 +49,7 @@ fn after_step<C: Handler>(
     ensures next { IfOk result (λ next. (s : State) → kernel.old.history.state ≡ trailed callers.now s moment.now.trail.items
         → seen_from callers.now s next ≡ after (seen_from callers.now s moment.now) caller (step_outcome kernel.old.history.state step.now.who.0 step.now.call)) }
     ensures fits { IfOk result (IsMoment callers.now) }
+    ensures noted { IfOk result (λ next. next.noted.items ≡ map (is_noted (step_outcome kernel.old.history.state step.now.who.0 step.now.call).after) watches.now) }
 {
     let count = moment.made[caller];
     let answer = match make_step(alloc, kernel, step) {
@@ -51,7 +57,13 @@ fn after_step<C: Handler>(
         Err(error) => return Err(error),
     };
     let standing = standing_of(alloc, kernel, &callers.board);
-    match moment_after(alloc, moment, caller, count, place, &answer, standing) {
+    let noted = match noted(alloc, kernel, watches) {
+        Ok(noted) => noted,
+        Err(error) => return Err(error),
+    };
+    match moment_after(
+        alloc, moment, caller, count, place, &answer, standing, noted,
+    ) {
         Ok(next) => Ok(next),
         Err(error) => Err(error),
     }
@@ -63,6 +75,7 @@ fn step_kernel<B: BankMaker>(
     kernel: &mut KernelOf<B::Made, Global>,
     callers: &Callers,
     bank: &B,
+    watches: &[Watch],
     moment: &Moment,
     caller: usize,
     place: usize,
@@ -71,15 +84,15 @@ fn step_kernel<B: BankMaker>(
     requires by_plan { AnswersByPlan B.Made.declared B.Made.plan kernel.old.callbacks }
     requires state { kernel.old.history.state ≡ trailed callers.now (state_begun callers.now (B.bank bank.now)) moment.now.trail.items }
     requires caller { caller < length callers.now.callers.items }
-    requires fits { IsMoment callers.now moment.now }
+    requires fits { IsNoted callers.now (B.bank bank.now) watches.now moment.now }
     requires step { slice_get callers.now.steps.items place ≡ Some step.now }
     ensures next { IfOk result (λ next. option_map (seen_at callers.now (B.bank bank.now)) next ≡ step_of callers.now.as_picked (seen_at callers.now (B.bank bank.now) moment.now) caller step.now) }
-    ensures fits { IfOk result (λ next. IfSome next (IsMoment callers.now)) }
+    ensures fits { IfOk result (λ next. IfSome next (IsNoted callers.now (B.bank bank.now) watches.now)) }
 {
     if is_held(kernel, callers.as_picked, step.who) {
         return Ok(None);
     }
-    match after_step(alloc, kernel, callers, moment, caller, place, step) {
+    match after_step(alloc, kernel, callers, watches, moment, caller, place, step) {
         Ok(next) => Ok(Some(next)),
         Err(error) => Err(error),
     }
@@ -90,16 +103,17 @@ fn stepped<B: BankMaker>(
     alloc: Global,
     callers: &Callers,
     bank: &B,
+    watches: &[Watch],
     moment: &Moment,
     caller: usize,
     place: usize,
     step: &Step,
 ) -> Result<Option<Moment>, AllocError>
     requires caller { caller < length callers.now.callers.items }
-    requires fits { IsMoment callers.now moment.now }
+    requires fits { IsNoted callers.now (B.bank bank.now) watches.now moment.now }
     requires step { slice_get callers.now.steps.items place ≡ Some step.now }
     ensures next { IfOk result (λ next. option_map (seen_at callers.now (B.bank bank.now)) next ≡ step_of callers.now.as_picked (seen_at callers.now (B.bank bank.now) moment.now) caller step.now) }
-    ensures fits { IfOk result (λ next. IfSome next (IsMoment callers.now)) }
+    ensures fits { IfOk result (λ next. IfSome next (IsNoted callers.now (B.bank bank.now) watches.now)) }
 {
     match led(alloc, callers, bank, moment.trail.as_slice()) {
         Ok(mut kernel) => {
@@ -108,6 +122,7 @@ fn stepped<B: BankMaker>(
                 &mut kernel,
                 callers,
                 bank,
+                watches,
                 moment,
                 caller,
                 place,
@@ -125,18 +140,19 @@ fn next_moment<B: BankMaker>(
     alloc: Global,
     callers: &Callers,
     bank: &B,
+    watches: &[Watch],
     moment: &Moment,
     caller: usize,
 ) -> Result<Option<Moment>, AllocError>
     requires caller { caller < length callers.now.callers.items }
-    requires fits { IsMoment callers.now moment.now }
+    requires fits { IsNoted callers.now (B.bank bank.now) watches.now moment.now }
     ensures next { IfOk result (λ next. option_map (seen_at callers.now (B.bank bank.now)) next ≡ go callers.now (seen_at callers.now (B.bank bank.now) moment.now) caller) }
-    ensures fits { IfOk result (λ next. IfSome next (IsMoment callers.now)) }
+    ensures fits { IfOk result (λ next. IfSome next (IsNoted callers.now (B.bank bank.now) watches.now)) }
 {
     let count = moment.made[caller];
     match callers.next_place(caller, count) {
         Some(place) => match callers.steps.get(place) {
-            Some(step) => stepped(alloc, callers, bank, moment, caller, place, step),
+            Some(step) => stepped(alloc, callers, bank, watches, moment, caller, place, step),
             None => Ok(None),
         },
         None => Ok(None),
@@ -145,7 +161,9 @@ fn next_moment<B: BankMaker>(
 
 impl<'a, B: BankMaker> World for Driven<'a, B> {
     ghost use Rattle.lab_scenario_orders.specs.Callers.{machine};
-    ghost use Rattle.lab_scenario_orders.specs.Moments.{IsMoment, seen_at};
+    ghost use Rattle.lab_scenario_orders.specs.Moments.{IsNoted, seen_at};
+    ghost use Rattle.lab_scenario_orders.specs.Watches.{is_noted_at};
+    ghost use Rattle.std.specs.Prelude.{length};
 
     type Moment = Moment;
 
@@ -155,7 +173,11 @@ impl<'a, B: BankMaker> World for Driven<'a, B> {
 
     ghost state = { λ driven moment. seen_at driven.callers.now (B.bank driven.bank.now) moment };
 
-    ghost fits = { λ driven moment. IsMoment driven.callers.now moment };
+    ghost fits = { λ driven moment. IsNoted driven.callers.now (B.bank driven.bank.now) driven.watches.now moment };
+
+    ghost holds = { λ driven question seen. is_noted_at driven.watches.now question seen.state };
+
+    ghost asked = { λ driven. length driven.watches.now };
 
     fn callers(&self) -> u16 {
         self.callers.count()
@@ -167,7 +189,14 @@ impl<'a, B: BankMaker> World for Driven<'a, B> {
         moment: &Moment,
         caller: u16,
     ) -> Result<Option<Moment>, AllocError> {
-        next_moment(alloc, self.callers, self.bank, moment, usize::from(caller))
+        next_moment(
+            alloc,
+            self.callers,
+            self.bank,
+            self.watches,
+            moment,
+            usize::from(caller),
+        )
     }
 
     fn digest(&self, moment: &Moment) -> u64 {
@@ -176,5 +205,13 @@ impl<'a, B: BankMaker> World for Driven<'a, B> {
 
     fn is_same(&self, one: &Moment, other: &Moment) -> bool {
         are_merged(self.alloc, self.callers, self.bank, one, other)
+    }
+
+    fn questions(&self) -> usize {
+        self.watches.len()
+    }
+
+    fn holds(&self, question: usize, moment: &Moment) -> bool {
+        moment.noted.get(question).copied().unwrap_or(false)
     }
 }

@@ -1,7 +1,8 @@
 //! What is asked of all orders.
+use lab_orders::First;
 use lab_scenario_orders::{
-    Ask, AskFault, AskKey, Callers, NoCallbacks, first_against, first_impossible, is_against,
-    near_answer, outcomes_of, read_ask, read_callers,
+    Ask, AskFault, AskKey, Callers, FactFault, NoCallbacks, Part, first_against, first_impossible,
+    is_against, near_answer, outcomes_of, read_ask, read_callers,
 };
 use std::alloc::Global;
 
@@ -40,7 +41,13 @@ fn first(alloc: Global, asked: &str) -> Result<Option<usize>, AskFault> {
     let Ok(callers) = read_callers(alloc, ONE_LEFT.as_bytes()) else {
         return Err(AskFault::Memory);
     };
-    match outcomes_of(alloc, &callers, &NoCallbacks, 10_000) {
+    match outcomes_of(
+        alloc,
+        &callers,
+        &NoCallbacks,
+        ask.watches.as_slice(),
+        10_000,
+    ) {
         Ok(outcomes) => Ok(first_against(&ask, outcomes.all.as_slice())),
         Err(_) => Err(AskFault::Memory),
     }
@@ -70,6 +77,44 @@ fn are_first(alloc: Global, rows: &[(&str, Option<usize>)]) -> bool {
 #[test]
 fn what_is_told_of_outcomes_is_asked(rt: HostRuntime) {
     assert!(rt; are_first(rt.alloc(), &FIRST));
+}
+
+// Whether this order is told.
+fn is_after(first: &First, order: &[u16]) -> bool {
+    match first {
+        First::After(found) => found.as_slice() == order,
+        First::Nowhere => false,
+    }
+}
+
+// Whether just the first two of what is asked are found, after these orders.
+fn are_found(alloc: Global, callers: &Callers, ask: &Ask, orders: [&[u16]; 2]) -> bool {
+    let watches = ask.watches.as_slice();
+    let Ok(outcomes) = outcomes_of(alloc, callers, &NoCallbacks, watches, 10_000) else {
+        return false;
+    };
+    match outcomes.firsts.as_slice() {
+        [one, other, First::Nowhere] => is_after(one, orders[0]) && is_after(other, orders[1]),
+        _ => false,
+    }
+}
+
+// Whether they are by what is asked.
+fn is_found(alloc: Global, asked: &str, orders: [&[u16]; 2]) -> bool {
+    let Ok(callers) = read_callers(alloc, ONE_LEFT.as_bytes()) else {
+        return false;
+    };
+    match read_ask(alloc, &callers, asked.as_bytes()) {
+        Ok(ask) => are_found(alloc, &callers, &ask, orders),
+        Err(_) => false,
+    }
+}
+
+#[test]
+fn each_moment_is_asked(rt: HostRuntime) {
+    let asked =
+        "[ask]\nalways = [\"sem 0 count > -2\"]\nnever_state = [\"T2 waits for sem 0\"]\nsometimes = [\"T1 waits and sem 0 count < 0\"]\n";
+    assert!(rt; is_found(rt.alloc(), asked, [&[0, 1], &[1, 0]]));
 }
 
 // Whether just an answer of the first caller that is done is meant.
@@ -193,7 +238,7 @@ fn answers_that_no_step_can_have_are_told(rt: HostRuntime) {
 }
 
 // What is asked, and why it can't be read.
-const REFUSED: [(&str, AskFault); 11] = [
+const REFUSED: [(&str, AskFault); 15] = [
     (
         "[ask]\nnever = [\"T1 -> done\", \"T7 -> done\"]\n",
         AskFault::Never(2),
@@ -205,7 +250,7 @@ const REFUSED: [(&str, AskFault); 11] = [
     ("[ask]\nnever = [\"T1\"]\n", AskFault::Never(1)),
     (
         "[ask]\nalways = true\n",
-        AskFault::Key(AskKey::Other, Some(2)),
+        AskFault::Key(AskKey::Always, Some(2)),
     ),
     (
         "[ask]\nalways_ends = 1\n",
@@ -230,6 +275,27 @@ const REFUSED: [(&str, AskFault); 11] = [
     (
         "[ask]\nnever = [1]\n",
         AskFault::Key(AskKey::Never, Some(2)),
+    ),
+    (
+        "[ask]\noutcomes = -1\n",
+        AskFault::Key(AskKey::Outcomes, Some(2)),
+    ),
+    (
+        "[ask]\nnever_state = [\"T1 picked\", \"T1 waits  for sem 0\"]\n",
+        AskFault::Facts(AskKey::NeverState, 2, FactFault::Unread(None), Some(2)),
+    ),
+    (
+        "[ask]\nalways_ends = true\nsometimes = [\"T1 redy and not T2 ready\"]\n",
+        AskFault::Facts(
+            AskKey::Sometimes,
+            1,
+            FactFault::Unread(Some("ready")),
+            Some(3),
+        ),
+    ),
+    (
+        "[ask]\nalways = [\"sem 0 count < 2 and T3 oob\"]\n",
+        AskFault::Facts(AskKey::Always, 1, FactFault::Lacking(Part::Thread), Some(2)),
     ),
     ("[ask]\nnever = [\n", AskFault::Table),
 ];

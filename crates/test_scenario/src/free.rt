@@ -23,7 +23,7 @@ fn worth(caller: u16) -> u32
 }
 
 impl World for Free {
-    ghost use Rattle.std.specs.Prelude.{⊤};
+    ghost use Rattle.std.specs.Prelude.{false, ⊤};
     ghost use Rattle.test_scenario.specs.Free.{machine};
 
     type Moment = u32;
@@ -35,6 +35,10 @@ impl World for Free {
     ghost state = { λ callers moment. moment };
 
     ghost fits = { λ callers moment. ⊤ };
+
+    ghost holds = { λ callers question moment. false };
+
+    ghost asked = { λ callers. 0 };
 
     fn callers(&self) -> u16 {
         4
@@ -58,6 +62,14 @@ impl World for Free {
 
     fn is_same(&self, one: &u32, other: &u32) -> bool {
         one == other
+    }
+
+    fn questions(&self) -> usize {
+        0
+    }
+
+    fn holds(&self, _question: usize, _moment: &u32) -> bool {
+        false
     }
 }
 

@@ -58,7 +58,7 @@ const INBAND: &str = "[board]\nthreads = 3\nsems = [0]\n
 
 // How many orders some callers have, how many outcomes, and how many orders end with somebody stuck.
 fn counts_of(alloc: Global, callers: &Callers) -> Result<(u128, usize, u128), OrdersError> {
-    let outcomes = outcomes_of(alloc, callers, &NoCallbacks, 10_000)?;
+    let outcomes = outcomes_of(alloc, callers, &NoCallbacks, &[], 10_000)?;
     let mut stuck: u128 = 0;
     for outcome in &outcomes.all {
         if is_stuck(outcome.told.as_str()) {
@@ -146,7 +146,7 @@ enum Wanted {
 
 // Whether the report of these outcomes tells it.
 fn tells(alloc: Global, callers: &Callers, outcomes: &Outcomes, wanted: Wanted) -> bool {
-    match write_report(alloc, callers, &NoCallbacks, outcomes) {
+    match write_report(alloc, callers, &NoCallbacks, &[], outcomes) {
         Ok(report) => match wanted {
             Wanted::AtFirst(told) => report.as_str().starts_with(told),
             Wanted::Somewhere(told) => report.as_str().contains(told),
@@ -157,7 +157,7 @@ fn tells(alloc: Global, callers: &Callers, outcomes: &Outcomes, wanted: Wanted) 
 
 // Whether that of some callers does.
 fn tells_of_callers(alloc: Global, callers: &Callers, wanted: Wanted) -> bool {
-    match outcomes_of(alloc, callers, &NoCallbacks, 10_000) {
+    match outcomes_of(alloc, callers, &NoCallbacks, &[], 10_000) {
         Ok(outcomes) => tells(alloc, callers, &outcomes, wanted),
         Err(_) => false,
     }

@@ -22,7 +22,7 @@ fn if_somewhere(state: u8) -> Option<u8>
 }
 
 impl World for Table {
-    ghost use Rattle.std.specs.Prelude.{⊤};
+    ghost use Rattle.std.specs.Prelude.{false, ⊤};
     ghost use Rattle.test_scenario.specs.Tables.{machine};
 
     type Moment = u8;
@@ -34,6 +34,10 @@ impl World for Table {
     ghost state = { λ table moment. moment };
 
     ghost fits = { λ table moment. ⊤ };
+
+    ghost holds = { λ table question moment. false };
+
+    ghost asked = { λ table. 0 };
 
     fn callers(&self) -> u16 {
         2
@@ -55,5 +59,13 @@ impl World for Table {
 
     fn is_same(&self, one: &u8, other: &u8) -> bool {
         one == other
+    }
+
+    fn questions(&self) -> usize {
+        0
+    }
+
+    fn holds(&self, _question: usize, _moment: &u8) -> bool {
+        false
     }
 }

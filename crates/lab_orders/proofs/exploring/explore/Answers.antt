@@ -1,6 +1,9 @@
-use Rattle.std.proofs.Common.{◌+◌, arith, inr}
+use Rattle.std.proofs.Common.{ℕ, List, ◌+◌, ◌∙◌, arith, inr, subst, sym}
 use Rattle.lab_orders.proofs.Fronts.{counted_at, whole_at, cut_at, more_at, led_at, over_at}
 use Rattle.lab_orders.proofs.Going.{gone_none, gone_more}
+use Rattle.lab_orders.proofs.Noticing.{firsts_at, none_yet}
+use Rattle.lab_orders.specs.Firsts.{AreFirsts}
+use Rattle.lab_orders.specs.Fronts.{IsFront}
 use Rattle.lab_orders.proofs.exploring.explore.Goals as goal
 
 pub returns-then-count-eq0-clause-counted : goal.returns-then-count-eq0-clause-counted
@@ -99,6 +102,9 @@ loop-step-init g c =
     record {
       front = c.in-Ok.ensures.front;
       steps = c.in-Ok.ensures.steps;
+      firsts = subst (λ (k : ℕ). AreFirsts (g.W.World.machine w) (g.W.World.state w c.args.start) (g.W.World.holds w) k 0 c.in-Ok-no_firsts.firsts.items) (sym c.in-Ok.ensures.steps)
+          (none_yet (g.W.World.machine w) (g.W.World.state w c.args.start) (g.W.World.holds w) 0 c.in-Ok-no_firsts.firsts.items c.in-Ok-no_firsts.ensures.none);
+      each = c.in-Ok-no_firsts.ensures.count ∙ c.questions.ensures;
       gone = gone_none (g.W.World.machine w) (g.W.World.state w) (g.W.World.state w c.args.start) c.args.most c.in-Ok.front.steps c.in-Ok.front.moments c.in-Ok.ensures.steps c.in-Ok.ensures.moments;
     }
 
@@ -109,6 +115,12 @@ loop-step-preserved g c =
     record {
       front = c.in-Ok-next_front.ensures.front (g.W.World.state w c.args.start) c.loop-step.invariant.front;
       steps = omega (arith, c.in-Ok-next_front.ensures.steps, c.loop-step.invariant.steps);
+      firsts = subst (λ (k : ℕ). AreFirsts (g.W.World.machine w) (g.W.World.state w c.args.start) (g.W.World.holds w) k 0 c.in-Ok-noticed.firsts.items) (sym c.in-Ok-next_front.ensures.steps)
+          (c.in-Ok-noticed.ensures.firsts (g.W.World.state w c.args.start) c.loop-step.front.steps c.loop-step.front.ends.items
+          (subst (λ (nodes : List _). IsFront (g.W.World.machine w) (g.W.World.state w) (g.W.World.fits w) (g.W.World.state w c.args.start) c.loop-step.front.steps nodes c.loop-step.front.ends.items)
+          (sym c.as_slice.ensures.value) c.loop-step.invariant.front)
+          c.loop-step.invariant.firsts);
+      each = c.in-Ok-noticed.ensures.count ∙ c.loop-step.invariant.each;
       gone = gone_more (g.W.World.machine w) (g.W.World.state w) (g.W.World.state w c.args.start) c.args.most c.loop-step.front.steps c.loop-step.front.moments
           c.in-Ok-next_front.next.steps c.in-Ok-next_front.next.moments level.items c.loop-step.invariant.gone c.loop-step.invariant.front.reached
           (omega (arith, level.ok.0, c.len-count.ensures, c.if-count-eq0.false)) (omega (arith, level.ok.0, c.len-count.ensures, c.if-count-most.false))
@@ -121,3 +133,21 @@ returns-in-Err-next_front-clause-uncounted g c = λ e. (
   omega (arith, c.loop-step-test.true, c.loop-step.invariant.steps),
   c.in-Err-next_front.ensures.uncounted e (g.W.World.state c.args.world.now c.args.start) c.loop-step.invariant.front,
 )
+
+pub returns-then-count-eq0-clause-firsts : goal.returns-then-count-eq0-clause-firsts
+returns-then-count-eq0-clause-firsts g c =
+    let w = c.args.world.now in
+    firsts_at (g.W.World.machine w) (g.W.World.state w c.args.start) (g.W.World.holds w) c.loop-step.front.steps c.found.result.steps c.loop-step.firsts.items c.found.result.firsts.items
+    c.loop-step.invariant.firsts c.found.ensures.firsts c.found.ensures.steps
+
+pub returns-then-count-most-clause-firsts : goal.returns-then-count-most-clause-firsts
+returns-then-count-most-clause-firsts g c =
+    let w = c.args.world.now in
+    firsts_at (g.W.World.machine w) (g.W.World.state w c.args.start) (g.W.World.holds w) c.loop-step.front.steps c.found-then-count-most.result.steps c.loop-step.firsts.items c.found-then-count-most.result.firsts.items
+    c.loop-step.invariant.firsts c.found-then-count-most.ensures.firsts c.found-then-count-most.ensures.steps
+
+pub returns-clause-firsts : goal.returns-clause-firsts
+returns-clause-firsts g c =
+    let w = c.args.world.now in
+    firsts_at (g.W.World.machine w) (g.W.World.state w c.args.start) (g.W.World.holds w) c.loop-step.front.steps c.found-2.result.steps c.loop-step.firsts.items c.found-2.result.firsts.items
+    c.loop-step.invariant.firsts c.found-2.ensures.firsts c.found-2.ensures.steps

@@ -27,6 +27,8 @@ returns-in-Ok-outcomes_at g c =
           ∙ (sym (weight_of_ones (seen_at callers bank) found.ends.items)
           ∙ (ends.counted (λ seen. 1)
           ∙ total_of_ones (orders (machine callers) (first_seen callers bank) found.steps)));
+      firsts = ends.firsts;
+      watched = ends.watched;
       asked = ends.asked;
       gone = ends.gone;
       whole = ends.whole;

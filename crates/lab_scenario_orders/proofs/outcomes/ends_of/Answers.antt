@@ -1,0 +1,11 @@
+use Rattle.std.proofs.Common.{ℕ, IfOk, subst}
+use Rattle.lab_orders.specs.Firsts.{AreFirsts}
+use Rattle.lab_scenario_orders.specs.Callers.{Seen, machine}
+use Rattle.lab_scenario_orders.specs.Watches.{is_noted_at}
+use Rattle.lab_scenario_orders.proofs.outcomes.ends_of.Goals as goal
+
+pub returns-clause-firsts : goal.returns-clause-firsts
+returns-clause-firsts g c =
+    let watches = c.args.watches.now in
+    subst (λ (s : Seen). IfOk c.explore.result (λ found. AreFirsts (machine c.args.callers.now) s (λ (n : ℕ) (seen : Seen). is_noted_at watches n seen.state) found.steps 0 found.firsts.items))
+    c.in-Ok.ensures.start c.explore.ensures.firsts
