@@ -1,5 +1,5 @@
 -- The orders of outcomes, where one of them gets more orders, or a new one comes.
-use Rattle.std.proofs.Common.{◌≡◌, ℕ, ◌+◌, ◌*◌, true, List, [], ◌∷◌, map, refl, sym, ap, subst, inl, inr, arith}
+use Rattle.std.proofs.Common.{◌≡◌, ℕ, ◌+◌, ◌*◌, ◌≤◌, true, List, [], ◌∷◌, map, refl, sym, ap, subst, inl, inr, arith}
 use Rattle.std.specs.Prelude.{All, string_bytes}
 use Rattle.std.proofs.lemmas.List.Elements.{All-cons, All-head, All-map, All-nil, All-push, All-tail}
 use Rattle.std.proofs.lemmas.List.Sums.{sum_by-cons}
@@ -32,6 +32,12 @@ module _ {M : Type 0} (c : Crew) (s : Seen) (state : M → Seen) (rest others : 
   weight_on f old new whole more all =
       let here : weight state f (end ∷ others) ≡ end.count * f (state end.at) + weight state f others = sum_by-cons (λ (n : Node M). n.count * f (state n.at)) end others in
       omega (arith, here, ap (weight state f) split, more, all)
+
+  -- more orders than a limit before this end and at it are among all
+  pub limit_on : (old whole limit : ℕ) → old + weight state (λ t. 1) rest ≡ whole → limit ≤ old + end.count → limit ≤ whole
+  limit_on old whole limit all more =
+      let here : weight state (λ t. 1) (end ∷ others) ≡ end.count * 1 + weight state (λ t. 1) others = sum_by-cons (λ (n : Node M). n.count * 1) end others in
+      omega (arith, here, ap (weight state (λ t. 1)) split, more, all)
 
   pub end_leads : AreLed (machine c) state s rest → AreOver (machine c) state rest → LeadsTo c s (told_text c (state end.at)) end.order.items
   end_leads led over = record {

@@ -2,6 +2,7 @@ pub mod Alike
 pub mod FirstLaws
 pub mod Opening
 pub mod OutcomeLaws
+pub mod ReportLaws
 pub mod RisingLaws
 pub mod Sound
 pub mod Standing

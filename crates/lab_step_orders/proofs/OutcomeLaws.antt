@@ -1,9 +1,15 @@
--- Sums over ends and over outcomes.
-use Rattle.std.proofs.Common.{◌≡◌, ◌+◌, ◌*◌, List, [], ◌∷◌, refl, arith}
+-- Sums over ends and over outcomes, and why outcomes can't be told.
+use Rattle.std.proofs.Common.{◌≡◌, ℕ, ◌+◌, ◌*◌, ◌≤◌, List, [], ◌∷◌, length, refl, arith, inl, inr}
 use Rattle.std.specs.Prelude.{sum_by}
 use Rattle.std.proofs.lemmas.List.Sums.{sum_by-cons}
-use Rattle.lab_orders.specs.Weights.{weight}
+use Rattle.lab_orders.specs.Machines.{orders, runs}
+use Rattle.lab_orders.specs.Weights.{count_limit, weight}
+use Rattle.lab_orders.specs.declared.levels.OrdersError.{OrdersError}
+use Rattle.lab_orders.specs.declared.levels.OrdersError.TheVariants.{Memory, Count}
 use Rattle.lab_orders.specs.declared.nodes.Node.{Node}
+use Rattle.lab_step_orders.specs.Outcomes.{CanNotTell}
+use Rattle.lab_step_orders.specs.Seen.{first_seen, machine}
+use Rattle.lab_step_orders.specs.declared.crews.Crew.{Crew}
 
 -- each order of a node counts once
 pub weight_of_ones : {M S : Type 0} (state : M → S) (nodes : List (Node M)) → weight state (λ s. 1) nodes ≡ sum_by (λ node. node.count) nodes
@@ -12,3 +18,12 @@ weight_of_ones {M} state (node ∷ nodes) =
     let more : weight state (λ s. 1) (node ∷ nodes) ≡ node.count * 1 + weight state (λ s. 1) nodes = sum_by-cons (λ (n : Node M). n.count * 1) node nodes in
     let all : sum_by (λ n. n.count) (node ∷ nodes) ≡ node.count + sum_by (λ n. n.count) nodes = sum_by-cons (λ (n : Node M). n.count) node nodes in
     omega (arith, more, all, weight_of_ones state nodes)
+
+-- of a number of steps there are more runs, or more orders of fewer, than a count can tell
+pub too_many_runs : (c : Crew) (most : ℕ) (e : OrdersError) → (e ≡ Count → (k : ℕ) × (k ≤ most) × (count_limit ≤ length (runs (machine c) (first_seen c) k))) → CanNotTell c e
+too_many_runs c most Memory f = tt
+too_many_runs c most Count f = let r = f refl in (r.0, inl r.2)
+
+pub too_many_orders : (c : Crew) (steps : ℕ) (e : OrdersError) → (e ≡ Count → count_limit ≤ length (orders (machine c) (first_seen c) steps)) → CanNotTell c e
+too_many_orders c steps Memory f = tt
+too_many_orders c steps Count f = (steps, inr (f refl))

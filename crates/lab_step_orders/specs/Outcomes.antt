@@ -3,7 +3,9 @@ use Rattle.std.specs.Prelude.{ℕ, ◌≡◌, ◌≤◌, ◌<◌, ◌⊎◌, tru
 use Rattle.lab_orders.specs.Fronts.{IsGone}
 use Rattle.lab_orders.specs.Machines.{is_over, led_along, orders, runs}
 use Rattle.lab_orders.specs.Tallies.{AreDistinct, told_weight}
-use Rattle.lab_orders.specs.Weights.{total}
+use Rattle.lab_orders.specs.Weights.{count_limit, total}
+use Rattle.lab_orders.specs.declared.levels.OrdersError.{OrdersError}
+use Rattle.lab_orders.specs.declared.levels.OrdersError.TheVariants.{Memory, Count}
 use Rattle.lab_orders.specs.declared.tallies.Tally.{Tally}
 use Rattle.lab_step_orders.specs.Moments.{seen_of}
 use Rattle.lab_step_orders.specs.Seen.{Seen, first_seen, machine}
@@ -18,9 +20,9 @@ staxes_text gates = lines_below (stax_line gates) (length gates)
 abbrev pub mutexes_text : List Shared → List ℕ
 mutexes_text mutexes = lines_below (mutex_line mutexes) (length mutexes)
 
--- what is told where callers and words stand so: what each caller was answered, and how the words stand
+-- what is told where callers and words stand so: what each caller with calls was answered, and how the words stand
 abbrev pub told_text : Crew → Seen → List ℕ
-told_text c s = lines_below (caller_line s.answers) (length c.callers.items) ++ (staxes_text s.gates ++ mutexes_text s.mutexes)
+told_text c s = lines_below (caller_line c s.answers) (length c.callers.items) ++ (staxes_text s.gates ++ mutexes_text s.mutexes)
 
 -- this order leads from here to where nobody can make a step, and just this is told there
 pub record LeadsTo (c : Crew) (s : Seen) (told order : List ℕ) : Type 0 where
@@ -45,6 +47,11 @@ AreRising outcomes = AllPairs (λ one other. one ≤ other) (lengths outcomes)
 pub record AreRisen (k : ℕ) (outcomes : List Tally) : Type 0 where
   pub rise : AreRising outcomes
   pub below : All (λ n. n ≤ k) (lengths outcomes)
+
+-- Why outcomes can't be told: memory ran out; or more runs of so many steps, or more orders of fewer, than a count can tell.
+abbrev pub CanNotTell : Crew → OrdersError → Type 0
+CanNotTell c Memory = Unit {0}
+CanNotTell c Count = (k : ℕ) × ((count_limit ≤ length (runs (machine c) (first_seen c) k)) ⊎ (count_limit ≤ length (orders (machine c) (first_seen c) k)))
 
 -- The outcomes of all orders of the callers' steps.
 pub record AreOutcomes (c : Crew) (most : ℕ) (found : StepOutcomes) : Type 0 where

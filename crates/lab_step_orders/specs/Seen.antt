@@ -72,9 +72,12 @@ after c s k turn = record {
   answers = slice_set s.answers k (answers_after turn.then (slice_index_or s.answers k []));
 }
 
--- a caller that has made all its calls makes no turn
+-- the next turn of a caller: one that has made all its calls makes none
+abbrev pub next_turn : Crew → Seen → ℕ → Option Turn
+next_turn c s k = turn_at c s.gates s.mutexes k (slice_index_or s.places k Begins) (next_call c k (slice_index s.made k))
+
 abbrev pub go : Crew → Seen → ℕ → Option Seen
-go c s k = option_map (after c s k) (turn_at c s.gates s.mutexes k (slice_index_or s.places k Begins) (next_call c k (slice_index s.made k)))
+go c s k = option_map (after c s k) (next_turn c s k)
 
 abbrev pub machine : Crew → Machine Seen
 machine c = record { callers = length c.callers.items; go = go c }

@@ -1,5 +1,5 @@
 -- What is told of callers and of the words at the end of an order.
-use Rattle.std.specs.Prelude.{ℕ, zero, suc, ◌-◌, ◌==◌, Bool, true, false, List, [], ◌++◌, codes, if◌then◌else◌, slice_get, slice_index_or}
+use Rattle.std.specs.Prelude.{ℕ, zero, suc, ◌-◌, ◌==◌, Bool, true, false, List, [], ◌++◌, codes, if◌then◌else◌, length, nat_lt, slice_get, slice_index_or}
 use Rattle.std.specs.Fmt.{decimal}
 use Rattle.std.specs.Option.{option_map_or}
 use Rattle.evl_base.specs.Refusal.{name_of}
@@ -9,6 +9,7 @@ use Rattle.evl_words.specs.MutexBits.{number_in}
 use Rattle.lab_step_orders.specs.Words.{Shared}
 use Rattle.lab_step_orders.specs.declared.calls.Answer.{Answer}
 use Rattle.lab_step_orders.specs.declared.calls.Answer.TheVariants.{Passed, Done, Wanted, Refused}
+use Rattle.lab_step_orders.specs.declared.crews.Crew.{Crew}
 
 abbrev pub answer_text : Answer → List ℕ
 answer_text Passed = codes "pass"
@@ -25,9 +26,13 @@ unfoldable pub lines_below : (ℕ → List ℕ) → ℕ → List ℕ
 lines_below line zero = []
 lines_below line (suc n) = lines_below line n ++ line n
 
--- what a caller was answered
-abbrev pub caller_line : List (List ℕ) → ℕ → List ℕ
-caller_line answers k = codes "T" ++ (decimal k ++ (slice_index_or answers k [] ++ codes "\n"))
+-- a caller has calls
+abbrev pub has_calls : Crew → ℕ → Bool
+has_calls c k = option_map_or (λ caller. nat_lt 0 (length caller.calls.items)) (slice_get c.callers.items k) false
+
+-- what such a caller was answered
+abbrev pub caller_line : Crew → List (List ℕ) → ℕ → List ℕ
+caller_line c answers k = if has_calls c k then codes "T" ++ (decimal k ++ (slice_index_or answers k [] ++ codes "\n")) else []
 
 abbrev pub mark_text : Bool → List ℕ
 mark_text true = codes ", claimed\n"

@@ -1,8 +1,8 @@
 //! What is kept of callers at one moment.
 ghost use Rattle.std.specs.Prelude.{◌≡◌, ◌+◌, [], ◌<◌, ◌≤◌, true, replicate, IfOk, IfSome, OnOk, length, map, option_map, slice_get, slice_index, slice_index_or, slice_set, string_bytes};
 ghost use Rattle.lab_step_orders.specs.Moments.{IsMoment, seen_of, shared_of};
-ghost use Rattle.lab_step_orders.specs.Seen.{after, answers_after, changed_at, first_seen, free_word, gates_after, go, made_after, mutexes_after, place_after};
-ghost use Rattle.lab_step_orders.specs.Programs.{limit_of, next_call, stage_of, turn_at};
+ghost use Rattle.lab_step_orders.specs.Seen.{after, answers_after, changed_at, first_seen, free_word, gates_after, go, made_after, mutexes_after, next_turn, place_after};
+ghost use Rattle.lab_step_orders.specs.Programs.{limit_of, stage_of};
 ghost use Rattle.lab_step_orders.specs.Told.{answer_line};
 ghost use Rattle.lab_step_orders.specs.Words as shared;
 ghost use Rattle.lab_step_orders.specs.declared.steps.Place.TheVariants.{Begins};
@@ -283,8 +283,8 @@ fn answers_after(
     Ok(all)
 }
 
-// The moment after a turn of a caller.
-fn moment_after(
+/// The moment after a turn of a caller.
+pub(crate) fn moment_after(
     alloc: Global,
     crew: &Crew,
     before: &Moment,
@@ -311,11 +311,11 @@ fn moment_after(
     })
 }
 
-// The next turn of a caller.
-fn next_turn(crew: &Crew, moment: &Moment, caller: u16) -> Option<Turn>
+/// The next turn of a caller.
+pub(crate) fn next_turn(crew: &Crew, moment: &Moment, caller: u16) -> Option<Turn>
     requires caller { caller < length crew.now.callers.items }
     requires fits { IsMoment crew.now moment.now }
-    ensures { result ≡ turn_at crew.now (map shared_of moment.now.gates.items) (map shared_of moment.now.mutexes.items) caller (slice_index_or moment.now.places.items caller Begins) (next_call crew.now caller (slice_index moment.now.made.items caller)) }
+    ensures { result ≡ next_turn crew.now (seen_of moment.now) caller }
 {
     let place = usize::from(caller);
     turn_at(

@@ -1,11 +1,11 @@
 //! The outcomes of all orders of atomic steps.
-ghost use Rattle.std.specs.Prelude.{ℕ, List, ◌≡◌, ◌+◌, ◌*◌, ◌<◌, ◌≤◌, ◌⊎◌, [], true, false, IfOk, OnOk, length, string_bytes, sum_by};
+ghost use Rattle.std.specs.Prelude.{ℕ, List, ◌≡◌, ◌+◌, ◌*◌, ◌<◌, ◌≤◌, ◌⊎◌, [], true, false, IfErr, IfOk, OnOk, length, string_bytes, sum_by};
 ghost use Rattle.lab_orders.specs.Fronts.{AreLed, AreOver, AreShortest, IsGone};
 ghost use Rattle.lab_orders.specs.Machines.{orders, runs};
 ghost use Rattle.lab_orders.specs.Tallies.{AreDistinct, told_weight};
-ghost use Rattle.lab_orders.specs.Weights.{total, weight};
+ghost use Rattle.lab_orders.specs.Weights.{count_limit, total, weight};
 ghost use Rattle.lab_step_orders.specs.Moments.{seen_of};
-ghost use Rattle.lab_step_orders.specs.Outcomes.{AreOutcomes, AreRisen, AreRising, LeadThere, LeadsTo, told_text};
+ghost use Rattle.lab_step_orders.specs.Outcomes.{AreOutcomes, AreRisen, AreRising, CanNotTell, LeadThere, LeadsTo, told_text};
 ghost use Rattle.lab_step_orders.specs.Seen.{Seen, first_seen, machine};
 
 use crate::crews::Crew;
@@ -59,6 +59,7 @@ fn put_end(
     ensures distinct { OnOk result (AreDistinct all.new.items) }
     ensures rise { OnOk result ((k : ℕ) → AreRisen k all.old.items → k ≤ length end.order.items → AreRisen (length end.order.items) all.new.items) }
     ensures lead { OnOk result ((s : Seen) → LeadThere crew.now s all.old.items → LeadsTo crew.now s (told_text crew.now (seen_of end.at)) end.order.items → LeadThere crew.now s all.new.items) }
+    ensures uncounted { IfErr result (λ error. error ≡ OrdersError.Count → count_limit ≤ told_weight (λ text. 1) all.old.items + end.count) }
 {
     match tally_of(alloc, crew, end) {
         Ok(tally) => match add_tally(all, tally) {
@@ -71,7 +72,8 @@ fn put_end(
 
 // How many orders lead to these ends.
 fn count_of(ends: &[Node<Moment>]) -> Result<u128, OrdersError>
-    ensures { IfOk result (λ count. count ≡ sum_by (λ end. end.count) ends.now) }
+    ensures sum { IfOk result (λ count. count ≡ sum_by (λ end. end.count) ends.now) }
+    ensures uncounted { IfErr result (λ error. count_limit ≤ sum_by (λ end. end.count) ends.now) }
 {
     let mut count: u128 = 0;
     for end in ends {
@@ -96,6 +98,7 @@ fn outcomes_at(
     ensures distinct { IfOk result (λ all. AreDistinct all.items) }
     ensures lead { IfOk result (λ all. LeadThere crew.now (first_seen crew.now) all.items) }
     ensures rise { IfOk result (λ all. AreRising all.items) }
+    ensures uncounted { IfErr result (λ error. error ≡ OrdersError.Count → count_limit ≤ weight seen_of (λ s. 1) ends.items) }
 {
     let mut all = Vec::new(alloc);
     for end in ends {
@@ -119,6 +122,7 @@ fn ends_of(alloc: Global, crew: &Crew, most: usize) -> Result<Explored<Moment>, 
     ensures gone { IfOk result (λ found. IsGone (machine crew.now) seen_of (first_seen crew.now) most found.steps found.moments) }
     ensures more { IfOk result (λ found. found.whole ≡ false → 0 < length (runs (machine crew.now) (first_seen crew.now) found.steps)) }
     ensures shortest { IfOk result (λ found. AreShortest found.steps found.ends.items) }
+    ensures uncounted { IfErr result (CanNotTell crew.now) }
 {
     let start = match first_moment(alloc, crew) {
         Ok(start) => start,
@@ -135,10 +139,12 @@ pub fn step_outcomes_of(
     crew: &Crew,
     most: usize,
 ) -> Result<StepOutcomes, OrdersError>
-    ensures { IfOk result (AreOutcomes crew.now most) }
+    ensures outcomes { IfOk result (AreOutcomes crew.now most) }
+    ensures uncounted { IfErr result (CanNotTell crew.now) }
 {
     let Explored {
         ends,
+        firsts: _,
         steps,
         moments,
         whole,

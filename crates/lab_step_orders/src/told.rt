@@ -3,7 +3,7 @@ ghost use Rattle.std.specs.Prelude.{◌≡◌, ◌++◌, [], IfOk, OnOk, length,
 ghost use Rattle.evl_words.specs.MutexBits.{number_in};
 ghost use Rattle.lab_step_orders.specs.Moments.{seen_of, shared_of};
 ghost use Rattle.lab_step_orders.specs.Outcomes.{mutexes_text, staxes_text, told_text};
-ghost use Rattle.lab_step_orders.specs.Told.{caller_line, lines_below, mark_text, mutex_text, owner_text, stax_text};
+ghost use Rattle.lab_step_orders.specs.Told.{caller_line, has_calls, lines_below, mark_text, mutex_text, owner_text, stax_text};
 
 use crate::crews::Crew;
 use crate::moments::Moment;
@@ -46,9 +46,20 @@ fn told_at(answers: &[String], caller: usize) -> &str
     }
 }
 
+// Whether a caller has calls.
+fn has_calls(crew: &Crew, caller: usize) -> bool
+    ensures { result ≡ has_calls crew.now caller }
+{
+    match crew.callers.get(caller) {
+        Some(one) => one.calls.len() > 0,
+        None => false,
+    }
+}
+
 // Lines of what callers were answered.
 #[derive(Drop)]
 struct Answered<'a> {
+    crew: &'a Crew,
     answers: &'a [String],
 }
 
@@ -56,9 +67,12 @@ impl<'a> Lines for Answered<'a> {
     ghost use Rattle.std.specs.Prelude.{map, string_bytes};
     ghost use Rattle.lab_step_orders.specs.Told.{caller_line};
 
-    ghost line = { λ answered k. caller_line (map string_bytes answered.answers.now) k };
+    ghost line = { λ answered k. caller_line answered.crew.now (map string_bytes answered.answers.now) k };
 
     fn put(&self, text: &mut String, number: usize) -> Result<(), AllocError> {
+        if !has_calls(self.crew, number) {
+            return Ok(());
+        }
         let told = told_at(self.answers, number);
         write!(text, "T{number}{told}\n")
     }
@@ -168,11 +182,11 @@ fn put_mutexes(text: &mut String, mutexes: &[SharedWord]) -> Result<(), AllocErr
     put_lines(text, &Mutexes { mutexes }, mutexes.len())
 }
 
-// Writes what each of so many callers was answered.
-fn put_answers(text: &mut String, answers: &[String], count: usize) -> Result<(), AllocError>
-    ensures { OnOk result (string_bytes text.new ≡ string_bytes text.old ++ lines_below (caller_line (map string_bytes answers.now)) count) }
+// Writes what each caller was answered.
+fn put_answers(text: &mut String, crew: &Crew, answers: &[String]) -> Result<(), AllocError>
+    ensures { OnOk result (string_bytes text.new ≡ string_bytes text.old ++ lines_below (caller_line crew.now (map string_bytes answers.now)) (length crew.now.callers.items)) }
 {
-    put_lines(text, &Answered { answers }, count)
+    put_lines(text, &Answered { crew, answers }, crew.callers.len())
 }
 
 /// What is told of an end: what each caller was answered, and how each stax and each mutex stands.
@@ -180,7 +194,7 @@ pub(crate) fn told_of(alloc: Global, crew: &Crew, moment: &Moment) -> Result<Str
     ensures { IfOk result (λ told. string_bytes told ≡ told_text crew.now (seen_of moment.now)) }
 {
     let mut text = String::new(alloc);
-    put_answers(&mut text, moment.answers.as_slice(), crew.callers.len())?;
+    put_answers(&mut text, crew, moment.answers.as_slice())?;
     put_staxes(&mut text, moment.gates.as_slice())?;
     put_mutexes(&mut text, moment.mutexes.as_slice())?;
     Ok(text)

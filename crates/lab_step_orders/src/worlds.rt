@@ -13,6 +13,7 @@ pub struct Stepping<'a> {
 }
 
 impl<'a> World for Stepping<'a> {
+    ghost use Rattle.std.specs.Prelude.{false};
     ghost use Rattle.lab_step_orders.specs.Moments.{IsMoment, seen_of};
     ghost use Rattle.lab_step_orders.specs.Seen.{Seen, machine};
 
@@ -25,6 +26,10 @@ impl<'a> World for Stepping<'a> {
     ghost state = { λ stepping moment. seen_of moment };
 
     ghost fits = { λ stepping moment. IsMoment stepping.crew.now moment };
+
+    ghost holds = { λ stepping question seen. false };
+
+    ghost asked = { λ stepping. 0 };
 
     fn callers(&self) -> u16 {
         self.crew.count()
@@ -45,5 +50,13 @@ impl<'a> World for Stepping<'a> {
 
     fn is_same(&self, one: &Moment, other: &Moment) -> bool {
         are_same(one, other)
+    }
+
+    fn questions(&self) -> usize {
+        0
+    }
+
+    fn holds(&self, _question: usize, _moment: &Moment) -> bool {
+        false
     }
 }

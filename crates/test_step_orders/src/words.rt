@@ -1,6 +1,8 @@
 //! Orders of atomic steps on words.
 use evl_base::{MutexId, Refusal, Stage, StaxId};
-use lab_step_orders::{Crew, CrewCaller, StepOutcomes, WordCall, step_outcomes_of};
+use lab_step_orders::{
+    Crew, CrewCaller, StepOutcomes, WordCall, step_outcomes_of, write_step_report,
+};
 use std::alloc::{AllocError, Global};
 
 const ENTER: WordCall = WordCall::TryLockStax(StaxId(0));
@@ -94,6 +96,27 @@ fn two_that_enter_a_stax_may_race(rt: HostRuntime) {
     assert!(rt; counts_of(rt.alloc(), &TWO, "Raced") == Some(wanted));
 }
 
+// Whether the report of these callers' orders has this in it.
+fn is_reported(alloc: Global, rows: &[Row], wanted: &str) -> bool {
+    let Ok(crew) = crew_of(alloc, 2, rows) else {
+        return false;
+    };
+    let Ok(found) = step_outcomes_of(alloc, &crew, 100_000) else {
+        return false;
+    };
+    match write_step_report(alloc, &crew, &found) {
+        Ok(report) => report.as_str().contains(wanted),
+        Err(_) => false,
+    }
+}
+
+#[test]
+fn a_report_tells_each_step(rt: HostRuntime) {
+    let race = "# order: T0 look, T1 look, T1 exchange, T1 leave, T0 exchange, T0 refused\n";
+    assert!(rt; is_reported(rt.alloc(), &TWO, "# 18 orders, 5 outcomes, 35 moments\n"));
+    assert!(rt; is_reported(rt.alloc(), &TWO, race));
+}
+
 // Two in-band callers and an out-of-band one.
 const THREE: [Row; 3] = [
     (Stage::Inband, &[ENTER, LEAVE]),
@@ -128,6 +151,55 @@ fn orders_with_a_mark_are_counted(rt: HostRuntime) {
         with_answer: 9864,
     };
     assert!(rt; counts_of(rt.alloc(), &MARKING, "Raced") == Some(wanted));
+}
+
+// It sets it once and is not let in any more, or sets it after each refusal.
+const MARKING_ONCE: [Row; 3] = [
+    (Stage::Inband, &[ENTER, LEAVE]),
+    (Stage::Inband, &[ENTER, LEAVE]),
+    (Stage::Oob, &[ENTER, MARK, ENTER]),
+];
+
+const MARKING_AGAIN: [Row; 3] = [
+    (Stage::Inband, &[ENTER, LEAVE]),
+    (Stage::Inband, &[ENTER, LEAVE]),
+    (Stage::Oob, &[ENTER, MARK, ENTER, MARK]),
+];
+
+#[test]
+fn orders_of_later_marks_are_counted(rt: HostRuntime) {
+    let once = Counts {
+        orders: 5644,
+        outcomes: 28,
+        moments: 845,
+        with_answer: 3732,
+    };
+    let again = Counts {
+        orders: 12_052,
+        outcomes: 41,
+        moments: 1297,
+        with_answer: 8436,
+    };
+    assert!(rt; counts_of(rt.alloc(), &MARKING_ONCE, "others want in") == Some(once));
+    assert!(rt; counts_of(rt.alloc(), &MARKING_AGAIN, "others want in") == Some(again));
+}
+
+// Three callers enter and leave twice each.
+const ROUNDS: [Row; 3] = [
+    (Stage::Inband, &[ENTER, LEAVE, ENTER, LEAVE]),
+    (Stage::Inband, &[ENTER, LEAVE, ENTER, LEAVE]),
+    (Stage::Oob, &[ENTER, LEAVE, ENTER, LEAVE]),
+];
+
+#[test]
+fn two_rounds_of_three_callers_are_counted(rt: HostRuntime) {
+    let wanted = Counts {
+        orders: 7_394_244,
+        outcomes: 263,
+        moments: 16_896,
+        with_answer: 5_687_572,
+    };
+    assert!(rt; counts_of(rt.alloc(), &ROUNDS, "Raced") == Some(wanted));
 }
 
 // Two out-of-band callers lock one mutex and unlock it.

@@ -1,0 +1,85 @@
+-- The report of all orders of atomic steps, as a text.
+use Rattle.std.specs.Prelude.{ℕ, ◌+◌, ◌==◌, Bool, List, [], ◌∷◌, ◌++◌, codes, flat_map, if◌then◌else◌, length, Option, Some, None, string_bytes}
+use Rattle.std.specs.Fmt.{decimal}
+use Rattle.std.specs.Option.{option_map_or}
+use Rattle.std.specs.Str.Lines.{lines}
+use Rattle.lab_orders.specs.declared.tallies.Tally.{Tally}
+use Rattle.lab_step_orders.specs.Seen.{Seen, after, first_seen, next_turn}
+use Rattle.lab_step_orders.specs.declared.crews.Crew.{Crew}
+use Rattle.lab_step_orders.specs.declared.outcomes.StepOutcomes.{StepOutcomes}
+use Rattle.lab_step_orders.specs.declared.steps.GateStep.{GateStep}
+use Rattle.lab_step_orders.specs.declared.steps.GateStep.TheVariants.{Look, Exchange, Leave, Claim, Unclaim}
+use Rattle.lab_step_orders.specs.declared.steps.MutexStep.{MutexStep}
+use Rattle.lab_step_orders.specs.declared.steps.MutexStep.TheVariants.{Try, Unlock}
+use Rattle.lab_step_orders.specs.declared.steps.Turn.{Turn}
+use Rattle.lab_step_orders.specs.declared.steps.WordStep.{WordStep}
+use Rattle.lab_step_orders.specs.declared.steps.WordStep.TheVariants.{AtGate, AtMutex}
+
+-- a number with its word, of which there is one or of which there are others
+abbrev pub number_text : ℕ → List ℕ → List ℕ
+number_text n word = decimal n ++ (codes " " ++ (word ++ (if n == 1 then [] else codes "s")))
+
+abbrev pub line_feed : List ℕ
+line_feed = codes "\n"
+
+-- a line as a comment
+abbrev pub comment : List ℕ → List ℕ
+comment line = codes "# " ++ (line ++ line_feed)
+
+abbrev pub gate_word : GateStep → List ℕ
+gate_word Look = codes "look"
+gate_word (Exchange old) = codes "exchange"
+gate_word Leave = codes "leave"
+gate_word Claim = codes "claim"
+gate_word Unclaim = codes "unclaim"
+
+abbrev pub mutex_word : MutexStep → List ℕ
+mutex_word Try = codes "try"
+mutex_word Unlock = codes "unlock"
+
+-- which step a caller makes: with none a call is refused
+abbrev pub step_word : Option WordStep → List ℕ
+step_word None = codes "refused"
+step_word (Some (AtGate stax step)) = gate_word step
+step_word (Some (AtMutex mutex step)) = mutex_word step
+
+-- a turn of a caller, behind what parts it from the one before
+abbrev pub turn_text : List ℕ → ℕ → Turn → List ℕ
+turn_text mark k turn = mark ++ (codes "T" ++ (decimal k ++ (codes " " ++ step_word turn.step)))
+
+-- what parts the turn with this number from the one before
+abbrev pub mark_at : ℕ → List ℕ
+mark_at n = if n == 0 then codes " " else codes ", "
+
+-- the turns that these callers make from here, numbered from n, as far as each makes one
+abbrev pub turns_text : Crew → ℕ → Seen → List ℕ → List ℕ
+turns_text c n s [] = []
+turns_text c n s (k ∷ order) = option_map_or (λ turn. turn_text (mark_at n) k turn ++ turns_text c (n + 1) (after c s k turn) order) (next_turn c s k) []
+
+-- an order, from the first moment on
+abbrev pub order_text : Crew → List ℕ → List ℕ
+order_text c order = codes "# order:" ++ (turns_text c 0 (first_seen c) order ++ line_feed)
+
+-- how many orders lead to an outcome, what is told of it, and the first of them
+abbrev pub outcome_text : Crew → ℕ → Tally → List ℕ
+outcome_text c n outcome =
+    codes "# outcome " ++ (decimal n ++ (codes ": " ++ (number_text outcome.count (codes "order") ++ (line_feed
+    ++ (flat_map comment (lines (string_bytes outcome.told)) ++ order_text c outcome.order.items)))))
+
+-- outcomes, numbered from n
+abbrev pub outcomes_text : Crew → ℕ → List Tally → List ℕ
+outcomes_text c n [] = []
+outcomes_text c n (outcome ∷ rest) = outcome_text c n outcome ++ outcomes_text c (n + 1) rest
+
+-- how many orders and outcomes there are
+abbrev pub orders_text : StepOutcomes → List ℕ
+orders_text found = codes "# " ++ (number_text found.count (codes "order") ++ (codes ", " ++ number_text (length found.all.items) (codes "outcome")))
+
+-- and how many moments were gone through, and whether longer orders were cut off
+abbrev pub counts_text : StepOutcomes → List ℕ
+counts_text found =
+    orders_text found ++ (codes ", " ++ (number_text found.moments (codes "moment") ++ (line_feed
+    ++ (if found.whole then [] else codes "# cut off: there are longer orders\n"))))
+
+abbrev pub report_text : Crew → StepOutcomes → List ℕ
+report_text c found = counts_text found ++ outcomes_text c 1 found.all.items
