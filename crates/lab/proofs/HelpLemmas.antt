@@ -2,7 +2,7 @@
 use Rattle.std.proofs.Common.{◌≡◌, ℕ, List, Bool, true, false, refl}
 use Rattle.lab_live.specs.Helps.{call_help}
 use Rattle.lab.specs.Helps.{HelpsWith, no_call_text}
-use Rattle.lab.specs.Outputs.{prints, refuses}
+use Rattle.lab_streams.specs.Outputs.{prints, refuses}
 
 pub is_helped : (is_call : Bool) (word : List ℕ) → is_call ≡ true → HelpsWith is_call word (prints (call_help word))
 is_helped true word is = refl

@@ -1,12 +1,2 @@
-pub mod BankLemmas
-pub mod CheckLemmas
-pub mod ConvertLemmas
-pub mod DrawLemmas
+pub mod ExplainLemmas
 pub mod HelpLemmas
-pub mod LiveLemmas
-pub mod OrderLemmas
-pub mod OutputLemmas
-pub mod PlayLemmas
-pub mod StreamLemmas
-pub mod TextLemmas
-pub mod WordLemmas

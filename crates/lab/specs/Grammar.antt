@@ -18,7 +18,11 @@ text_rule name = record (new_rule name) { long = Some name; action = Some Set; v
 abbrev pub number_rule : Text → ℤ → Rule
 number_rule name most = record (new_rule name) { long = Some name; value_names = 1; parser = Some (Signed (pos 1) most) }
 
--- nothing stands behind it, and there are words that it doesn't go with
+-- so does the text of a folder, and there are words that it doesn't go with
+abbrev pub folder_rule : Text → Rule
+folder_rule name = record (text_rule name) { is_free = false }
+
+-- nothing stands behind it, and there are words that it doesn't go with, or doesn't go without
 abbrev pub mark_rule : Text → Rule
 mark_rule name = record (new_rule name) { long = Some name; action = Some SetTrue; is_free = false }
 
@@ -57,7 +61,9 @@ draw_part =
     ∷ mark_rule (codes "down") ∷ mark_rule (codes "across") ∷ number_rule (codes "upto") (pos 1000000) ∷ number_rule (codes "page") (pos 1000000) ∷ file_rule ∷ [])
 
 unfoldable pub play_part : Shape
-play_part = part (codes "play") (bank_rule ∷ limit_rule ∷ mark_rule (codes "json") ∷ text_rule (codes "against") ∷ several_rule (codes "FILE") ∷ [])
+play_part =
+    part (codes "play") (bank_rule ∷ limit_rule ∷ mark_rule (codes "json") ∷ folder_rule (codes "against") ∷ mark_rule (codes "all")
+    ∷ folder_rule (codes "record") ∷ mark_rule (codes "force") ∷ several_rule (codes "FILE") ∷ [])
 
 unfoldable pub convert_part : Shape
 convert_part = part (codes "convert") (mark_rule (codes "lines") ∷ mark_rule (codes "toml") ∷ file_rule ∷ [])
@@ -67,7 +73,8 @@ live_part = part (codes "live") (bank_rule ∷ limit_rule ∷ free_rule (codes "
 
 unfoldable pub orders_part : Shape
 orders_part =
-    part (codes "orders") (bank_rule ∷ number_rule (codes "most") (pos 100000000) ∷ number_rule (codes "outcome") (pos 1000000) ∷ file_rule ∷ [])
+    part (codes "orders") (bank_rule ∷ number_rule (codes "most") (pos 100000000) ∷ number_rule (codes "outcome") (pos 1000000) ∷ number_rule (codes "state") (pos 1000000)
+    ∷ free_rule (codes "json") ∷ file_rule ∷ [])
 
 unfoldable pub callers_part : Shape
 callers_part = part (codes "callers") (bank_rule ∷ limit_rule ∷ file_rule ∷ [])

@@ -2,7 +2,7 @@
 use Rattle.std.specs.Prelude.{◌≡◌, ℕ, List, ◌++◌, codes, Bool, true, false, Option, Some, None, is_some}
 use Rattle.evl_scenario.specs.Steps.{word_of}
 use Rattle.lab_live.specs.Helps.{call_help, forms_text}
-use Rattle.lab.specs.Outputs.{Output, prints, refuses}
+use Rattle.lab_streams.specs.Outputs.{Output, prints, refuses}
 
 abbrev pub no_call_text : List ℕ → List ℕ
 no_call_text word = codes "lab: there is no call " ++ (word ++ codes "; ./lab help tells all\n")

@@ -1,16 +1,3 @@
-pub mod Banks
-pub mod Callers
-pub mod Checks
-pub mod Draws
-pub mod Endings
+pub mod Explains
 pub mod Grammar
 pub mod Helps
-pub mod Lines
-pub mod Lives
-pub mod Orders
-pub mod Outputs
-pub mod Plays
-pub mod Readings
-pub mod Streams
-pub mod Texts
-pub mod Words

@@ -3,22 +3,13 @@ ghost use Rattle.std.specs.Prelude.{◌≡◌, true, map, pos, codes, IfOk, IfEr
 ghost use Rattle.clap.specs.Words.{app_of, kind_of, subcommand_of, subcommand_rows_of, takes};
 ghost use Rattle.clap.specs.declared.builder.value_parser.ValueParser.TheVariants.{Signed};
 ghost use Rattle.clap.specs.declared.error.kind.ErrorKind.TheVariants.{OutOfMemory};
-ghost use Rattle.lab.specs.Grammar.{IsPart, IsWord, bank_rule, callers_part, check_part, convert_part, draw_part, file_rule, free_rule, grammar, help_part, limit_rule, live_part, mark_rule, number_rule, one_rule, orders_part, play_part, several_rule, text_rule};
+ghost use Rattle.lab.specs.Grammar.{IsPart, IsWord, callers_part, check_part, convert_part, file_rule, folder_rule, free_rule, grammar, help_part, live_part, mark_rule, number_rule, one_rule, orders_part, play_part, several_rule};
 
+use crate::draw_commands::draw_command;
+use crate::options::{bank_word, limit_word, to_a_million};
 use clap::builder::ValueParser;
 use clap::{Arg, ArgAction, ArgMatches, Command, Error, value_parser};
 use std::alloc::{AllocError, Global};
-
-// The file of a bank.
-fn bank_word<'a>(alloc: Global) -> Arg<'a>
-    ensures { IsWord bank_rule result }
-{
-    Arg::new(alloc, "bank")
-        .long("bank")
-        .value_name("BANK")
-        .action(ArgAction::Set)
-        .help("The callbacks, as tables [[callback]]; without it, the program's eight")
-}
 
 // The files of `check`.
 fn checked_files<'a>(alloc: Global) -> Arg<'a>
@@ -43,168 +34,6 @@ fn check_command<'a>(alloc: Global) -> Result<Command<'a>, AllocError>
     Ok(with_files)
 }
 
-// A form of a picture, which goes with no other.
-fn form_word<'a>(
-    alloc: Global,
-    name: &'a str,
-    others: (&'a str, &'a str, &'a str, &'a str),
-    help: &'a str,
-) -> Result<Arg<'a>, AllocError>
-    ensures { IfOk result (IsWord (mark_rule name.entry.now)) }
-{
-    Arg::new(alloc, name)
-        .long(name)
-        .action(ArgAction::SetTrue)
-        .help(help)
-        .conflicts_with(others.0)?
-        .conflicts_with(others.1)?
-        .conflicts_with(others.2)?
-        .conflicts_with(others.3)
-}
-
-// The form that is drawn where none is named.
-fn svg_word<'a>(alloc: Global) -> Result<Arg<'a>, AllocError>
-    ensures { IfOk result (IsWord (mark_rule (codes "svg"))) }
-{
-    let help = "As SVG, which is the form where none is named";
-    form_word(alloc, "svg", ("html", "perfetto", "csv", "lanes"), help)
-}
-
-// The form for a projector.
-fn html_word<'a>(alloc: Global) -> Result<Arg<'a>, AllocError>
-    ensures { IfOk result (IsWord (mark_rule (codes "html"))) }
-{
-    let help =
-        "As a page for a browser: the SVG, a slider over its steps, and the machine behind each";
-    form_word(alloc, "html", ("svg", "perfetto", "csv", "lanes"), help)
-}
-
-// The form for viewers of timelines.
-fn perfetto_word<'a>(alloc: Global) -> Result<Arg<'a>, AllocError>
-    ensures { IfOk result (IsWord (mark_rule (codes "perfetto"))) }
-{
-    let help = "As trace events in JSON, for a viewer of timelines";
-    form_word(alloc, "perfetto", ("svg", "html", "csv", "lanes"), help)
-}
-
-// The form for tables.
-fn csv_word<'a>(alloc: Global) -> Result<Arg<'a>, AllocError>
-    ensures { IfOk result (IsWord (mark_rule (codes "csv"))) }
-{
-    let help = "As comma-separated values";
-    form_word(alloc, "csv", ("svg", "html", "perfetto", "lanes"), help)
-}
-
-// The form for a terminal.
-fn lanes_word<'a>(alloc: Global) -> Result<Arg<'a>, AllocError>
-    ensures { IfOk result (IsWord (mark_rule (codes "lanes"))) }
-{
-    let help = "As rows of characters";
-    form_word(alloc, "lanes", ("svg", "html", "perfetto", "csv"), help)
-}
-
-// Which way a picture goes, which goes with no other.
-fn way_word<'a>(
-    alloc: Global,
-    name: &'a str,
-    other: &'a str,
-    help: &'a str,
-) -> Result<Arg<'a>, AllocError>
-    ensures { IfOk result (IsWord (mark_rule name.entry.now)) }
-{
-    Arg::new(alloc, name)
-        .long(name)
-        .action(ArgAction::SetTrue)
-        .help(help)
-        .conflicts_with(other)
-}
-
-// A row for each line.
-fn down_word<'a>(alloc: Global) -> Result<Arg<'a>, AllocError>
-    ensures { IfOk result (IsWord (mark_rule (codes "down"))) }
-{
-    let help = "An SVG with a row for each line; without it, of at most 60 lines";
-    way_word(alloc, "down", "across", help)
-}
-
-// A column for each line.
-fn across_word<'a>(alloc: Global) -> Result<Arg<'a>, AllocError>
-    ensures { IfOk result (IsWord (mark_rule (codes "across"))) }
-{
-    let help = "An SVG with a column for each line; without it, of more than 60 lines";
-    way_word(alloc, "across", "down", help)
-}
-
-// How many lines are drawn.
-fn upto_word<'a>(alloc: Global) -> Arg<'a>
-    ensures { IsWord (number_rule (codes "upto") (pos 1000000)) result }
-{
-    Arg::new(alloc, "upto")
-        .long("upto")
-        .value_name("N")
-        .value_parser(to_a_million())
-        .help("Only the first N lines, of calls and plays")
-}
-
-// A number from 1 to a million.
-fn to_a_million<'a>() -> ValueParser<'a>
-    ensures { result ≡ Signed (pos 1) (pos 1000000) }
-{
-    value_parser!(u32).range(1..=1_000_000)
-}
-
-// The page of a long picture.
-fn page_word<'a>(alloc: Global) -> Arg<'a>
-    ensures { IsWord (number_rule (codes "page") (pos 1000000)) result }
-{
-    Arg::new(alloc, "page")
-        .long("page")
-        .value_name("N")
-        .value_parser(to_a_million())
-        .help("Which page of an SVG of more than 2000 marks, from 1")
-}
-
-// The text that is drawn.
-fn drawn_file<'a>(alloc: Global) -> Arg<'a>
-    ensures { IsWord file_rule result }
-{
-    Arg::new(alloc, "FILE").action(ArgAction::Set).help(
-        "A trace or a scenario; without it, or with -, standard input",
-    )
-}
-
-// The words of `draw`.
-fn draw_command<'a>(alloc: Global) -> Result<Command<'a>, AllocError>
-    ensures { IfOk result (IsPart draw_part) }
-{
-    let command = Command::new(alloc, "draw").about(
-        "Draws a trace: a mark for each call and each play",
-    );
-    let over_bank = command.arg(bank_word(alloc))?;
-    let with_one = over_bank.arg(svg_word(alloc)?)?;
-    let with_html = with_one.arg(html_word(alloc)?)?;
-    let with_two = with_html.arg(perfetto_word(alloc)?)?;
-    let with_three = with_two.arg(csv_word(alloc)?)?;
-    let with_four = with_three.arg(lanes_word(alloc)?)?;
-    let with_down = with_four.arg(down_word(alloc)?)?;
-    let with_across = with_down.arg(across_word(alloc)?)?;
-    let with_upto = with_across.arg(upto_word(alloc))?;
-    let with_page = with_upto.arg(page_word(alloc))?;
-    let with_file = with_page.arg(drawn_file(alloc))?;
-    Ok(with_file)
-}
-
-// The limit of the history.
-fn limit_word<'a>(alloc: Global) -> Arg<'a>
-    ensures { IsWord limit_rule result }
-{
-    Arg::new(alloc, "limit")
-        .long("limit")
-        .value_name("N")
-        .value_parser(to_a_million())
-        .help("How many entries the history may have, in place of the scenario's own limit")
-}
-
 // What is told as JSON.
 fn json_word<'a>(alloc: Global) -> Result<Arg<'a>, AllocError>
     ensures { IfOk result (IsWord (mark_rule (codes "json"))) }
@@ -213,18 +42,54 @@ fn json_word<'a>(alloc: Global) -> Result<Arg<'a>, AllocError>
         .long("json")
         .action(ArgAction::SetTrue)
         .help("A line of JSON for each entry, with its plays")
-        .conflicts_with("against")
+        .conflicts_with("against")?
+        .conflicts_with("record")
 }
 
-// The folder of traces that were made before.
-fn against_word<'a>(alloc: Global) -> Arg<'a>
-    ensures { IsWord (text_rule (codes "against")) result }
+// The folder of traces that were kept.
+fn against_word<'a>(alloc: Global) -> Result<Arg<'a>, AllocError>
+    ensures { IfOk result (IsWord (folder_rule (codes "against"))) }
 {
     Arg::new(alloc, "against")
         .long("against")
         .value_name("FOLDER")
         .action(ArgAction::Set)
-        .help("The first difference from the trace that FOLDER has of the same name")
+        .help("The first difference from the trace that FOLDER has of each file")
+        .conflicts_with("record")
+}
+
+// That each difference is told.
+fn all_word<'a>(alloc: Global) -> Result<Arg<'a>, AllocError>
+    ensures { IfOk result (IsWord (mark_rule (codes "all"))) }
+{
+    Arg::new(alloc, "all")
+        .long("all")
+        .action(ArgAction::SetTrue)
+        .help("With --against: each line that differs")
+        .requires_arg("against")
+}
+
+// The folder in which traces are kept.
+fn record_word<'a>(alloc: Global) -> Result<Arg<'a>, AllocError>
+    ensures { IfOk result (IsWord (folder_rule (codes "record"))) }
+{
+    Arg::new(alloc, "record")
+        .long("record")
+        .value_name("FOLDER")
+        .action(ArgAction::Set)
+        .help("Writes the trace of each file into FOLDER, for --against")
+        .conflicts_with("against")
+}
+
+// That traces replace those that differ.
+fn force_word<'a>(alloc: Global) -> Result<Arg<'a>, AllocError>
+    ensures { IfOk result (IsWord (mark_rule (codes "force"))) }
+{
+    Arg::new(alloc, "force")
+        .long("force")
+        .action(ArgAction::SetTrue)
+        .help("With --record: also in place of a trace that differs")
+        .requires_arg("record")
 }
 
 // The files of `play`.
@@ -245,8 +110,11 @@ fn play_command<'a>(alloc: Global) -> Result<Command<'a>, AllocError>
     let over_bank = command.arg(bank_word(alloc))?;
     let with_limit = over_bank.arg(limit_word(alloc))?;
     let as_json = with_limit.arg(json_word(alloc)?)?;
-    let against = as_json.arg(against_word(alloc))?;
-    let with_files = against.arg(played_files(alloc))?;
+    let against = as_json.arg(against_word(alloc)?)?;
+    let with_all = against.arg(all_word(alloc)?)?;
+    let recorded = with_all.arg(record_word(alloc)?)?;
+    let with_force = recorded.arg(force_word(alloc)?)?;
+    let with_files = with_force.arg(played_files(alloc))?;
     Ok(with_files)
 }
 
@@ -375,17 +243,42 @@ fn outcome_word<'a>(alloc: Global) -> Arg<'a>
         .help("Prints the scenario of the outcome with this number alone, for lab draw or ./evl")
 }
 
+// The question about moments whose first order is printed.
+fn state_word<'a>(alloc: Global) -> Arg<'a>
+    ensures { IsWord (number_rule (codes "state") (pos 1000000)) result }
+{
+    Arg::new(alloc, "state")
+        .long("state")
+        .value_name("N")
+        .value_parser(to_a_million())
+        .help(
+            "Prints the scenario of the first order that leads to the state with this number alone",
+        )
+}
+
+// What is told of all orders as JSON.
+fn orders_json_word<'a>(alloc: Global) -> Arg<'a>
+    ensures { IsWord (free_rule (codes "json")) result }
+{
+    Arg::new(alloc, "json")
+        .long("json")
+        .action(ArgAction::SetTrue)
+        .help("One line of JSON in place of the report")
+}
+
 // The words of `orders`.
 fn orders_command<'a>(alloc: Global) -> Result<Command<'a>, AllocError>
     ensures { IfOk result (IsPart orders_part) }
 {
     let command = Command::new(alloc, "orders").about(
-        "Goes through every order in which the callers of a scenario may come",
+        "Goes through every order in which the callers of a scenario may come, or in which they step on words",
     );
     let over_bank = command.arg(bank_word(alloc))?;
     let with_most = over_bank.arg(most_word(alloc))?;
     let with_outcome = with_most.arg(outcome_word(alloc))?;
-    let with_file = with_outcome.arg(callers_file(alloc))?;
+    let with_state = with_outcome.arg(state_word(alloc))?;
+    let with_json = with_state.arg(orders_json_word(alloc))?;
+    let with_file = with_json.arg(callers_file(alloc))?;
     Ok(with_file)
 }
 

@@ -4,12 +4,11 @@ ghost use Rattle.std.specs.Io.KnownBytes.{Appends};
 ghost use Rattle.evl_scenario.specs.Steps.{word_of};
 ghost use Rattle.lab_live.specs.Helps.{call_help, forms_text};
 ghost use Rattle.lab.specs.Helps.{Helps, no_call_text};
-ghost use Rattle.lab.specs.Outputs.{Writes};
-ghost use Rattle.lab.specs.Streams.{EndsEarly};
+ghost use Rattle.lab_streams.specs.Outputs.{Writes};
+ghost use Rattle.lab_streams.specs.Streams.{EndsEarly};
 
-use crate::statuses::REFUSED;
-use crate::streams::Stream;
 use lab_live::{write_call_of, write_forms};
+use lab_streams::{REFUSED, Stream};
 use std::alloc::Global;
 use std::io;
 

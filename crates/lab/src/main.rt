@@ -7,42 +7,26 @@ ghost use Rattle.std.specs.IoError.{error_kind};
 ghost use Rattle.std.specs.declared.io.ErrorKind.TheVariants as io_kind;
 ghost use Rattle.clap.specs.Words.{kind_of};
 ghost use Rattle.clap.specs.declared.error.kind.ErrorKind.TheVariants.{DisplayHelp, OutOfMemory};
-ghost use Rattle.lab.specs.Streams.{EndsEarly};
+ghost use Rattle.lab_streams.specs.Streams.{EndsEarly};
 
-mod banks;
-mod callers;
-mod checks;
 mod commands;
-mod compares;
-mod converts;
-mod draw_faults;
-mod draw_html;
-mod draws;
-mod endings;
+mod draw_commands;
+mod explains;
 mod helps;
-mod lives;
-mod order_faults;
-mod orders;
+mod options;
 mod parts;
-mod plays;
-mod prompts;
-mod statuses;
-mod streams;
-mod texts;
-mod words;
 
 use clap::Error;
 use clap::error::ErrorKind;
 use commands::read_words;
+use lab_drives::Prompted;
+use lab_streams::{FAILED, NO_MEMORY, REFUSED, Source, Stream, Watched};
 use parts::do_part;
-use prompts::Prompted;
-use statuses::{FAILED, NO_MEMORY, REFUSED};
 use std::alloc::{AllocError, Global};
 use std::env;
 use std::io::{self, Write};
 use std::process::ExitCode;
 use std::rt::Files;
-use streams::{Source, Stream, Watched};
 
 // Prints the help, and answers the status.
 fn show_help<O: Stream>(text: &str, out: &mut O) -> io::Result<u8>

@@ -1,19 +1,15 @@
 //! The parts of the program: `check`, `draw`, `play`, `convert`, `live`, `orders`, `callers` and `help`.
 ghost use Rattle.std.specs.Prelude.{IfErr};
-ghost use Rattle.lab.specs.Streams.{EndsEarly};
+ghost use Rattle.lab_streams.specs.Streams.{EndsEarly};
 
-use crate::callers::callers;
-use crate::checks::check_files;
-use crate::converts::convert;
-use crate::draws::draw;
+use crate::explains::{explained_callers, explained_draws, explained_orders, explained_plays};
 use crate::helps::help;
-use crate::lives::live;
-use crate::orders::orders;
-use crate::plays::play_files;
-use crate::statuses::REFUSED;
-use crate::streams::{Source, Stream};
-use crate::words::{asked_of, converting_of, drawing_of, driving_of, playing_of};
 use clap::ArgMatches;
+use lab_drives::live;
+use lab_plays::check_files;
+use lab_streams::{
+    REFUSED, Source, Stream, asked_of, convert, converting_of, drawing_of, driving_of, playing_of,
+};
 use std::io;
 use std::rt::Files;
 
@@ -33,7 +29,7 @@ pub fn do_part<R: Files + AllocGlobal, I: Source, O: Stream, E: Stream>(
             let files = inner.get_strs("FILE").unwrap_or(&[]);
             check_files(rt, inner.get_str("bank"), files, out, err)
         }
-        Some(("draw", inner)) => draw(
+        Some(("draw", inner)) => explained_draws(
             rt,
             drawing_of(inner),
             inner.get_str("bank"),
@@ -44,18 +40,15 @@ pub fn do_part<R: Files + AllocGlobal, I: Source, O: Stream, E: Stream>(
         ),
         Some(("play", inner)) => {
             let files = inner.get_strs("FILE").unwrap_or(&[]);
-            play_files(rt, playing_of(inner), files, input, out, err)
+            explained_plays(rt, playing_of(inner), files, input, out, err)
         }
         Some(("convert", inner)) => {
             let asked = converting_of(inner);
             convert(rt, asked, inner.get_str("FILE"), input, out, err)
         }
         Some(("live", inner)) => live(rt, driving_of(inner), input, out, err),
-        Some(("orders", inner)) => orders(rt, &asked_of(inner), input, out, err),
-        Some(("callers", inner)) => {
-            let asked = driving_of(inner);
-            callers(rt, asked.bank, asked.file, asked.limit, input, out, err)
-        }
+        Some(("orders", inner)) => explained_orders(rt, &asked_of(inner), input, out, err),
+        Some(("callers", inner)) => explained_callers(rt, driving_of(inner), input, out, err),
         Some(("help", inner)) => help(rt.alloc(), inner.get_str("WORD"), out, err),
         _ => Ok(REFUSED),
     }

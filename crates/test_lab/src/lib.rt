@@ -7,6 +7,8 @@ mod banks;
 #[cfg(test)]
 mod drawings;
 #[cfg(test)]
+mod expects;
+#[cfg(test)]
 mod faults;
 #[cfg(test)]
 mod kinds;

@@ -244,3 +244,22 @@ const WHOLE: [(&str, &str); 4] = [
 fn all_that_a_machine_shows_is_told(rt: HostRuntime) {
     assert!(rt; is_driven(rt.alloc(), Asked::Lines(&WHOLE)));
 }
+
+// Calls that are taken back, up to the first one.
+const UNDONE: [(&str, &str); 10] = [
+    ("T0 tick delta=7", "2 T0 tick delta=7 -> done\n"),
+    ("T1 peek sem=0", "3 T1 peek sem=0 -> count 1\n"),
+    ("undo", "undone: T1 peek sem=0\n"),
+    ("undo", "undone: T0 tick delta=7\n"),
+    ("T0 now", "2 T0 now -> number 0\n"),
+    ("undo", "undone: T0 now\n"),
+    ("undo", "undone: T0 put sem=0\n"),
+    ("undo", "! 1: nothing was asked so far\n"),
+    ("T1 peek sem=0", "1 T1 peek sem=0 -> count 0\n"),
+    ("T0 put sem=0", "2 T0 put sem=0 -> done\n"),
+];
+
+#[test]
+fn calls_are_taken_back(rt: HostRuntime) {
+    assert!(rt; is_driven(rt.alloc(), Asked::Again(&UNDONE)));
+}

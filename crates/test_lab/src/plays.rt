@@ -1,5 +1,5 @@
 //! What is told of scenarios that were played.
-use lab_reports::{first_difference, write_json};
+use lab_reports::{find_differences, write_json};
 use lab_traces::{TraceLine, read_lines};
 use std::alloc::Global;
 
@@ -14,9 +14,9 @@ const TRACE: &str = "board threads=2 sems=1 flags=0 xbufs=1 mutexes=0 groups=0 l
 
 // The same as lines of JSON.
 const JSON: &str =
-    r#"{"file": "a \"b\"", "number": 1, "who": 0, "call": "attach", "keys": {"policy": "fifo 10", "stage": "oob"}, "answer": "done", "refused": false, "plays": []}
-{"file": "a \"b\"", "number": 2, "who": 1, "call": "write", "keys": {"xbuf": 0, "way": "in", "bytes": "0012"}, "answer": "done", "refused": false, "plays": [{"play": "line", "line": 5, "stage": "oob", "count": 1, "handled": false}, {"play": "clock"}]}
-{"file": "a \"b\"", "number": null, "who": 0, "call": "begin_get", "keys": {"sem": 0, "until": null}, "answer": "HistoryFull", "refused": true, "plays": []}
+    r#"{"file": "a \"b\"", "number": 1, "who": 0, "call": "attach", "keys": {"policy": "fifo 10", "stage": "oob"}, "answer": {"kind": "done", "value": null}, "refused": false, "plays": []}
+{"file": "a \"b\"", "number": 2, "who": 1, "call": "write", "keys": {"xbuf": 0, "way": "in", "bytes": "0012"}, "answer": {"kind": "done", "value": null}, "refused": false, "plays": [{"play": "line", "line": 5, "stage": "oob", "count": 1, "handled": false}, {"play": "clock"}]}
+{"file": "a \"b\"", "number": null, "who": 0, "call": "begin_get", "keys": {"sem": 0, "until": null}, "answer": {"kind": "refused", "value": "HistoryFull"}, "refused": true, "plays": []}
 "#;
 
 // Whether the lines of a trace are told so.
@@ -35,11 +35,10 @@ fn is_told(alloc: Global, trace: &str, wanted: &str) -> bool {
     }
 }
 
-// The line of the first difference of two traces, 0 where there is none.
-fn difference(alloc: Global, stored: &str, made: &str) -> usize {
-    match first_difference(alloc, stored, made) {
-        Ok(Some(found)) => found.line,
-        Ok(None) => 0,
+// The last line at which two traces differ, of the first so many, 0 where they don't.
+fn last_difference(alloc: Global, stored: &str, made: &str, most: usize) -> usize {
+    match find_differences(alloc, stored, made, most) {
+        Ok(found) => found.last().map_or(0, |difference| difference.line),
         Err(_) => 1000,
     }
 }
@@ -59,15 +58,50 @@ fn plays_before_the_first_entry_have_a_line(rt: HostRuntime) {
 #[test]
 fn numbers_alone_are_no_difference(rt: HostRuntime) {
     let traces = [
-        ("1 T0 now -> number 0\n", "2 T0 now -> number 0\n", 0),
-        ("1 T0 now -> number 0\n", "1 T0 now -> number 1\n", 1),
+        ("1 T0 now -> number 0\n", "2 T0 now -> number 0\n", 0, 0),
+        ("1 T0 now -> number 0\n", "1 T0 now -> number 1\n", 1, 1),
         (
-            "1 T0 now -> number 0\n  clock\n",
+            "1 T0 now -> number 0\n  clock\n  clock\n",
             "1 T0 now -> number 0\n",
             2,
+            3,
         ),
     ];
-    for (one, other, line) in traces {
-        assert!(rt; difference(rt.alloc(), one, other) == line, "{one}{other}");
+    for (one, other, first, last) in traces {
+        assert!(rt;
+            last_difference(rt.alloc(), one, other, 1) == first,
+            "{one}{other}"
+        );
+        assert!(rt;
+            last_difference(rt.alloc(), one, other, 9) == last,
+            "{one}{other}"
+        );
+    }
+}
+
+#[test]
+fn answers_have_kinds_and_values(rt: HostRuntime) {
+    let answers = [
+        (
+            "count -2",
+            "{\"kind\": \"count\", \"value\": -2}, \"refused\": false",
+        ),
+        (
+            "next 3 more",
+            "{\"kind\": \"next\", \"value\": {\"thread\": 3, \"more\": true}}, \"refused\": false",
+        ),
+    ];
+    for (answer, told) in answers {
+        let line = format!(in rt.alloc(); "1 T0 now -> {answer}\n");
+        let wanted = format!(in rt.alloc();
+            "{{\"file\": \"a \\\"b\\\"\", \"number\": 1, \"who\": 0, \"call\": \"now\", \"keys\": {{}}, \"answer\": {told}, \"plays\": []}}\n"
+        );
+        match (line, wanted) {
+            (Ok(line), Ok(wanted)) => assert!(rt;
+                is_told(rt.alloc(), line.as_str(), wanted.as_str()),
+                "{answer}"
+            ),
+            _ => assert!(rt; false),
+        }
     }
 }

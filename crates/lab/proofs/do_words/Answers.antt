@@ -1,4 +1,4 @@
-use Rattle.lab.proofs.StreamLemmas.{early_beside}
+use Rattle.lab_streams.proofs.StreamLemmas.{early_beside}
 use Rattle.lab.proofs.do_words.Goals as goal
 
 pub returns-in-Err : goal.returns-in-Err

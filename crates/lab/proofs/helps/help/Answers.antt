@@ -1,7 +1,7 @@
 use Rattle.std.proofs.Common.{None, refl}
 use Rattle.lab_live.specs.Helps.{forms_text}
 use Rattle.lab.specs.Helps.{Helps}
-use Rattle.lab.proofs.OutputLemmas.{printed}
+use Rattle.lab_streams.proofs.OutputLemmas.{printed}
 use Rattle.lab.proofs.helps.help.Goals as goal
 
 pub returns-in-None-clause-writes : goal.returns-in-None-clause-writes

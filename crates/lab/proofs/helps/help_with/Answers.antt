@@ -4,9 +4,9 @@ use Rattle.std.proofs.KnownBytes.{Appends-nil}
 use Rattle.evl_scenario.specs.Steps.{word_of}
 use Rattle.lab_live.specs.Helps.{call_help}
 use Rattle.lab.specs.Helps.{Helps, no_call_text}
-use Rattle.lab.specs.Outputs.{prints}
+use Rattle.lab_streams.specs.Outputs.{prints}
 use Rattle.lab.proofs.HelpLemmas.{is_helped, is_no_call}
-use Rattle.lab.proofs.OutputLemmas.{written_err}
+use Rattle.lab_streams.proofs.OutputLemmas.{written_err}
 use Rattle.lab.proofs.helps.help_with.Goals as goal
 
 pub returns-then-branch-clause-writes : goal.returns-then-branch-clause-writes

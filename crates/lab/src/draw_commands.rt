@@ -1,0 +1,151 @@
+//! The words of `draw`.
+ghost use Rattle.std.specs.Prelude.{codes, pos, IfOk};
+ghost use Rattle.lab.specs.Grammar.{IsPart, IsWord, draw_part, file_rule, mark_rule, number_rule};
+
+use crate::options::{bank_word, to_a_million};
+use clap::{Arg, ArgAction, Command};
+use std::alloc::{AllocError, Global};
+
+// A form of a picture, which goes with no other.
+fn form_word<'a>(
+    alloc: Global,
+    name: &'a str,
+    others: (&'a str, &'a str, &'a str, &'a str),
+    help: &'a str,
+) -> Result<Arg<'a>, AllocError>
+    ensures { IfOk result (IsWord (mark_rule name.entry.now)) }
+{
+    Arg::new(alloc, name)
+        .long(name)
+        .action(ArgAction::SetTrue)
+        .help(help)
+        .conflicts_with(others.0)?
+        .conflicts_with(others.1)?
+        .conflicts_with(others.2)?
+        .conflicts_with(others.3)
+}
+
+// The form that is drawn where none is named.
+fn svg_word<'a>(alloc: Global) -> Result<Arg<'a>, AllocError>
+    ensures { IfOk result (IsWord (mark_rule (codes "svg"))) }
+{
+    let help = "As SVG, which is the form where none is named";
+    form_word(alloc, "svg", ("html", "perfetto", "csv", "lanes"), help)
+}
+
+// The form for a projector.
+fn html_word<'a>(alloc: Global) -> Result<Arg<'a>, AllocError>
+    ensures { IfOk result (IsWord (mark_rule (codes "html"))) }
+{
+    let help =
+        "As a page for a browser: the SVG, a slider over its steps, and the machine behind each";
+    form_word(alloc, "html", ("svg", "perfetto", "csv", "lanes"), help)
+}
+
+// The form for viewers of timelines.
+fn perfetto_word<'a>(alloc: Global) -> Result<Arg<'a>, AllocError>
+    ensures { IfOk result (IsWord (mark_rule (codes "perfetto"))) }
+{
+    let help = "As trace events in JSON, for a viewer of timelines";
+    form_word(alloc, "perfetto", ("svg", "html", "csv", "lanes"), help)
+}
+
+// The form for tables.
+fn csv_word<'a>(alloc: Global) -> Result<Arg<'a>, AllocError>
+    ensures { IfOk result (IsWord (mark_rule (codes "csv"))) }
+{
+    let help = "As comma-separated values";
+    form_word(alloc, "csv", ("svg", "html", "perfetto", "lanes"), help)
+}
+
+// The form for a terminal.
+fn lanes_word<'a>(alloc: Global) -> Result<Arg<'a>, AllocError>
+    ensures { IfOk result (IsWord (mark_rule (codes "lanes"))) }
+{
+    let help = "As rows of characters";
+    form_word(alloc, "lanes", ("svg", "html", "perfetto", "csv"), help)
+}
+
+// Which way a picture goes, which goes with no other.
+fn way_word<'a>(
+    alloc: Global,
+    name: &'a str,
+    other: &'a str,
+    help: &'a str,
+) -> Result<Arg<'a>, AllocError>
+    ensures { IfOk result (IsWord (mark_rule name.entry.now)) }
+{
+    Arg::new(alloc, name)
+        .long(name)
+        .action(ArgAction::SetTrue)
+        .help(help)
+        .conflicts_with(other)
+}
+
+// A row for each line.
+fn down_word<'a>(alloc: Global) -> Result<Arg<'a>, AllocError>
+    ensures { IfOk result (IsWord (mark_rule (codes "down"))) }
+{
+    let help = "An SVG with a row for each line; without it, of at most 60 lines";
+    way_word(alloc, "down", "across", help)
+}
+
+// A column for each line.
+fn across_word<'a>(alloc: Global) -> Result<Arg<'a>, AllocError>
+    ensures { IfOk result (IsWord (mark_rule (codes "across"))) }
+{
+    let help = "An SVG with a column for each line; without it, of more than 60 lines";
+    way_word(alloc, "across", "down", help)
+}
+
+// How many lines are drawn.
+fn upto_word<'a>(alloc: Global) -> Arg<'a>
+    ensures { IsWord (number_rule (codes "upto") (pos 1000000)) result }
+{
+    Arg::new(alloc, "upto")
+        .long("upto")
+        .value_name("N")
+        .value_parser(to_a_million())
+        .help("Only the first N lines, of calls and plays")
+}
+
+// The page of a long picture.
+fn page_word<'a>(alloc: Global) -> Arg<'a>
+    ensures { IsWord (number_rule (codes "page") (pos 1000000)) result }
+{
+    Arg::new(alloc, "page")
+        .long("page")
+        .value_name("N")
+        .value_parser(to_a_million())
+        .help("Which page of an SVG of more than 2000 marks, from 1")
+}
+
+// The text that is drawn.
+fn drawn_file<'a>(alloc: Global) -> Arg<'a>
+    ensures { IsWord file_rule result }
+{
+    Arg::new(alloc, "FILE").action(ArgAction::Set).help(
+        "A trace or a scenario; without it, or with -, standard input",
+    )
+}
+
+/// The words of `draw`.
+pub fn draw_command<'a>(alloc: Global) -> Result<Command<'a>, AllocError>
+    ensures { IfOk result (IsPart draw_part) }
+{
+    let command = Command::new(alloc, "draw").about(
+        "Draws a trace: a mark for each call and each play",
+    );
+    let over_bank = command.arg(bank_word(alloc))?;
+    let with_one = over_bank.arg(svg_word(alloc)?)?;
+    let with_html = with_one.arg(html_word(alloc)?)?;
+    let with_two = with_html.arg(perfetto_word(alloc)?)?;
+    let with_three = with_two.arg(csv_word(alloc)?)?;
+    let with_four = with_three.arg(lanes_word(alloc)?)?;
+    let with_down = with_four.arg(down_word(alloc)?)?;
+    let with_across = with_down.arg(across_word(alloc)?)?;
+    let with_upto = with_across.arg(upto_word(alloc))?;
+    let with_page = with_upto.arg(page_word(alloc))?;
+    let with_file = with_page.arg(drawn_file(alloc))?;
+    Ok(with_file)
+}

@@ -1,0 +1,9 @@
+use Rattle.std.proofs.Common.{◌∙◌, List, ℕ, OnOk, subst}
+use Rattle.std.specs.Io.KnownBytes.{Appends}
+use Rattle.lab_asks.proofs.OrderLemmas.{order_is}
+use Rattle.lab_asks.proofs.orders.print_order.Goals as goal
+
+pub returns-in-Ok-clause-text : goal.returns-in-Ok-clause-text
+returns-in-Ok-clause-text g c =
+    subst (λ (l : List ℕ). OnOk c.write_all.result (Appends (g.O.Stream.contents c.args.out.now) (g.O.Stream.contents c.write_all.new.self) l))
+    (c.as_bytes.ensures.value ∙ c.in-Ok.ensures ∙ order_is c.args.callers.now c.args.order.now) c.write_all.ensures.bytes

@@ -1,0 +1,11 @@
+use Rattle.std.proofs.Common.{◌∙◌, ap, ℕ, List, OnOk, subst}
+use Rattle.std.specs.Io.KnownBytes.{Appends}
+use Rattle.lab_scenario_orders.specs.Reports.{report_text}
+use Rattle.lab_scenario_orders.specs.declared.watches.Watch.{Watch}
+use Rattle.lab_asks.proofs.OrderLemmas.{report_is}
+use Rattle.lab_asks.proofs.orders.print_outcomes.Goals as goal
+
+pub returns-in-Ok-clause-text : goal.returns-in-Ok-clause-text
+returns-in-Ok-clause-text g c =
+    subst (λ (l : List ℕ). OnOk c.write_all.result (Appends (g.O.Stream.contents c.args.out.now) (g.O.Stream.contents c.write_all.new.self) l))
+    (c.as_bytes.ensures.value ∙ c.in-Ok.ensures ∙ (ap (λ (watches : List Watch). report_text c.args.callers.now watches c.args.answered.now.outcomes) c.as_slice.ensures.value ∙ report_is c.args.callers.now c.args.ask.now c.args.answered.now.outcomes)) c.write_all.ensures.bytes

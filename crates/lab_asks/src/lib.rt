@@ -1,0 +1,8 @@
+//! What `lab orders` tells of all orders of callers' calls, or of their atomic steps, and what came of what was asked.
+#![tactic(auto)]
+
+mod order_faults;
+mod orders;
+mod verdicts;
+
+pub use orders::tell_orders;

@@ -1,0 +1,483 @@
+//! `lab orders`: every order in which the callers of a scenario may come.
+ghost use Rattle.std.specs.Prelude.{◌≡◌, ◌-◌, ◌++◌, codes, decimal, map, option_map, slice_get, IfOk, OnOk, IfErr, false};
+ghost use Rattle.std.specs.Io.KnownBytes.{Appends};
+ghost use Rattle.evl_plans.specs.Told.{handler_of};
+ghost use Rattle.lab_streams.specs.Endings.{line_about};
+ghost use Rattle.lab_asks.specs.Orders.{IsSetTo, IsUnpicked, TellsAsked, TellsGiven, TellsOrders, TellsOutcomes, TellsPossible, TellsRead, TellsText, impossible_in, json_of, json_told, order_at, order_in, order_of, outcomes_told, report_of, report_told, scenario_of, scenario_told, state_told, text_name};
+ghost use Rattle.lab_streams.specs.Outputs.{Writes, WritesOfText};
+ghost use Rattle.lab_streams.specs.Streams.{EndsEarly};
+
+use crate::order_faults::{tell_ask_fault, tell_impossible, tell_text_fault};
+use crate::verdicts::tell_against;
+use evl_plans::{Planned, copied_bank};
+use lab_kinds::kind_of;
+use lab_lines::callers_text;
+use lab_orders::{First, OrdersError, Tally};
+use lab_scenario_orders::{
+    Ask, Asked as Answered, BankMaker, Callers, Never, ask_all, first_impossible, leaving,
+    read_ask, read_callers, scenario_of, write_json, write_report,
+};
+use lab_streams::{
+    AT_FAULT, Asked, Shown, Stream, as_orders, read_plans, read_text, refused, tell_place,
+    tell_refused, tell_unread,
+};
+use std::alloc::{AllocError, Global};
+use std::io::{self, Read};
+use std::rt::Files;
+
+// Callbacks that are copied for each kernel.
+#[derive(Drop)]
+struct Copies<'a> {
+    plans: &'a [Planned],
+}
+
+impl<'a> BankMaker for Copies<'a> {
+    ghost use Rattle.std.specs.Prelude.{map};
+    ghost use Rattle.evl_plans.specs.Told.{handler_of};
+
+    type Made = Planned;
+
+    ghost bank = { λ copies. map handler_of copies.plans.now };
+
+    fn make(&self, alloc: Global) -> Result<Vec<Planned>, AllocError> {
+        copied_bank(alloc, self.plans)
+    }
+}
+
+// Prints the outcomes.
+fn print_outcomes<O: Stream>(
+    alloc: Global,
+    callers: &Callers,
+    ask: &Ask,
+    bank: &Copies<'_>,
+    answered: &Answered,
+    out: &mut O,
+) -> io::Result<()>
+    ensures text { OnOk result (Appends (O.contents out.old) (O.contents out.new) (report_of callers.now ask.now answered.now.outcomes)) }
+    ensures early { IfErr result (EndsEarly false (O.has_failed out.new) false) }
+{
+    match write_report(
+        alloc,
+        callers,
+        bank,
+        ask.watches.as_slice(),
+        &answered.outcomes,
+    ) {
+        Ok(report) => out.write_all(report.as_bytes()),
+        Err(error) => Err(error.into()),
+    }
+}
+
+// Prints the outcomes as JSON.
+fn print_json<O: Stream>(
+    alloc: Global,
+    callers: &Callers,
+    ask: &Ask,
+    answered: &Answered,
+    out: &mut O,
+) -> io::Result<()>
+    ensures text { OnOk result (Appends (O.contents out.old) (O.contents out.new) (json_of callers.now ask.now answered.now.outcomes)) }
+    ensures early { IfErr result (EndsEarly false (O.has_failed out.new) false) }
+{
+    match write_json(alloc, callers, ask, &answered.outcomes) {
+        Ok(json) => out.write_all(json.as_bytes()),
+        Err(error) => Err(error.into()),
+    }
+}
+
+// Prints the report, tells what came of what is asked, and answers the status.
+fn tell_report<O: Stream, E: Stream>(
+    alloc: Global,
+    asked: &Asked<'_>,
+    callers: &Callers,
+    ask: &Ask,
+    bank: &Copies<'_>,
+    answered: &Answered,
+    out: &mut O,
+    err: &mut E,
+) -> io::Result<u8>
+    ensures writes { IfOk result (Writes (λ output. output ≡ report_told (text_name asked.now) callers.now ask.now answered.now.outcomes answered.now.against) (O.contents out.old) (O.contents out.new) (E.contents err.old) (E.contents err.new)) }
+    ensures early { IfErr result (EndsEarly false (O.has_failed out.new) (E.has_failed err.new)) }
+{
+    print_outcomes(alloc, callers, ask, bank, answered, out)?;
+    tell_against(err, asked.name(), ask, answered)
+}
+
+// Prints the outcomes as JSON, tells what came of what is asked, and answers the status.
+fn tell_json<O: Stream, E: Stream>(
+    alloc: Global,
+    asked: &Asked<'_>,
+    callers: &Callers,
+    ask: &Ask,
+    answered: &Answered,
+    out: &mut O,
+    err: &mut E,
+) -> io::Result<u8>
+    ensures writes { IfOk result (Writes (λ output. output ≡ json_told (text_name asked.now) callers.now ask.now answered.now.outcomes answered.now.against) (O.contents out.old) (O.contents out.new) (E.contents err.old) (E.contents err.new)) }
+    ensures early { IfErr result (EndsEarly false (O.has_failed out.new) (E.has_failed err.new)) }
+{
+    print_json(alloc, callers, ask, answered, out)?;
+    tell_against(err, asked.name(), ask, answered)
+}
+
+// Prints an order as a scenario.
+fn print_order<O: Stream>(
+    alloc: Global,
+    callers: &Callers,
+    bank: &Copies<'_>,
+    order: &[u16],
+    out: &mut O,
+) -> io::Result<()>
+    ensures text { OnOk result (Appends (O.contents out.old) (O.contents out.new) (order_of callers.now order.now)) }
+    ensures early { IfErr result (EndsEarly false (O.has_failed out.new) false) }
+{
+    match scenario_of(alloc, callers, bank, order) {
+        Ok(scenario) => out.write_all(scenario.as_bytes()),
+        Err(error) => Err(error.into()),
+    }
+}
+
+// Prints the scenario of an outcome.
+fn print_scenario<O: Stream>(
+    alloc: Global,
+    callers: &Callers,
+    bank: &Copies<'_>,
+    outcome: &Tally,
+    out: &mut O,
+) -> io::Result<()>
+    ensures text { OnOk result (Appends (O.contents out.old) (O.contents out.new) (scenario_of callers.now outcome.now)) }
+    ensures early { IfErr result (EndsEarly false (O.has_failed out.new) false) }
+{
+    print_order(alloc, callers, bank, outcome.order.as_slice(), out)
+}
+
+/// Tells that there is no outcome with this number, and answers the status.
+pub fn tell_no_outcome<E: Stream>(err: &mut E, name: &str, number: u32) -> io::Result<u8>
+    ensures status { IfOk result (λ status. status ≡ 2) }
+    ensures line { OnOk result (Appends (E.contents err.old) (E.contents err.new) (line_about name.now (codes "there is no outcome " ++ decimal number))) }
+    ensures early { IfErr result (EndsEarly false false (E.has_failed err.new)) }
+{
+    writeln!(err, "{name}: there is no outcome {number}")?;
+    Ok(AT_FAULT)
+}
+
+// Prints the scenario of this outcome alone, tells what came of what is asked, and answers the status.
+fn tell_scenario<O: Stream, E: Stream>(
+    alloc: Global,
+    asked: &Asked<'_>,
+    number: u32,
+    callers: &Callers,
+    ask: &Ask,
+    bank: &Copies<'_>,
+    answered: &Answered,
+    outcome: Option<&Tally>,
+    out: &mut O,
+    err: &mut E,
+) -> io::Result<u8>
+    ensures writes { IfOk result (Writes (λ output. output ≡ scenario_told (text_name asked.now) number callers.now ask.now answered.now.outcomes answered.now.against (option_map (λ outcome. outcome.now) outcome.entry)) (O.contents out.old) (O.contents out.new) (E.contents err.old) (E.contents err.new)) }
+    ensures early { IfErr result (EndsEarly false (O.has_failed out.new) (E.has_failed err.new)) }
+{
+    match outcome {
+        Some(found) => {
+            print_scenario(alloc, callers, bank, found, out)?;
+            tell_against(err, asked.name(), ask, answered)
+        }
+        None => tell_no_outcome(err, asked.name(), number),
+    }
+}
+
+/// Tells that no order leads to a moment as the question with this number looks for, and answers the status.
+pub fn tell_no_state<E: Stream>(err: &mut E, name: &str, number: u32) -> io::Result<u8>
+    ensures status { IfOk result (λ status. status ≡ 2) }
+    ensures line { OnOk result (Appends (E.contents err.old) (E.contents err.new) (line_about name.now (codes "no order leads to state " ++ decimal number))) }
+    ensures early { IfErr result (EndsEarly false false (E.has_failed err.new)) }
+{
+    writeln!(err, "{name}: no order leads to state {number}")?;
+    Ok(AT_FAULT)
+}
+
+// Prints the first order to a moment as the question with this number looks for, if there is one, tells what came of what
+// is asked, and answers the status.
+fn tell_state<O: Stream, E: Stream>(
+    alloc: Global,
+    asked: &Asked<'_>,
+    number: u32,
+    callers: &Callers,
+    ask: &Ask,
+    bank: &Copies<'_>,
+    answered: &Answered,
+    order: Option<&[u16]>,
+    out: &mut O,
+    err: &mut E,
+) -> io::Result<u8>
+    ensures writes { IfOk result (Writes (λ output. output ≡ state_told (text_name asked.now) number callers.now ask.now answered.now.outcomes answered.now.against (option_map (λ places. places.now) order.entry)) (O.contents out.old) (O.contents out.new) (E.contents err.old) (E.contents err.new)) }
+    ensures early { IfErr result (EndsEarly false (O.has_failed out.new) (E.has_failed err.new)) }
+{
+    match order {
+        Some(places) => {
+            print_order(alloc, callers, bank, places, out)?;
+            tell_against(err, asked.name(), ask, answered)
+        }
+        None => tell_no_state(err, asked.name(), number),
+    }
+}
+
+// The order to a first moment, if there is one.
+fn order_in(first: &First) -> Option<&[u16]>
+    ensures { option_map (λ places. places.now) result ≡ order_in first.now }
+{
+    match first {
+        First::After(order) => Some(order.as_slice()),
+        First::Nowhere => None,
+    }
+}
+
+// The first order of the question with this number, from 1.
+fn order_at(all: &[First], number: u32) -> Option<&[u16]>
+    ensures { option_map (λ places. places.now) result ≡ order_at all.now number }
+{
+    match all.get(number.saturating_sub(1) as usize) {
+        Some(first) => order_in(first),
+        None => None,
+    }
+}
+
+/// The outcome with this number, from 1.
+pub fn outcome_at(all: &[Tally], number: u32) -> Option<&Tally>
+    ensures { option_map (λ outcome. outcome.now) result ≡ slice_get all.now (number - 1) }
+{
+    all.get(number.saturating_sub(1) as usize)
+}
+
+// Prints what is asked for of the outcomes, tells what came of what is asked, and answers the status.
+fn tell_answered<O: Stream, E: Stream>(
+    alloc: Global,
+    asked: &Asked<'_>,
+    callers: &Callers,
+    ask: &Ask,
+    bank: &Copies<'_>,
+    answered: &Answered,
+    out: &mut O,
+    err: &mut E,
+) -> io::Result<u8>
+    ensures writes { IfOk result (Writes (λ output. output ≡ outcomes_told asked.now.shown (text_name asked.now) callers.now ask.now answered.now.outcomes answered.now.against) (O.contents out.old) (O.contents out.new) (E.contents err.old) (E.contents err.new)) }
+    ensures early { IfErr result (EndsEarly false (O.has_failed out.new) (E.has_failed err.new)) }
+{
+    match asked.shown {
+        Shown::Outcome(number) => {
+            let outcome = outcome_at(answered.outcomes.all.as_slice(), number);
+            tell_scenario(
+                alloc, asked, number, callers, ask, bank, answered, outcome, out, err,
+            )
+        }
+        Shown::State(number) => {
+            let order = order_at(answered.outcomes.firsts.as_slice(), number);
+            tell_state(
+                alloc, asked, number, callers, ask, bank, answered, order, out, err,
+            )
+        }
+        Shown::Json => tell_json(alloc, asked, callers, ask, answered, out, err),
+        Shown::Report => tell_report(alloc, asked, callers, ask, bank, answered, out, err),
+    }
+}
+
+// Goes through all orders, and answers the status.
+fn go_through<O: Stream, E: Stream>(
+    alloc: Global,
+    asked: &Asked<'_>,
+    callers: &Callers,
+    ask: &Ask,
+    plans: &[Planned],
+    out: &mut O,
+    err: &mut E,
+) -> io::Result<u8>
+    ensures writes { IfOk result (Writes (TellsOutcomes (map handler_of plans.now) asked.now.most asked.now.shown (text_name asked.now) callers.now ask.now) (O.contents out.old) (O.contents out.new) (E.contents err.old) (E.contents err.new)) }
+    ensures early { IfErr result (EndsEarly false (O.has_failed out.new) (E.has_failed err.new)) }
+{
+    let bank = Copies { plans };
+    match ask_all(alloc, callers, &bank, ask, asked.most) {
+        Ok(answered) => tell_answered(alloc, asked, callers, ask, &bank, &answered, out, err),
+        Err(OrdersError::Count) => {
+            let told = tell_refused(err, asked.name(), "more orders than can be counted");
+            refused(told)
+        }
+        Err(OrdersError::Memory) => Err(AllocError.into()),
+    }
+}
+
+// The same callers, of whom no step is made only as threads are picked.
+fn unpicked(callers: Callers) -> Callers
+    ensures { IsUnpicked callers result }
+{
+    let mut set = callers;
+    set.as_picked = false;
+    set
+}
+
+// The callers, set to what is asked.
+fn set_to(alloc: Global, callers: Callers, ask: &Ask) -> io::Result<Callers>
+    ensures set { IfOk result (IsSetTo callers ask.now) }
+    ensures early { IfErr result (EndsEarly false false false) }
+{
+    if !ask.as_picked {
+        return Ok(unpicked(callers));
+    }
+    match leaving(alloc, callers) {
+        Ok(set) => Ok(set),
+        Err(error) => Err(error.into()),
+    }
+}
+
+// The first answer of `never` that no step of its caller can have.
+fn impossible_in<'a>(
+    alloc: Global,
+    callers: &Callers,
+    ask: &'a Ask,
+) -> io::Result<Option<&'a Never>>
+    ensures found { IfOk result (λ found. option_map (λ never. never.now) found ≡ impossible_in callers.now ask.now) }
+    ensures early { IfErr result (EndsEarly false false false) }
+{
+    match first_impossible(alloc, callers, ask) {
+        Ok(found) => Ok(found),
+        Err(error) => Err(error.into()),
+    }
+}
+
+// Tells such an answer; where there is none, goes through all orders. Answers the status.
+fn tell_found<O: Stream, E: Stream>(
+    alloc: Global,
+    asked: &Asked<'_>,
+    callers: Callers,
+    ask: &Ask,
+    found: Option<&Never>,
+    plans: &[Planned],
+    out: &mut O,
+    err: &mut E,
+) -> io::Result<u8>
+    ensures writes { IfOk result (Writes (TellsPossible (map handler_of plans.now) asked.now.most asked.now.shown (text_name asked.now) callers ask.now (option_map (λ never. never.now) found.entry)) (O.contents out.old) (O.contents out.new) (E.contents err.old) (E.contents err.new)) }
+    ensures early { IfErr result (EndsEarly false (O.has_failed out.new) (E.has_failed err.new)) }
+{
+    match found {
+        None => {
+            let set = set_to(alloc, callers, ask)?;
+            go_through(alloc, asked, &set, ask, plans, out, err)
+        }
+        Some(never) => tell_impossible(alloc, err, asked.name(), &callers, never),
+    }
+}
+
+// Goes through all orders of callers of whom this is asked, and answers the status.
+fn tell_possible<O: Stream, E: Stream>(
+    alloc: Global,
+    asked: &Asked<'_>,
+    callers: Callers,
+    ask: &Ask,
+    plans: &[Planned],
+    out: &mut O,
+    err: &mut E,
+) -> io::Result<u8>
+    ensures writes { IfOk result (Writes (TellsPossible (map handler_of plans.now) asked.now.most asked.now.shown (text_name asked.now) callers ask.now (impossible_in callers ask.now)) (O.contents out.old) (O.contents out.new) (E.contents err.old) (E.contents err.new)) }
+    ensures early { IfErr result (EndsEarly false (O.has_failed out.new) (E.has_failed err.new)) }
+{
+    let found = impossible_in(alloc, &callers, ask)?;
+    tell_found(alloc, asked, callers, ask, found, plans, out, err)
+}
+
+// Tells what is asked of callers, and answers the status.
+fn tell_callers<O: Stream, E: Stream>(
+    alloc: Global,
+    asked: &Asked<'_>,
+    callers: Callers,
+    plans: &[Planned],
+    text: &[u8],
+    out: &mut O,
+    err: &mut E,
+) -> io::Result<u8>
+    ensures writes { IfOk result (Writes (TellsAsked (map handler_of plans.now) asked.now.most asked.now.shown (text_name asked.now) callers text.now) (O.contents out.old) (O.contents out.new) (E.contents err.old) (E.contents err.new)) }
+    ensures early { IfErr result (EndsEarly false (O.has_failed out.new) (E.has_failed err.new)) }
+{
+    match read_ask(alloc, &callers, text) {
+        Ok(ask) => tell_possible(alloc, asked, callers, &ask, plans, out, err),
+        Err(fault) => {
+            let told = tell_ask_fault(err, asked.name(), fault);
+            refused(told)
+        }
+    }
+}
+
+// Goes through all orders of a text, and answers the status.
+fn tell_text<O: Stream, E: Stream>(
+    alloc: Global,
+    asked: &Asked<'_>,
+    plans: &[Planned],
+    text: &[u8],
+    out: &mut O,
+    err: &mut E,
+) -> io::Result<u8>
+    ensures writes { IfOk result (Writes (TellsText (map handler_of plans.now) asked.now.most asked.now.shown (text_name asked.now) text.now) (O.contents out.old) (O.contents out.new) (E.contents err.old) (E.contents err.new)) }
+    ensures early { IfErr result (EndsEarly false (O.has_failed out.new) (E.has_failed err.new)) }
+{
+    match read_callers(alloc, text) {
+        Ok(callers) => tell_callers(alloc, asked, callers, plans, text, out, err),
+        Err(fault) => {
+            let kind = kind_of(alloc, text)?;
+            refused(tell_text_fault(err, asked.name(), as_orders(kind), fault))
+        }
+    }
+}
+
+// Goes through all orders of the text of callers that stands for a text, and answers the status.
+fn tell_given<O: Stream, E: Stream>(
+    alloc: Global,
+    asked: &Asked<'_>,
+    plans: &[Planned],
+    text: Vec<u8>,
+    out: &mut O,
+    err: &mut E,
+) -> io::Result<u8>
+    ensures writes { IfOk result (Writes (TellsGiven (map handler_of plans.now) asked.now.most asked.now.shown (text_name asked.now) text.items) (O.contents out.old) (O.contents out.new) (E.contents err.old) (E.contents err.new)) }
+    ensures early { IfErr result (EndsEarly false (O.has_failed out.new) (E.has_failed err.new)) }
+{
+    match callers_text(alloc, text) {
+        Ok(plain) => tell_text(alloc, asked, plans, plain.as_slice(), out, err),
+        Err(fault) => refused(tell_place(err, asked.name(), &fault)),
+    }
+}
+
+// Goes through all orders of a file, or of the input where none is named, and answers the status.
+fn tell_file<R: Files + AllocGlobal, I: Read, O: Stream, E: Stream>(
+    rt: &R,
+    asked: &Asked<'_>,
+    plans: &[Planned],
+    input: &mut I,
+    out: &mut O,
+    err: &mut E,
+) -> io::Result<u8>
+    ensures writes { IfOk result (WritesOfText (TellsRead (map handler_of plans.now) asked.now.most asked.now.shown (text_name asked.now)) (option_map (λ file. file.now) asked.now.file) (I.remaining input.old) (O.contents out.old) (O.contents out.new) (E.contents err.old) (E.contents err.new)) }
+    ensures early { IfErr result (EndsEarly false (O.has_failed out.new) (E.has_failed err.new)) }
+{
+    match read_text(rt, asked.file, input) {
+        Ok(text) => tell_given(rt.alloc(), asked, plans, text, out, err),
+        Err(why) => refused(tell_unread(err, asked.name(), why)),
+    }
+}
+
+/// Goes through every order in which the callers of a scenario may come, over a bank, prints how each ends, and answers
+/// the status: 1 where one is against what is asked, 5 where none is and longer orders were cut off, 2 where the text is
+/// refused or can't be read, or the bank is at fault.
+pub fn tell_orders<R: Files + AllocGlobal, I: Read, O: Stream, E: Stream>(
+    rt: &R,
+    asked: &Asked<'_>,
+    input: &mut I,
+    out: &mut O,
+    err: &mut E,
+) -> io::Result<u8>
+    ensures told { IfOk result (TellsOrders asked.now (I.remaining input.old) (O.contents out.old) (O.contents out.new) (E.contents err.old) (E.contents err.new)) }
+    ensures early { IfErr result (EndsEarly false (O.has_failed out.new) (E.has_failed err.new)) }
+{
+    match read_plans(rt, asked.bank, err) {
+        Ok(Some(plans)) => tell_file(rt, asked, plans.as_slice(), input, out, err),
+        Ok(None) => Ok(AT_FAULT),
+        Err(error) => Err(error),
+    }
+}

@@ -1,0 +1,187 @@
+-- What is drawn of a text, by what each call of the body draws.
+use Rattle.std.proofs.Common.{◌≡◌, ◌∙◌, ◌⊎◌, inl, inr, ℕ, ◌-◌, ◌++◌, List, Bool, true, false, codes, Option, Result, Ok, Err, IfOk, OnOk, length, map, refl, sym, ap, ap₂, subst}
+use Rattle.std.specs.Prelude.{IsSomeAnd}
+use Rattle.std.specs.List.{All}
+use Rattle.std.specs.Str.{is_utf8}
+use Rattle.std.specs.Io.KnownBytes.{Appends}
+use Rattle.std.proofs.KnownBytes.{Appends-trans}
+use Rattle.evl_scenario.specs.declared.faults.Fault.{Fault}
+use Rattle.evl_scenario.specs.declared.faults.Fault.TheVariants.{Text, Board, Step, Memory, Write}
+use Rattle.evl_kernel.specs.state.States.{Handler}
+use Rattle.evl_plans.specs.Told.{handler_of}
+use Rattle.evl_plans.specs.Traces.{Refuses}
+use Rattle.lab_traces.specs.Says.{IsLine, IsMisread, read_of, says_some, text_of, whole_lines}
+use Rattle.lab_traces.specs.declared.traces.Misread.{Misread}
+use Rattle.lab_traces.specs.declared.traces.Misread.TheVariants as misread
+use Rattle.lab_traces.specs.declared.traces.TraceLine.{TraceLine}
+use Rattle.lab_drawing.specs.Pictures.{going_text, shown_with}
+use Rattle.lab_drawing.specs.Rows.{rows_text}
+use Rattle.lab_drawing.specs.Tables.{table_text}
+use Rattle.lab_drawing.specs.declared.frames.Goes.{Goes}
+use Rattle.lab_drawing.specs.declared.frames.Shows.TheVariants.{Words}
+use Rattle.lab_drawing.specs.Html.{html_text}
+use Rattle.lab_drawing.specs.declared.marks.Mark.{Mark}
+use Rattle.lab_drawing.specs.declared.snapshots.Snapshot.{Snapshot}
+use Rattle.lab_drawing.specs.declared.moments.Moment.{Moment}
+use Rattle.lab_reports.specs.Events.{events_text}
+use Rattle.lab_draws.specs.Draws.{AreLinesOf, AreMomentsOf, DrawsIf, DrawsPage, DrawsPlayed, DrawsText, IsDrawn, IsPicture, Origin, SaysFirst, callers, events_of, fault_words, goes_for, html_of, moments_at, undrawn_text, origin_of, page_at, page_text, picture_text, rows_of, scenario, table_of, trace}
+use Rattle.lab_kinds.specs.Kinds.{kind_of}
+use Rattle.lab_kinds.specs.declared.kinds.TextKind.{TextKind}
+use Rattle.lab_kinds.specs.declared.kinds.TextKind.TheVariants as kinds
+use Rattle.lab_streams.specs.Endings.{kinded_words, line_about}
+use Rattle.lab_streams.specs.Outputs.{Output, Writes, refuses}
+use Rattle.lab_draws.specs.declared.draws.Source.{Source}
+use Rattle.lab_draws.specs.declared.draws.Source.TheVariants as source
+use Rattle.lab_streams.specs.declared.words.Drawing.{Drawing}
+use Rattle.lab_streams.specs.declared.words.Form.{Form}
+use Rattle.lab_streams.specs.declared.words.Form.TheVariants.{Svg, Html, Events, Table, Rows}
+use Rattle.lab_streams.proofs.OutputLemmas.{said, said_of, written_as}
+
+pub events_is : (marks : List Mark) → events_text marks ≡ events_of marks
+unfolding events_of
+events_is marks = refl
+
+pub table_is : (marks : List Mark) → table_text marks ≡ table_of marks
+unfolding table_of
+table_is marks = refl
+
+pub rows_is : (marks : List Mark) → rows_text marks ≡ rows_of marks
+unfolding rows_of
+rows_is marks = refl
+
+pub callers_is : (goes : Goes) (marks : List Mark) (moments : List Moment) → going_text goes Words moments marks ≡ picture_text goes callers marks moments
+unfolding picture_text
+callers_is goes marks moments = refl
+
+pub trace_is : (goes : Goes) (marks : List Mark) (moments : List Moment) → going_text goes (shown_with moments) moments marks ≡ picture_text goes trace marks moments
+unfolding picture_text
+trace_is goes marks moments = refl
+
+pub scenario_is : (goes : Goes) (bank : List Handler) (text : List ℕ) (marks : List Mark) (moments : List Moment)
+    → going_text goes (shown_with moments) moments marks ≡ picture_text goes (scenario bank text) marks moments
+unfolding picture_text
+scenario_is goes bank text marks moments = refl
+
+-- ---- a page
+
+same_picture : (goes : Goes) (origin : Origin) (marks page : List Mark) (number : ℕ) (known behind : List Moment) (text : List ℕ) → AreMomentsOf origin marks known → page ≡ page_at marks number
+    → behind ≡ moments_at marks known number → text ≡ picture_text goes origin page behind → IsPicture goes origin marks number text
+same_picture goes origin marks page number known behind text are page_is behind_is text_is =
+    (known, are, text_is ∙ ap₂ (λ (p : List Mark) (b : List Moment). picture_text goes origin p b) page_is behind_is)
+
+-- of callers, and of anything else
+pub told_picture : (goes : Goes) (s : Source) (marks page : List Mark) (number : ℕ) (known behind : List Moment) (text : List ℕ) → s ≡ source.Callers → AreMomentsOf (origin_of s) marks known
+    → page ≡ page_at marks number → behind ≡ moments_at marks known number → text ≡ going_text goes Words behind page → IsPicture goes (origin_of s) marks number text
+told_picture goes s marks page number known behind text is are page_is behind_is text_is =
+    same_picture goes (origin_of s) marks page number known behind text are page_is behind_is
+    (text_is ∙ callers_is goes page behind ∙ ap (λ (o : Source). picture_text goes (origin_of o) page behind) (sym is))
+
+pub known_picture : (goes : Goes) (s : Source) (marks page : List Mark) (number : ℕ) (known behind : List Moment) (text : List ℕ) → (s ≡ source.Callers → ⊥) → AreMomentsOf (origin_of s) marks known
+    → page ≡ page_at marks number → behind ≡ moments_at marks known number → text ≡ going_text goes (shown_with behind) behind page → IsPicture goes (origin_of s) marks number text
+known_picture goes source.Callers marks page number known behind text isnt are page_is behind_is text_is = absurd (isnt refl)
+known_picture goes source.Trace marks page number known behind text isnt are page_is behind_is text_is =
+    same_picture goes trace marks page number known behind text are page_is behind_is (text_is ∙ trace_is goes page behind)
+known_picture goes (source.Scenario b t) marks page number known behind text isnt are page_is behind_is text_is =
+    let bank = map handler_of b.now in
+    same_picture goes (scenario bank t.now) marks page number known behind text are page_is behind_is (text_is ∙ scenario_is goes bank t.now page behind)
+
+-- a form that has no table of the machine
+pub pictured : (form : Form) (goes : Goes) (origin : Origin) (marks : List Mark) (number : ℕ) (text : List ℕ) → (form ≡ Html → ⊥) → IsPicture goes origin marks number text
+    → IsDrawn form goes origin marks number text
+pictured Svg goes origin marks number text isnt h = h
+pictured Html goes origin marks number text isnt h = absurd (isnt refl)
+pictured Events goes origin marks number text isnt h = h
+pictured Table goes origin marks number text isnt h = h
+pictured Rows goes origin marks number text isnt h = h
+
+pub html_is : (picture : List ℕ) (snapshots : List Snapshot) (marks : List Mark) → html_text picture snapshots marks ≡ html_of picture snapshots marks
+unfolding html_of
+html_is picture snapshots marks = refl
+
+pub is_page : (drawing : Drawing) (origin : Origin) (marks : List Mark) (goes : Goes) (before count all : ℕ) (text printed : List ℕ) → goes ≡ goes_for drawing.way count → count ≡ length marks
+    → before ≡ drawing.page - 1 → printed ≡ text → IsDrawn drawing.form goes origin marks before text
+    → DrawsPage drawing origin marks all (record { printed = printed; said = page_text drawing.page all; status = 0 })
+is_page drawing origin marks goes before count all text printed way many is same h = (
+  printed,
+  subst (λ (t : List ℕ). IsDrawn drawing.form (goes_for drawing.way (length marks)) origin marks (drawing.page - 1) t) (sym same)
+      (subst (λ (n : ℕ). IsDrawn drawing.form (goes_for drawing.way (length marks)) origin marks n text) is
+      (subst (λ (g : Goes). IsDrawn drawing.form g origin marks before text) (way ∙ ap (goes_for drawing.way) many) h)),
+  refl,
+)
+
+-- ---- a text
+
+-- what is written behind what was said before it
+pub says_first : (E : Type 0) (note : List ℕ) (Is : Output → Type 0) (old new quiet mid spoken : Option (List ℕ)) (r : Result ℕ E) → Appends quiet mid note
+    → IfOk r (Writes Is old new mid spoken) → IfOk r (Writes (SaysFirst note Is) old new quiet spoken)
+says_first E note Is old new quiet mid spoken (Ok s) says w = record {
+  output = record { printed = w.output.printed; said = note ++ w.output.said; status = w.output.status };
+  is = (w.output, w.is, refl);
+  printed = w.printed;
+  said = Appends-trans quiet mid spoken note w.output.said says w.said;
+  ended = w.ended;
+}
+says_first E note Is old new quiet mid spoken (Err e) says w = tt
+
+pub lines_are : (text read : List ℕ) (lines items : List TraceLine) → lines ≡ items → read ≡ text → map read_of items ≡ map says_some items → whole_lines (map text_of items) ≡ read
+    → All (λ line. IsLine (text_of line)) items → AreLinesOf text lines
+lines_are text read lines items same is reads whole alone =
+    subst (λ (l : List TraceLine). AreLinesOf text l) (sym same) (record { read = reads; whole = whole ∙ is; alone = alone })
+
+pub line_of_misread : (text : List ℕ) (m : ℕ) → (misread.Line m ≡ misread.Memory) ⊎ ((n : ℕ) × (misread.Line m ≡ misread.Line n) × IsMisread text n) → IsMisread text m
+line_of_misread text m (inl h) = cc
+line_of_misread text m (inr h) = let same : m ≡ h.0 = cc (h.1) in subst (λ (n : ℕ). IsMisread text n) (sym same) h.2
+
+-- a fault for which a text of a kind isn't played
+pub unplayed : (E : Type 0) (bank : List Handler) (drawing : Drawing) (text : List ℕ) (line : ℕ) (made : Result (List ℕ) Fault) (kind : TextKind) (e : Fault) (old quiet spoken : Option (List ℕ)) (r : Result ℕ E)
+    → kind ≡ kind_of text → Refuses made e → OnOk r (IsSomeAnd (fault_words e) (λ words. Appends quiet spoken (undrawn_text kind line words))) → IfOk r (λ s. s ≡ 2)
+    → IfOk r (Writes (DrawsPlayed bank drawing text line made) old old quiet spoken)
+unplayed E bank drawing text line made kind e old quiet spoken r same is says ends =
+    said_of E (DrawsPlayed bank drawing text line made) old quiet spoken (undrawn_text (kind_of text) line) (fault_words e) r (by e is)
+    (subst (λ (k : TextKind). OnOk r (IsSomeAnd (fault_words e) (λ words. Appends quiet spoken (undrawn_text k line words)))) same says) ends
+  where
+    by : (f : Fault) → Refuses made f → (output : Output) → IsSomeAnd (fault_words f) (λ w. output ≡ refuses 2 (undrawn_text (kind_of text) line w)) → DrawsPlayed bank drawing text line made output
+    by Text h output o = rw h o
+    by Board h output o = rw h o
+    by (Step n) h output o = rw h o
+    by Memory h output o = absurd o
+    by Write h output o = absurd o
+
+-- for which part a text is
+pub other_told : (kind : TextKind) (line : ℕ) (e : Fault) (quiet spoken : Option (List ℕ)) → (kind ≡ kinds.Scenario → ⊥)
+    → IsSomeAnd (kinded_words kind e) (λ words. Appends quiet spoken (line_about (codes "lab") words)) → IsSomeAnd (fault_words e) (λ words. Appends quiet spoken (undrawn_text kind line words))
+other_told kinds.Scenario line e quiet spoken other says = absurd (other refl)
+other_told kinds.Orders line Text quiet spoken other says = says
+other_told kinds.Orders line Board quiet spoken other says = says
+other_told kinds.Orders line (Step n) quiet spoken other says = says
+other_told kinds.Orders line Memory quiet spoken other says = says
+other_told kinds.Orders line Write quiet spoken other says = says
+other_told kinds.Callers line Text quiet spoken other says = says
+other_told kinds.Callers line Board quiet spoken other says = says
+other_told kinds.Callers line (Step n) quiet spoken other says = says
+other_told kinds.Callers line Memory quiet spoken other says = says
+other_told kinds.Callers line Write quiet spoken other says = says
+other_told kinds.Bank line Text quiet spoken other says = says
+other_told kinds.Bank line Board quiet spoken other says = says
+other_told kinds.Bank line (Step n) quiet spoken other says = says
+other_told kinds.Bank line Memory quiet spoken other says = says
+other_told kinds.Bank line Write quiet spoken other says = says
+
+pub others_told : {E : Type 0} (kind : TextKind) (line : ℕ) (e : Fault) (quiet spoken : Option (List ℕ)) (r : Result ℕ E) → (kind ≡ kinds.Scenario → ⊥)
+    → OnOk r (IsSomeAnd (kinded_words kind e) (λ words. Appends quiet spoken (line_about (codes "lab") words)))
+    → OnOk r (IsSomeAnd (fault_words e) (λ words. Appends quiet spoken (undrawn_text kind line words)))
+others_told kind line e quiet spoken (Ok s) other says = other_told kind line e quiet spoken other says
+others_told kind line e quiet spoken (Err x) other says = tt
+
+-- a text in UTF-8, and another
+pub of_text : (E : Type 0) (bank : List Handler) (drawing : Drawing) (bytes text : List ℕ) (old new quiet spoken : Option (List ℕ)) (r : Result ℕ E) → text ≡ bytes → is_utf8 bytes ≡ true
+    → IfOk r (Writes (DrawsText bank drawing text) old new quiet spoken) → IfOk r (Writes (DrawsIf bank (is_utf8 bytes) drawing bytes) old new quiet spoken)
+of_text E bank drawing bytes text old new quiet spoken r same utf8 w =
+    written_as E (DrawsIf bank (is_utf8 bytes) drawing bytes) old new quiet spoken (DrawsText bank drawing text) r
+    (λ output h. subst (λ (b : Bool). DrawsIf bank b drawing bytes output) (sym utf8) (subst (λ (t : List ℕ). DrawsText bank drawing t output) same h)) w
+
+pub of_no_text : (E : Type 0) (bank : List Handler) (drawing : Drawing) (bytes : List ℕ) (old quiet spoken : Option (List ℕ)) (r : Result ℕ E) → is_utf8 bytes ≡ false
+    → OnOk r (Appends quiet spoken (codes "lab: the text is no UTF-8\n")) → IfOk r (λ s. s ≡ 2) → IfOk r (Writes (DrawsIf bank (is_utf8 bytes) drawing bytes) old old quiet spoken)
+of_no_text E bank drawing bytes old quiet spoken r utf8 says ends =
+    let text = codes "lab: the text is no UTF-8\n" in
+    said E (DrawsIf bank (is_utf8 bytes) drawing bytes) old quiet spoken 2 text r (subst (λ (b : Bool). DrawsIf bank b drawing bytes (refuses 2 text)) (sym utf8) refl) says ends

@@ -1,0 +1,486 @@
+//! `lab draw`: the picture of a trace, of a scenario, which is played, or of what `lab callers` tells.
+ghost use Rattle.std.specs.Prelude.{◌≡◌, ◌≤◌, ◌++◌, codes, length, map, take, None, option_map, unwrap_or, IfErr, IfOk, OnOk, false};
+ghost use Rattle.std.specs.Str.{is_utf8};
+ghost use Rattle.std.specs.Io.KnownBytes.{Appends};
+ghost use Rattle.evl_plans.specs.Told.{handler_of};
+ghost use Rattle.evl_scenario.specs.Lines.{line_feed};
+ghost use Rattle.evl_shell.specs.Runs as runs;
+ghost use Rattle.lab_draws.specs.Draws as draws;
+ghost use Rattle.lab_draws.specs.Draws.{AreMomentsOf, Draws, DrawsGiven, DrawsIf, DrawsLines, DrawsMade, DrawsMarks, DrawsOver, DrawsPage, DrawsPlayed, DrawsRead, DrawsSvg, DrawsText, DrawsWhole, IsPicture, first_of, goes_for, origin_of};
+ghost use Rattle.lab_drawing.specs.Pictures.{going_text, shown_with};
+ghost use Rattle.lab_drawing.specs.declared.frames.Shows.TheVariants.{Words};
+ghost use Rattle.lab_streams.specs.Outputs.{Writes, WritesOfText};
+ghost use Rattle.lab_streams.specs.Texts as texts;
+ghost use Rattle.lab_streams.specs.Streams.{EndsEarly};
+
+use crate::draw_faults::{tell_missing, tell_neither, tell_no_page, tell_page, tell_undrawn};
+use crate::draw_html::drawn_of;
+use evl_plans::{Planned, trace_plans};
+use lab_drawing::{
+    Goes, Mark, Moment, lanes_of, marks_of, missing_callback, page, page_count, page_moments,
+    told_moments, write_down, write_rows, write_svg, write_table, write_told, write_told_down,
+};
+use lab_kinds::kind_of;
+use lab_lines::plain_text;
+use lab_moments::moments_of;
+use lab_reports::write_events;
+use lab_streams::{
+    AT_FAULT, Drawing, Form, Stream, Way, called, put, read_plans, read_text, refused, tell_place,
+    tell_unread, text_in, with_line_feed,
+};
+use lab_traces::{Misread, TraceLine, read_lines};
+use std::alloc::{AllocError, Global};
+use std::io::{self, Read};
+use std::rt::Files;
+
+// What stands between the lines of callers and what is told of their machine's end.
+const CLOSING: &str = "\nclose -> ";
+
+/// What marks come from: a trace alone, a scenario that was played over these callbacks, or the lines of callers.
+#[derive(Clone, Copy)]
+pub(crate) enum Source<'a> {
+    Trace,
+    Scenario(&'a [Planned], &'a str),
+    Callers,
+}
+
+// What is asked for, and the callbacks that a scenario is played over.
+#[derive(Clone, Copy, Drop)]
+struct View<'a> {
+    drawing: Drawing,
+    bank: &'a [Planned],
+}
+
+// How the lanes of marks stand after each step of a scenario over these callbacks.
+fn scenario_moments(
+    alloc: Global,
+    marks: &[Mark<'_>],
+    bank: &[Planned],
+    text: &str,
+) -> Result<Vec<Moment>, AllocError>
+    ensures { IfOk result (λ moments. AreMomentsOf (draws.scenario (map handler_of bank.now) text.now) marks.now moments.items) }
+{
+    let lanes = lanes_of(alloc, marks)?;
+    moments_of(alloc, bank, text.as_bytes(), lanes.as_slice())
+}
+
+// How the lanes of marks stand after each entry, as far as their source tells it.
+fn known_moments(
+    alloc: Global,
+    marks: &[Mark<'_>],
+    source: Source<'_>,
+) -> Result<Vec<Moment>, AllocError>
+    ensures { IfOk result (λ moments. AreMomentsOf (origin_of source.entry) marks.now moments.items) }
+{
+    match source {
+        Source::Trace => Ok(Vec::new(alloc)),
+        Source::Scenario(bank, text) => scenario_moments(alloc, marks, bank, text),
+        Source::Callers => told_moments(alloc, marks),
+    }
+}
+
+// The most lines of which a picture goes down where no way is asked for.
+const MOST_DOWN: usize = 60;
+
+// Which way a picture of so many marks goes.
+fn goes_for(way: Way, count: usize) -> Goes
+    ensures { result ≡ goes_for way count }
+{
+    match way {
+        Way::Down => Goes::Down,
+        Way::Across => Goes::Across,
+        Way::Fitting if count <= MOST_DOWN => Goes::Down,
+        Way::Fitting => Goes::Across,
+    }
+}
+
+// The picture of callers' marks that goes this way.
+fn told_picture(
+    alloc: Global,
+    marks: &[Mark<'_>],
+    moments: &[Moment],
+    goes: Goes,
+) -> Result<Vec<u8>, AllocError>
+    ensures { IfOk result (λ picture. picture.items ≡ going_text goes Words moments.now marks.now) }
+{
+    match goes {
+        Goes::Across => write_told(alloc, marks, moments),
+        Goes::Down => write_told_down(alloc, marks, moments),
+    }
+}
+
+// The picture of other marks that goes this way.
+fn known_picture(
+    alloc: Global,
+    marks: &[Mark<'_>],
+    moments: &[Moment],
+    goes: Goes,
+) -> Result<Vec<u8>, AllocError>
+    ensures { IfOk result (λ picture. picture.items ≡ going_text goes (shown_with moments.now) moments.now marks.now) }
+{
+    match goes {
+        Goes::Across => write_svg(alloc, marks, moments),
+        Goes::Down => write_down(alloc, marks, moments),
+    }
+}
+
+/// The picture of a page of marks, from 0, that goes this way. `AllocError` where memory couldn't grow.
+pub(crate) fn picture_of(
+    alloc: Global,
+    marks: &[Mark<'_>],
+    source: Source<'_>,
+    goes: Goes,
+    number: usize,
+) -> Result<Vec<u8>, AllocError>
+    ensures { IfOk result (λ picture. IsPicture goes (origin_of source.entry) marks.now number picture.items) }
+{
+    let known = known_moments(alloc, marks, source)?;
+    let behind = page_moments(marks, known.as_slice(), number);
+    match source {
+        Source::Callers => told_picture(alloc, page(marks, number), behind, goes),
+        _ => known_picture(alloc, page(marks, number), behind, goes),
+    }
+}
+
+// Writes the picture of a page of marks, from 1, of so many.
+fn draw_page<O: Stream, E: Stream>(
+    alloc: Global,
+    marks: &[Mark<'_>],
+    source: Source<'_>,
+    drawing: Drawing,
+    all: usize,
+    out: &mut O,
+    err: &mut E,
+) -> io::Result<u8>
+    ensures writes { IfOk result (Writes (DrawsPage drawing (origin_of source.entry) marks.now all) (O.contents out.old) (O.contents out.new) (E.contents err.old) (E.contents err.new)) }
+    ensures early { IfErr result (EndsEarly false (O.has_failed out.new) (E.has_failed err.new)) }
+{
+    tell_page(err, drawing.page, all)?;
+    let goes = goes_for(drawing.way, marks.len());
+    let number = (drawing.page as usize).saturating_sub(1);
+    match drawn_of(alloc, marks, source, drawing.form, goes, number) {
+        Ok(picture) => put(out, picture.as_slice()),
+        Err(error) => Err(error.into()),
+    }
+}
+
+// Writes the picture of a page of marks, from 1, and says so where there are several.
+fn draw_svg<O: Stream, E: Stream>(
+    alloc: Global,
+    marks: &[Mark<'_>],
+    source: Source<'_>,
+    drawing: Drawing,
+    out: &mut O,
+    err: &mut E,
+) -> io::Result<u8>
+    ensures writes { IfOk result (Writes (DrawsSvg drawing (origin_of source.entry) marks.now) (O.contents out.old) (O.contents out.new) (E.contents err.old) (E.contents err.new)) }
+    ensures early { IfErr result (EndsEarly false (O.has_failed out.new) (E.has_failed err.new)) }
+{
+    let all = page_count(marks);
+    if drawing.page as usize > all {
+        tell_no_page(err, drawing.page, all)
+    } else {
+        draw_page(alloc, marks, source, drawing, all, out, err)
+    }
+}
+
+// Writes marks as trace events.
+fn draw_events<O: Stream>(alloc: Global, marks: &[Mark<'_>], out: &mut O) -> io::Result<u8>
+    ensures status { IfOk result (λ status. status ≡ 0) }
+    ensures text { OnOk result (Appends (O.contents out.old) (O.contents out.new) (draws.events_of marks.now)) }
+    ensures early { IfErr result (EndsEarly false (O.has_failed out.new) false) }
+{
+    match write_events(alloc, marks) {
+        Ok(events) => put(out, events.as_bytes()),
+        Err(error) => Err(error.into()),
+    }
+}
+
+// Writes the table of marks.
+fn draw_table<O: Stream>(alloc: Global, marks: &[Mark<'_>], out: &mut O) -> io::Result<u8>
+    ensures status { IfOk result (λ status. status ≡ 0) }
+    ensures text { OnOk result (Appends (O.contents out.old) (O.contents out.new) (draws.table_of marks.now)) }
+    ensures early { IfErr result (EndsEarly false (O.has_failed out.new) false) }
+{
+    match write_table(alloc, marks) {
+        Ok(table) => put(out, table.as_slice()),
+        Err(error) => Err(error.into()),
+    }
+}
+
+// Writes marks in characters.
+fn draw_rows<O: Stream>(alloc: Global, marks: &[Mark<'_>], out: &mut O) -> io::Result<u8>
+    ensures status { IfOk result (λ status. status ≡ 0) }
+    ensures text { OnOk result (Appends (O.contents out.old) (O.contents out.new) (draws.rows_of marks.now)) }
+    ensures early { IfErr result (EndsEarly false (O.has_failed out.new) false) }
+{
+    match write_rows(alloc, marks) {
+        Ok(rows) => put(out, rows.as_bytes()),
+        Err(error) => Err(error.into()),
+    }
+}
+
+// Writes marks in a form.
+fn draw_marks<O: Stream, E: Stream>(
+    alloc: Global,
+    marks: &[Mark<'_>],
+    source: Source<'_>,
+    drawing: Drawing,
+    out: &mut O,
+    err: &mut E,
+) -> io::Result<u8>
+    ensures writes { IfOk result (Writes (DrawsMarks drawing.form drawing (origin_of source.entry) marks.now) (O.contents out.old) (O.contents out.new) (E.contents err.old) (E.contents err.new)) }
+    ensures early { IfErr result (EndsEarly false (O.has_failed out.new) (E.has_failed err.new)) }
+{
+    match drawing.form {
+        Form::Svg => draw_svg(alloc, marks, source, drawing, out, err),
+        Form::Html => draw_svg(alloc, marks, source, drawing, out, err),
+        Form::Events => draw_events(alloc, marks, out),
+        Form::Table => draw_table(alloc, marks, out),
+        Form::Rows => draw_rows(alloc, marks, out),
+    }
+}
+
+// The first marks, so many at most.
+fn first_count<'a, 'b>(marks: &'b [Mark<'a>], count: usize) -> &'b [Mark<'a>]
+    ensures { result.now ≡ take count marks.now }
+{
+    if marks.len() <= count {
+        marks
+    } else {
+        &marks[..count]
+    }
+}
+
+// The first marks, so many where a number is asked for.
+fn first_of<'a, 'b>(marks: &'b [Mark<'a>], upto: Option<u32>) -> &'b [Mark<'a>]
+    ensures { result.now ≡ first_of upto marks.now }
+{
+    match upto {
+        None => marks,
+        Some(count) => first_count(marks, count as usize),
+    }
+}
+
+// Writes the picture of the lines of a trace, with how the lanes stand as far as their source tells it.
+fn draw_lines<O: Stream, E: Stream>(
+    alloc: Global,
+    lines: &[TraceLine<'_>],
+    source: Source<'_>,
+    drawing: Drawing,
+    out: &mut O,
+    err: &mut E,
+) -> io::Result<u8>
+    ensures writes { IfOk result (Writes (DrawsLines drawing (origin_of source.entry) lines.now) (O.contents out.old) (O.contents out.new) (E.contents err.old) (E.contents err.new)) }
+    ensures early { IfErr result (EndsEarly false (O.has_failed out.new) (E.has_failed err.new)) }
+{
+    match marks_of(alloc, lines) {
+        Ok(marks) => {
+            let first = first_of(marks.as_slice(), drawing.upto);
+            draw_marks(alloc, first, source, drawing, out, err)
+        }
+        Err(error) => Err(error.into()),
+    }
+}
+
+// Writes the picture of the lines of a scenario's trace, behind what is told of the callbacks that they name.
+fn draw_over<O: Stream, E: Stream>(
+    alloc: Global,
+    lines: &[TraceLine<'_>],
+    scenario: &str,
+    view: &View<'_>,
+    out: &mut O,
+    err: &mut E,
+) -> io::Result<u8>
+    ensures writes { IfOk result (Writes (DrawsOver (map handler_of view.now.bank.now) view.now.drawing scenario.now lines.now) (O.contents out.old) (O.contents out.new) (E.contents err.old) (E.contents err.new)) }
+    ensures early { IfErr result (EndsEarly false (O.has_failed out.new) (E.has_failed err.new)) }
+{
+    let count = view.bank.len();
+    tell_missing(err, missing_callback(lines, count), count)?;
+    let source = Source::Scenario(view.bank, scenario);
+    draw_lines(alloc, lines, source, view.drawing, out, err)
+}
+
+// Writes the picture of a trace that was made of a scenario.
+fn draw_trace<O: Stream, E: Stream>(
+    alloc: Global,
+    trace: &[u8],
+    scenario: &str,
+    view: &View<'_>,
+    out: &mut O,
+    err: &mut E,
+) -> io::Result<u8>
+    ensures writes { IfOk result (Writes (DrawsMade (map handler_of view.now.bank.now) view.now.drawing scenario.now (texts.text_in trace.now)) (O.contents out.old) (O.contents out.new) (E.contents err.old) (E.contents err.new)) }
+    ensures early { IfErr result (EndsEarly false (O.has_failed out.new) (E.has_failed err.new)) }
+{
+    match read_lines(alloc, text_in(trace)) {
+        Ok(lines) => draw_over(alloc, lines.as_slice(), scenario, view, out, err),
+        Err(_) => Err(AllocError.into()),
+    }
+}
+
+// Plays a scenario, whose text is no trace, since this line is none of one, and writes the picture of its trace.
+fn draw_scenario<O: Stream, E: Stream>(
+    alloc: Global,
+    text: &str,
+    line: usize,
+    view: &View<'_>,
+    out: &mut O,
+    err: &mut E,
+) -> io::Result<u8>
+    requires few { length view.now.bank.now ≤ 64 }
+    ensures writes { IfOk result (Writes (DrawsPlayed (map handler_of view.now.bank.now) view.now.drawing text.now line (runs.trace_of (map handler_of view.now.bank.now) None text.now)) (O.contents out.old) (O.contents out.new) (E.contents err.old) (E.contents err.new)) }
+    ensures early { IfErr result (EndsEarly false (O.has_failed out.new) (E.has_failed err.new)) }
+{
+    let bytes = text.as_bytes();
+    match trace_plans(alloc, view.bank, bytes, None) {
+        Ok(trace) => draw_trace(alloc, trace.as_slice(), text, view, out, err),
+        Err(fault) => {
+            let kind = kind_of(alloc, bytes)?;
+            tell_neither(err, line, kind, fault)
+        }
+    }
+}
+
+// The same of what stands for a text.
+fn draw_given<O: Stream, E: Stream>(
+    alloc: Global,
+    text: &str,
+    line: usize,
+    view: &View<'_>,
+    out: &mut O,
+    err: &mut E,
+) -> io::Result<u8>
+    requires few { length view.now.bank.now ≤ 64 }
+    ensures writes { IfOk result (Writes (DrawsGiven (map handler_of view.now.bank.now) view.now.drawing text.now line) (O.contents out.old) (O.contents out.new) (E.contents err.old) (E.contents err.new)) }
+    ensures early { IfErr result (EndsEarly false (O.has_failed out.new) (E.has_failed err.new)) }
+{
+    let given = Vec::from_slice(alloc, text.as_bytes())?;
+    match plain_text(alloc, given) {
+        Ok(plain) => draw_scenario(alloc, text_in(plain.as_slice()), line, view, out, err),
+        Err(fault) => refused(tell_place(err, "lab", &fault)),
+    }
+}
+
+// Writes the picture of the lines that a text has, or of the text as a scenario.
+fn draw_whole<O: Stream, E: Stream>(
+    alloc: Global,
+    read: &str,
+    source: Source<'_>,
+    text: &str,
+    view: &View<'_>,
+    out: &mut O,
+    err: &mut E,
+) -> io::Result<u8>
+    requires few { length view.now.bank.now ≤ 64 }
+    ensures writes { IfOk result (Writes (DrawsWhole (map handler_of view.now.bank.now) view.now.drawing (origin_of source.entry) read.now text.now) (O.contents out.old) (O.contents out.new) (E.contents err.old) (E.contents err.new)) }
+    ensures early { IfErr result (EndsEarly false (O.has_failed out.new) (E.has_failed err.new)) }
+{
+    match read_lines(alloc, read) {
+        Ok(lines) => draw_lines(alloc, lines.as_slice(), source, view.drawing, out, err),
+        Err(Misread::Memory) => Err(AllocError.into()),
+        Err(Misread::Line(line)) => draw_given(alloc, text, line, view, out, err),
+    }
+}
+
+// Writes the picture of the lines of callers, which stand at the front of a text.
+fn draw_callers<O: Stream, E: Stream>(
+    alloc: Global,
+    front: &str,
+    text: &str,
+    view: &View<'_>,
+    out: &mut O,
+    err: &mut E,
+) -> io::Result<u8>
+    requires few { length view.now.bank.now ≤ 64 }
+    ensures writes { IfOk result (Writes (DrawsWhole (map handler_of view.now.bank.now) view.now.drawing draws.callers (front.now ++ line_feed) text.now) (O.contents out.old) (O.contents out.new) (E.contents err.old) (E.contents err.new)) }
+    ensures early { IfErr result (EndsEarly false (O.has_failed out.new) (E.has_failed err.new)) }
+{
+    match with_line_feed(alloc, front) {
+        Ok(told) => draw_whole(alloc, told.as_str(), Source::Callers, text, view, out, err),
+        Err(error) => Err(error.into()),
+    }
+}
+
+// Writes the picture of a trace, of a scenario, or of callers up to where their machine is closed.
+fn draw_text<O: Stream, E: Stream>(
+    alloc: Global,
+    text: &str,
+    view: &View<'_>,
+    out: &mut O,
+    err: &mut E,
+) -> io::Result<u8>
+    requires few { length view.now.bank.now ≤ 64 }
+    ensures writes { IfOk result (Writes (DrawsText (map handler_of view.now.bank.now) view.now.drawing text.now) (O.contents out.old) (O.contents out.new) (E.contents err.old) (E.contents err.new)) }
+    ensures early { IfErr result (EndsEarly false (O.has_failed out.new) (E.has_failed err.new)) }
+{
+    match text.split_once(CLOSING) {
+        Some((front, _)) => draw_callers(alloc, front, text, view, out, err),
+        None => draw_whole(alloc, text, Source::Trace, text, view, out, err),
+    }
+}
+
+// Writes the picture of a text.
+fn draw_bytes<O: Stream, E: Stream>(
+    alloc: Global,
+    bytes: &[u8],
+    view: &View<'_>,
+    out: &mut O,
+    err: &mut E,
+) -> io::Result<u8>
+    requires few { length view.now.bank.now ≤ 64 }
+    ensures writes { IfOk result (Writes (DrawsIf (map handler_of view.now.bank.now) (is_utf8 bytes.now) view.now.drawing bytes.now) (O.contents out.old) (O.contents out.new) (E.contents err.old) (E.contents err.new)) }
+    ensures early { IfErr result (EndsEarly false (O.has_failed out.new) (E.has_failed err.new)) }
+{
+    match std::str::from_utf8(bytes) {
+        Ok(text) => draw_text(alloc, text, view, out, err),
+        Err(_) => tell_undrawn(err, "the text is no UTF-8"),
+    }
+}
+
+// Draws what a file holds, or the input where none is named.
+fn draw_file<R: Files + AllocGlobal, I: Read, O: Stream, E: Stream>(
+    rt: &R,
+    view: &View<'_>,
+    file: Option<&str>,
+    input: &mut I,
+    out: &mut O,
+    err: &mut E,
+) -> io::Result<u8>
+    requires few { length view.now.bank.now ≤ 64 }
+    ensures writes { IfOk result (WritesOfText (DrawsRead (map handler_of view.now.bank.now) view.now.drawing (unwrap_or (option_map (λ name. name.now) file.entry) (codes "-"))) (option_map (λ name. name.now) file.entry) (I.remaining input.old) (O.contents out.old) (O.contents out.new) (E.contents err.old) (E.contents err.new)) }
+    ensures early { IfErr result (EndsEarly false (O.has_failed out.new) (E.has_failed err.new)) }
+{
+    let name = called(file);
+    match read_text(rt, file, input) {
+        Ok(given) => draw_bytes(rt.alloc(), given.as_slice(), view, out, err),
+        Err(why) => refused(tell_unread(err, name, why)),
+    }
+}
+
+/// Draws the trace that a file holds, or that of its scenario over a bank, or what is told of callers there, or of the
+/// input where none is named. The status is 2 where it holds none of these, or the bank is at fault.
+pub fn draw<R: Files + AllocGlobal, I: Read, O: Stream, E: Stream>(
+    rt: &R,
+    drawing: Drawing,
+    bank: Option<&str>,
+    file: Option<&str>,
+    input: &mut I,
+    out: &mut O,
+    err: &mut E,
+) -> io::Result<u8>
+    ensures writes { IfOk result (Draws drawing (option_map (λ name. name.now) bank.entry) (option_map (λ name. name.now) file.entry) (I.remaining input.old) (O.contents out.old) (O.contents out.new) (E.contents err.old) (E.contents err.new)) }
+    ensures early { IfErr result (EndsEarly false (O.has_failed out.new) (E.has_failed err.new)) }
+{
+    match read_plans(rt, bank, err) {
+        Ok(Some(plans)) => {
+            let view = View {
+                drawing,
+                bank: plans.as_slice(),
+            };
+            draw_file(rt, &view, file, input, out, err)
+        }
+        Ok(None) => Ok(AT_FAULT),
+        Err(error) => Err(error),
+    }
+}

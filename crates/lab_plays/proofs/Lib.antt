@@ -1,0 +1,5 @@
+pub mod CheckLemmas
+pub mod CompareLemmas
+pub mod ExpectLemmas
+pub mod FolderLemmas
+pub mod PlayLemmas

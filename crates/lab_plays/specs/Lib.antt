@@ -1,0 +1,4 @@
+pub mod Checks
+pub mod Expects
+pub mod Folders
+pub mod Plays

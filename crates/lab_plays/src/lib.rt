@@ -1,0 +1,13 @@
+//! What `lab play` and `lab check` tell of scenarios: traces, also beside those that were kept, faults, and whether steps are
+//! answered as a text expects.
+#![tactic(auto)]
+
+mod checks;
+mod compares;
+mod expects;
+mod folders;
+mod plays;
+mod records;
+
+pub use checks::check_files;
+pub use plays::play_files;

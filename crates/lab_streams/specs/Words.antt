@@ -1,0 +1,64 @@
+-- What the words behind `draw`, `play`, `live` and `orders` ask for, by what was found of them.
+use Rattle.std.specs.Prelude.{◌≡◌, ℕ, List, codes, Bool, true, false, if◌then◌else◌, Option, Some, None, option_and_then}
+use Rattle.std.specs.Option.{option_map_or}
+use Rattle.std.specs.Str.{bytes_eq}
+use Rattle.clap.specs.Words.{first_value, one_text}
+use Rattle.clap.specs.declared.parser.matches.Found.{Found}
+use Rattle.evl_shell.specs.Arguments.{number_of}
+use Rattle.lab_streams.specs.declared.words.Form.{Form}
+use Rattle.lab_streams.specs.declared.words.Form.TheVariants.{Svg, Html, Events, Table, Rows}
+use Rattle.lab_streams.specs.declared.words.Shown.{Shown}
+use Rattle.lab_streams.specs.declared.words.Shown.TheVariants as shown
+use Rattle.lab_streams.specs.declared.words.Way.{Way}
+use Rattle.lab_streams.specs.declared.words.Way.TheVariants.{Down, Across, Fitting}
+use Rattle.lab_streams.specs.declared.words.Telling.{Telling}
+use Rattle.lab_streams.specs.declared.words.Telling.TheVariants.{Trace, Json, Against, Record}
+
+-- a word that takes no value stands there
+abbrev pub is_set : Found → List ℕ → Bool
+is_set found id = option_map_or (λ text. bytes_eq text (codes "true")) (one_text found id) false
+
+-- the number behind a word
+abbrev pub number_at : Found → List ℕ → Option ℕ
+number_at found id = option_and_then number_of (one_text found id)
+
+-- what is printed of all orders, by the first of these words that stands there
+abbrev pub state_of : Option ℕ → Shown
+state_of None = shown.Report
+state_of (Some number) = shown.State number
+
+abbrev pub outcome_of : Option ℕ → Shown → Shown
+outcome_of None other = other
+outcome_of (Some number) other = shown.Outcome number
+
+abbrev pub shown_of : Found → Shown
+shown_of found =
+    if is_set found (codes "json") then shown.Json
+    else outcome_of (number_at found (codes "outcome")) (state_of (number_at found (codes "state")))
+
+-- the form of a picture, by the first of these words that stands there
+abbrev pub form_of : Found → Form
+form_of found =
+    if is_set found (codes "perfetto") then Events
+    else if is_set found (codes "csv") then Table
+    else if is_set found (codes "lanes") then Rows
+    else if is_set found (codes "html") then Html
+    else Svg
+
+-- the way that a picture goes, by the word that stands there
+abbrev pub way_of : Found → Way
+way_of found =
+    if is_set found (codes "down") then Down
+    else if is_set found (codes "across") then Across
+    else Fitting
+
+-- this is asked for of scenarios that are played
+abbrev pub AsksFor : Found → Telling → Type 0
+AsksFor found Json = is_set found (codes "json") ≡ true
+AsksFor found (Against c) =
+    (is_set found (codes "json") ≡ false) × (first_value found (codes "against") ≡ Some c.folder.now) × (c.all ≡ is_set found (codes "all"))
+AsksFor found (Record r) =
+    (is_set found (codes "json") ≡ false) × (first_value found (codes "against") ≡ None)
+    × (first_value found (codes "record") ≡ Some r.folder.now) × (r.force ≡ is_set found (codes "force"))
+AsksFor found Trace =
+    (is_set found (codes "json") ≡ false) × (first_value found (codes "against") ≡ None) × (first_value found (codes "record") ≡ None)

@@ -1,0 +1,275 @@
+//! What the words behind `draw`, `play`, `live` and `orders` ask for.
+ghost use Rattle.std.specs.Prelude.{◌≡◌, codes, option_map, unwrap_or};
+ghost use Rattle.clap.specs.Words.{first_value, found_of};
+ghost use Rattle.lab_streams.specs.Words as words;
+ghost use Rattle.lab_streams.specs.Words.{AsksFor};
+
+use clap::ArgMatches;
+
+/// The form of a picture.
+#[derive(Clone, Copy, PartialEq, Eq, Debug)]
+pub enum Form {
+    Svg,
+    Html,
+    Events,
+    Table,
+    Rows,
+}
+
+/// Which way a picture as SVG goes.
+#[derive(Clone, Copy, PartialEq, Eq, Debug)]
+pub enum Way {
+    Down,
+    Across,
+    /// Down, if it is short.
+    Fitting,
+}
+
+/// What `draw` asks for.
+#[derive(Clone, Copy, PartialEq, Eq, Debug)]
+pub struct Drawing {
+    pub form: Form,
+    pub way: Way,
+    /// How many lines are drawn at most; all where no number stands there.
+    pub upto: Option<u32>,
+    /// The page of a picture that is long, from 1.
+    pub page: u32,
+}
+
+/// The traces that others are compared with.
+#[derive(Clone, Copy, PartialEq, Eq, Debug)]
+pub struct Comparing<'a> {
+    /// Their folder.
+    pub folder: &'a str,
+    /// Whether each difference is told; else the first.
+    pub all: bool,
+}
+
+/// Where traces are kept.
+#[derive(Clone, Copy, PartialEq, Eq, Debug)]
+pub struct Recording<'a> {
+    /// Their folder.
+    pub folder: &'a str,
+    /// Whether they replace those that differ.
+    pub force: bool,
+}
+
+/// What is told of a scenario that was played.
+#[derive(Clone, Copy, PartialEq, Eq, Debug)]
+pub enum Telling<'a> {
+    /// Its trace.
+    Trace,
+    /// A line of JSON for each entry.
+    Json,
+    /// Where it differs from a trace that was kept.
+    Against(Comparing<'a>),
+    /// Nothing: its trace is kept.
+    Record(Recording<'a>),
+}
+
+/// What `play` asks for.
+#[derive(Clone, Copy, PartialEq, Eq, Debug)]
+pub struct Playing<'a> {
+    /// The file of the bank; the program's where none is named.
+    pub bank: Option<&'a str>,
+    /// The limit in place of each scenario's: 1 to 1,000,000.
+    pub limit: Option<u32>,
+    pub telling: Telling<'a>,
+}
+
+/// What `live` asks for.
+#[derive(Clone, Copy, PartialEq, Eq, Debug)]
+pub struct Driving<'a> {
+    /// The scenario that comes first.
+    pub file: Option<&'a str>,
+    /// The file of the bank; the program's where none is named.
+    pub bank: Option<&'a str>,
+    /// The limit in place of the scenario's: 1 to 1,000,000.
+    pub limit: Option<u32>,
+}
+
+/// What `convert` asks for: lines, or a scenario; the form that the text hasn't where neither is named.
+#[derive(Clone, Copy, PartialEq, Eq, Debug)]
+pub struct Converting {
+    pub lines: bool,
+    pub toml: bool,
+}
+
+// Whether a word that takes no value stands there.
+fn is_set(matches: &ArgMatches<'_>, id: &str) -> bool
+    ensures { result ≡ words.is_set (found_of matches.now) id.now }
+{
+    matches.get_one(id).unwrap_or(false)
+}
+
+// The number behind a word.
+fn number_at(matches: &ArgMatches<'_>, id: &str) -> Option<u32>
+    ensures { result ≡ words.number_at (found_of matches.now) id.now }
+{
+    matches.get_one(id)
+}
+
+// The form that is asked for.
+fn form_of(matches: &ArgMatches<'_>) -> Form
+    ensures { result ≡ words.form_of (found_of matches.now) }
+{
+    if is_set(matches, "perfetto") {
+        Form::Events
+    } else if is_set(matches, "csv") {
+        Form::Table
+    } else if is_set(matches, "lanes") {
+        Form::Rows
+    } else if is_set(matches, "html") {
+        Form::Html
+    } else {
+        Form::Svg
+    }
+}
+
+// The way that is asked for.
+fn way_of(matches: &ArgMatches<'_>) -> Way
+    ensures { result ≡ words.way_of (found_of matches.now) }
+{
+    if is_set(matches, "down") {
+        Way::Down
+    } else if is_set(matches, "across") {
+        Way::Across
+    } else {
+        Way::Fitting
+    }
+}
+
+/// What is printed of all orders.
+#[derive(Clone, Copy, PartialEq, Eq, Debug)]
+pub enum Shown {
+    /// The report.
+    Report,
+    /// The same as JSON.
+    Json,
+    /// The scenario of the outcome with this number alone, from 1.
+    Outcome(u32),
+    /// That of the first order to a moment as the question with this number looks for, from 1.
+    State(u32),
+}
+
+/// What `orders` is asked for: the file of a bank, how many moments one number of steps may lead to, what is printed, and
+/// the text.
+#[derive(Clone, Copy, Drop)]
+pub struct Asked<'a> {
+    pub bank: Option<&'a str>,
+    pub most: usize,
+    pub shown: Shown,
+    pub file: Option<&'a str>,
+}
+
+impl<'a> Asked<'a> {
+    /// How the text is called in messages.
+    pub fn name(&self) -> &'a str
+        ensures { result.now ≡ unwrap_or (option_map (λ file. file.now) self.now.file) (codes "-") }
+    {
+        self.file.unwrap_or("-")
+    }
+}
+
+/// What `draw` is asked for.
+pub fn drawing_of(matches: &ArgMatches<'_>) -> Drawing
+    ensures form { result.form ≡ words.form_of (found_of matches.now) }
+    ensures way { result.way ≡ words.way_of (found_of matches.now) }
+    ensures upto { result.upto ≡ words.number_at (found_of matches.now) (codes "upto") }
+    ensures page { result.page ≡ unwrap_or (words.number_at (found_of matches.now) (codes "page")) 1 }
+{
+    Drawing {
+        form: form_of(matches),
+        way: way_of(matches),
+        upto: number_at(matches, "upto"),
+        page: number_at(matches, "page").unwrap_or(1),
+    }
+}
+
+// What is to be told of the scenarios that are played.
+fn telling_of<'a>(matches: &ArgMatches<'a>) -> Telling<'a>
+    ensures { AsksFor (found_of matches.now) result }
+{
+    if is_set(matches, "json") {
+        return Telling::Json;
+    }
+    if let Some(folder) = matches.get_str("against") {
+        let all = is_set(matches, "all");
+        return Telling::Against(Comparing { folder, all });
+    }
+    match matches.get_str("record") {
+        Some(folder) => {
+            let force = is_set(matches, "force");
+            Telling::Record(Recording { folder, force })
+        }
+        None => Telling::Trace,
+    }
+}
+
+/// What `play` is asked for.
+pub fn playing_of<'a>(matches: &ArgMatches<'a>) -> Playing<'a>
+    ensures bank { option_map (λ file. file.now) result.bank ≡ first_value (found_of matches.now) (codes "bank") }
+    ensures limit { result.limit ≡ words.number_at (found_of matches.now) (codes "limit") }
+    ensures telling { AsksFor (found_of matches.now) result.telling }
+{
+    Playing {
+        bank: matches.get_str("bank"),
+        limit: number_at(matches, "limit"),
+        telling: telling_of(matches),
+    }
+}
+
+/// What `live` is asked for.
+pub fn driving_of<'a>(matches: &ArgMatches<'a>) -> Driving<'a>
+    ensures file { option_map (λ file. file.now) result.file ≡ first_value (found_of matches.now) (codes "FILE") }
+    ensures bank { option_map (λ file. file.now) result.bank ≡ first_value (found_of matches.now) (codes "bank") }
+    ensures limit { result.limit ≡ words.number_at (found_of matches.now) (codes "limit") }
+{
+    Driving {
+        file: matches.get_str("FILE"),
+        bank: matches.get_str("bank"),
+        limit: number_at(matches, "limit"),
+    }
+}
+
+// What is printed of all orders.
+fn shown_of(matches: &ArgMatches<'_>) -> Shown
+    ensures { result ≡ words.shown_of (found_of matches.now) }
+{
+    if is_set(matches, "json") {
+        return Shown::Json;
+    }
+    if let Some(number) = number_at(matches, "outcome") {
+        return Shown::Outcome(number);
+    }
+    match number_at(matches, "state") {
+        Some(number) => Shown::State(number),
+        None => Shown::Report,
+    }
+}
+
+/// What `orders` is asked for.
+pub fn asked_of<'a>(matches: &ArgMatches<'a>) -> Asked<'a>
+    ensures bank { option_map (λ file. file.now) result.bank ≡ first_value (found_of matches.now) (codes "bank") }
+    ensures most { result.most ≡ unwrap_or (words.number_at (found_of matches.now) (codes "most")) 100000 }
+    ensures shown { result.shown ≡ words.shown_of (found_of matches.now) }
+    ensures file { option_map (λ file. file.now) result.file ≡ first_value (found_of matches.now) (codes "FILE") }
+{
+    Asked {
+        bank: matches.get_str("bank"),
+        most: number_at(matches, "most").unwrap_or(100_000) as usize,
+        shown: shown_of(matches),
+        file: matches.get_str("FILE"),
+    }
+}
+
+/// What `convert` is asked for.
+pub fn converting_of(matches: &ArgMatches<'_>) -> Converting
+    ensures lines { result.lines ≡ words.is_set (found_of matches.now) (codes "lines") }
+    ensures toml { result.toml ≡ words.is_set (found_of matches.now) (codes "toml") }
+{
+    Converting {
+        lines: is_set(matches, "lines"),
+        toml: is_set(matches, "toml"),
+    }
+}
