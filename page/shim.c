@@ -174,6 +174,15 @@ int open(const u8 *path, int flags, ...) {
     return answer(page_open(path, length_of(path), flags));
 }
 
+// No folder is made (30 is EROFS), and nothing is told of a path but by open (2 is ENOENT).
+int mkdir(const u8 *path, unsigned mode) {
+    return answer(-30);
+}
+
+int statx(int folder, const u8 *path, int flags, unsigned mask, void *to) {
+    return answer(-2);
+}
+
 int close(int file) {
     return answer(page_close(file));
 }

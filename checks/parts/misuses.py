@@ -1,6 +1,7 @@
 """Misuses of the module evlsim: each raises an error that says what was given and what is wanted, and none changes the
 kernel. Run by checks/embed."""
 import copy
+import os
 import pathlib
 import pickle
 import sys
@@ -217,6 +218,18 @@ def try_closed():
     assert "closed" in repr(kernel)
 
 
+def try_fork():
+    """After a fork parent and child have a kernel each, in the same state."""
+    kernel = board()
+    kernel.put(0, sem=0)
+    child = os.fork()
+    if child == 0:
+        kernel.put(0, sem=0)
+        os._exit(0 if kernel.see_count(0) == 2 else 1)
+    assert os.waitpid(child, 0)[1] == 0 and kernel.see_count(0) == 1
+    assert kernel.trace().endswith("1 T0 put sem=0 -> done\n")
+
+
 def try_threads(puts=50000):
     """Three threads on one kernel: no put is lost, and no answer is another thread's."""
     sys.setswitchinterval(1e-5)
@@ -239,5 +252,6 @@ def try_threads(puts=50000):
 tried = try_list("call", CALLS) + try_list("board", BOARDS) + try_list("play", PLAYS) + try_list("lab", LABS)
 try_right_ones()
 try_closed()
+try_fork()
 try_threads()
 print(f"{tried} misuses raised what they should")

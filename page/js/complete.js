@@ -14,7 +14,7 @@ const BANK_HEADS = ['[[callback]]'];
 const VALUES = { mutexes: ['"normal"', '"recursive"', '"ceiling 50"'], always_ends: ['true'], ends_waits: ['true'],
   as_picked: ['true'], propagate: ['true'] };
 const ORDERS_HEADS = ['[ask]', '[[setup]]', '[[step]]', '[board]'];
-const ASK = ['always_ends', 'ends_waits', 'never', 'as_picked'], CALLBACK = ['accepts', 'do'];
+const ASK = ['always_ends', 'ends_waits', 'never', 'as_picked', 'never_state', 'sometimes', 'always', 'outcomes'], CALLBACK = ['accepts', 'do'];
 const ACTIONS = ['every', 'post_sem', 'post_flags', 'bits', 'post_oob', 'propagate', 'stop_timer'];
 
 /** What one step's table or line has: its word, and which keys. @param {string} text */

@@ -32,6 +32,7 @@ export function verdict_of(it) {
   const doubt = it.asks ? doubts(it)[0] : '';
   if (it.status === -2) return ['unknown', `Not answered: ${why}. Fewer callers or fewer steps have fewer orders.`];
   if (it.against.length) return ['bad', `No: outcome ${it.against.join(', ')} contradicts what is asked.`];
+  if (it.status === 1) return ['bad', `No: ${why}.`];
   if (it.cut) return ['unknown', `Not answered: cut off; nothing is known about longer orders (${it.orders} ended).`];
   if (it.status) return ['bad', `The orders were not explored: ${why}`];
   if (!it.asks) return ['none', `Nothing is asked. There are ${it.orders} orders.`];
