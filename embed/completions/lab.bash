@@ -6,16 +6,16 @@ _lab() {
         return
     fi
     case ${COMP_WORDS[COMP_CWORD - 1]} in
-        --limit | --most | --outcome | --upto | --page) return ;;
-        --against) mapfile -t COMPREPLY < <(compgen -d -- "$word"); return ;;
+        --limit | --most | --outcome | --state | --upto | --page) return ;;
+        --against | --record) mapfile -t COMPREPLY < <(compgen -d -- "$word"); return ;;
     esac
     case $part in
         check) words="--bank --help" ;;
-        play) words="--bank --limit --json --against --help" ;;
+        play) words="--bank --limit --json --against --all --record --force --help" ;;
         convert) words="--lines --toml --help" files='*.@(toml|trace|txt)' ;;
         live) words="--bank --limit --prompt --help" ;;
         callers) words="--bank --limit --help" ;;
-        orders) words="--bank --most --outcome --help" ;;
+        orders) words="--bank --most --outcome --state --json --help" ;;
         help) mapfile -t COMPREPLY < <(compgen -W "$("${COMP_WORDS[0]}" help 2>/dev/null | cut -d' ' -f2)" -- "$word"); return ;;
         draw) words="--bank --svg --html --perfetto --csv --lanes --down --across --upto --page --help" files='*.@(toml|trace)' ;;
         *) words=--help ;;
