@@ -15,6 +15,7 @@ pub mod LastLaws
 pub mod GroupLaws
 pub mod MemberLaws
 pub mod BeforeLaws
+pub mod TurnLaws
 pub mod OrderLaws
 pub mod FirstLaws
 pub mod StampedLaws

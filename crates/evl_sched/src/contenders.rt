@@ -1,5 +1,5 @@
 //! The places of the threads that may run.
-ghost use Rattle.std.specs.Prelude.{◌≡◌, ◌<◌, true, length, None, Some, IfOk, replicate, slice_set};
+ghost use Rattle.std.specs.Prelude.{◌≡◌, ◌<◌, true, false, length, None, Some, IfOk, replicate, slice_set};
 ghost use Rattle.evl_sched.specs.Apart.{IsApart, is_alone, with_alone};
 ghost use Rattle.evl_sched.specs.Places.{place_of};
 ghost use Rattle.evl_sched.specs.Queues.{IsFirstPlace};
@@ -87,7 +87,22 @@ impl<A: Allocator> Contenders<A> {
         if has_nobody(self.alone, &self.queues) {
             self.alone = Some(Alone { thread, place });
         } else {
+            join(&mut self.alone, &mut self.queues);
             self.queues.put(thread, place);
+        }
+    }
+
+    /// A thread that stands first in the queue of this rank, with others, goes to this place behind the last one, and the
+    /// answer is true; or nothing changes.
+    #[inline(always)]
+    pub fn turn(&mut self, thread: u16, place: Place) -> bool
+        requires there { thread < length self.old }
+        ensures turned { result ≡ true → self.new ≡ slice_set self.old thread (Some place) }
+        ensures kept { result ≡ false → self.new ≡ self.old }
+    {
+        match self.alone {
+            Some(Alone { .. }) => false,
+            None => self.queues.turn(thread, place),
         }
     }
 
@@ -102,6 +117,28 @@ impl<A: Allocator> Contenders<A> {
             self.queues.take(thread);
         }
     }
+}
+
+// Who stands alone joins the queues.
+#[inline(always)]
+fn join<A: Allocator>(alone: &mut Option<Alone>, queues: &mut Queues<A>)
+    requires { IsApart queues.old alone.old }
+    ensures none { alone.new ≡ None }
+    ensures joined { queues.new ≡ with_alone queues.old alone.old }
+{
+    let Some(other) = alone.take() else {
+        return;
+    };
+    queue_up(queues, other);
+}
+
+// Who stood alone goes to the queue of its rank.
+#[inline(never)]
+fn queue_up<A: Allocator>(queues: &mut Queues<A>, other: Alone)
+    requires { IsApart queues.old (Some other) }
+    ensures joined { queues.new ≡ with_alone queues.old (Some other) }
+{
+    queues.put(other.thread, other.place);
 }
 
 // Whether nobody stands alone or in a queue.

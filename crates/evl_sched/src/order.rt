@@ -1,5 +1,5 @@
 //! The order of the ready threads.
-ghost use Rattle.std.specs.Prelude.{◌≡◌, ◌+◌, ◌<◌, ◌≤◌, true, ◌++◌, ◌∷◌, [], ◌==◌, ℕ, length, Option, None, Some, IfOk, OnOk, MatchOption, replicate, is_some, filter, slice_index_or, slice_set, if◌then◌else◌};
+ghost use Rattle.std.specs.Prelude.{◌≡◌, ◌+◌, ◌<◌, ◌≤◌, true, false, ◌++◌, ◌∷◌, [], ◌==◌, ℕ, length, Option, None, Some, IfOk, OnOk, MatchOption, replicate, is_some, filter, slice_index_or, slice_set, if◌then◌else◌};
 ghost use Rattle.std.specs.List.{list_any};
 ghost use Rattle.evl_sched.specs.Orders.{ArePlaced, AreStamped, IsLeastFrom, IsStamped, has_rank, in_order, is_lesser, place_by, rank_or, stamp_of};
 ghost use Rattle.evl_sched.specs.Picks.{first_greatest};
@@ -56,9 +56,10 @@ impl<A: Allocator> Order<A> {
         self.queues.first()
     }
 
-    /// Whether a thread is ready.
+    /// Whether a thread is ready. One that isn't stands in no queue.
     pub fn is_ready(&self, thread: u16) -> bool
         ensures ready { result ≡ list_any (λ t. t == thread) self.now.ready }
+        ensures stands { result ≡ false → rank_in self.now.places thread ≡ None }
     {
         stamp_in(&self.stamps, thread).is_some()
     }
@@ -256,10 +257,22 @@ fn come_to<A: Allocator>(queues: &mut Contenders<A>, thread: u16, stamp: u64, ra
     requires { thread < length queues.old }
     ensures stood { queues.new ≡ slice_set queues.old thread (place_by (Some stamp) rank) }
 {
-    queues.take(thread);
-    if let Some(rank) = rank {
-        queues.put(thread, Place { rank, stamp });
+    match rank {
+        Some(rank) => come_behind(queues, thread, Place { rank, stamp }),
+        None => queues.take(thread),
     }
+}
+
+// A thread comes to this place: from the front of its queue in one go, and else it leaves its place first.
+fn come_behind<A: Allocator>(queues: &mut Contenders<A>, thread: u16, place: Place)
+    requires { thread < length queues.old }
+    ensures stood { queues.new ≡ slice_set queues.old thread (Some place) }
+{
+    if queues.turn(thread, place) {
+        return;
+    }
+    queues.take(thread);
+    queues.put(thread, place);
 }
 
 // A thread leaves its place and gets this one, if there is one.

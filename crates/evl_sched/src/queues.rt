@@ -1,5 +1,5 @@
 //! The queues, one for each rank.
-ghost use Rattle.std.specs.Prelude.{◌≡◌, ◌<◌, ◌==◌, ◌&&◌, ℕ, true, false, length, None, Some, IfOk, is_some, replicate, slice_set};
+ghost use Rattle.std.specs.Prelude.{◌≡◌, ◌≢◌, ◌<◌, ◌==◌, ◌&&◌, ℕ, true, false, length, None, Some, IfOk, is_some, replicate, slice_set};
 ghost use Rattle.evl_sched.specs.Places.{place_of};
 ghost use Rattle.evl_bitmap.specs.NumberSet.{contains};
 ghost use Rattle.evl_sched.specs.Queues.{IsFirstPlace, IsQueued, cell_of, is_before, next_in, queue_of, reached_place, stands_in};
@@ -120,6 +120,27 @@ impl<A: Allocator> Queues<A> {
         if let Some(place) = place_at(&self.places, thread) {
             self.take_out(thread, place);
         }
+    }
+
+    /// A thread that stands first in the queue of this rank, with others, goes to this place behind the last one, and the
+    /// answer is true; or nothing changes.
+    #[inline(always)]
+    pub fn turn(&mut self, thread: u16, place: Place) -> bool
+        requires there { thread < length self.old }
+        ensures turned { result ≡ true → self.new ≡ slice_set self.old thread (Some place) }
+        ensures kept { result ≡ false → self.new ≡ self.old }
+    {
+        let queue = queue_of(place.rank);
+        let last = self.guesses.last(queue);
+        if !can_turn(&self.links, &self.places, queue, thread, last, place) {
+            return false;
+        }
+        link_out(&mut self.links, queue as usize, thread);
+        link_in(&mut self.links, cell_of(last), thread);
+        self.guesses.note(queue, Some(last), Some(thread));
+        self.guesses.note(queue, Some(thread), None);
+        self.places[thread as usize] = Some(place);
+        true
     }
 
     // A thread that has a place has none any more.
@@ -296,6 +317,27 @@ fn is_behind<A: Allocator>(
         return false;
     }
     link_at(links, cell_of(last)).is_none()
+}
+
+// Whether a thread stands first in a queue, another one last, and a place comes behind that one.
+fn can_turn<A: Allocator>(
+    links: &Vec<Option<u16>, A>,
+    places: &Vec<Option<Place>, A>,
+    queue: u16,
+    thread: u16,
+    last: u16,
+    place: Place,
+) -> bool
+    ensures first { result ≡ true → (next_in links.now.items queue ≡ Some thread) × (last ≢ thread) }
+    ensures last { result ≡ true → (stands_in places.now.items queue last ≡ true) × (next_in links.now.items (cell_of last) ≡ None) × (is_before places.now.items place last ≡ false) }
+{
+    if !is_linked(first_in(links, queue), thread) {
+        return false;
+    }
+    if last == thread {
+        return false;
+    }
+    is_behind(links, places, queue, last, place)
 }
 
 // The cell behind which a place is.

@@ -66,6 +66,9 @@ pub fn stand<A: Allocator>(
     ensures ranks { (t : ℕ) → rank_in order.new.places t ≡ (if t == thread then wanted_rank (record { sched = record { seats = seats.now.items; ready = order.old.ready; groups = groups.now.items }; given = given.now.items }) thread else rank_in order.old.places t) }
     ensures many { length order.new.places ≡ length order.old.places }
 {
+    if !order.is_ready(thread) {
+        return;
+    }
     order.stand(thread, search::rank_to_run(seats, groups, given, thread));
 }
 
