@@ -135,6 +135,14 @@ impl<C, A: Allocator> ClockOf<C, A> {
         Some(item_at(next.place))
     }
 
+    /// Whether something is due.
+    #[inline(always)]
+    pub fn is_due(&self) -> bool
+        ensures due { result ≡ is_due self.now }
+    {
+        self.due_item().is_some()
+    }
+
     /// Moves the date by so many nanoseconds, and says whether something is due then. `Range` exactly where the date
     /// would be past 2^64 - 1. A refused call changes nothing. (Xenomai 4: EVL clocks)
     pub fn advance(&mut self, delta: u64) -> Result<bool, Refusal>

@@ -106,6 +106,22 @@ impl<C: Handler, A: Allocator> Records<C, A> {
         }
     }
 
+    // The same, which enters no function where nothing is due.
+    #[inline(always)]
+    fn play_due(&mut self, lists: &mut ServedLists) -> Option<Play>
+        requires by_plan { AnswersByPlan C.declared C.plan (whereabouts self.old) }
+        ensures played { IfSome result (λ play. due_played (state_of self.old) ≡ Some (play, state_of self.new)) }
+        ensures nearer { IfSome result (λ play. waiting (state_of self.new) < waiting (state_of self.old)) }
+        ensures called { IfSome result (λ play. Called C.gives (whereabouts self.old) (state_of self.old) play) }
+        ensures ended { IfNone result ((next_due (state_of self.old).clock ≡ None) × (self.new ≡ self.old)) }
+        ensures stands { KeepsCallbacks self.old self.new }
+    {
+        if !self.clock.is_due() {
+            return None;
+        }
+        self.play_item(lists)
+    }
+
     // Plays the line that is next after so many in-band plays of this call, if a line is playable; an eligible thread
     // holds in-band lines back.
     fn play_line(&mut self, inband: u8, lists: &mut ServedLists) -> Option<Play>
@@ -151,7 +167,7 @@ impl<C: Handler, A: Allocator> Records<C, A> {
         ensures stands { KeepsCallbacks self.old self.new }
     {
         if of_clock {
-            if let Some(play) = self.play_item(lists) {
+            if let Some(play) = self.play_due(lists) {
                 return Some(play);
             }
         }

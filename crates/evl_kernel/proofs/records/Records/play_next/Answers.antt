@@ -7,7 +7,7 @@ use Rattle.evl_kernel.proofs.records.Records.play_next.Goals as goal
 use Rattle.evl_kernel.proofs.records.Records.play_next.Goals.{then-of_clock+in_default, else-of_clock}
 
 pub returns-in-Some-clause-played : goal.returns-in-Some-clause-played
-returns-in-Some-clause-played g c = rw c.if-of_clock.true (item_goes c.args.self.now c.play_item.new.self c.args.inband c.in-Some.play c.in-Some.ensures.played)
+returns-in-Some-clause-played g c = rw c.if-of_clock.true (item_goes c.args.self.now c.play_due.new.self c.args.inband c.in-Some.play c.in-Some.ensures.played)
 
 pub play_line-requires-clause-by_plan : goal.play_line-requires-clause-by_plan
 play_line-requires-clause-by_plan g c = elim c.if-of_clock.branch [
