@@ -5,6 +5,7 @@ pub mod Numbers
 pub mod Rows
 pub mod Sizes
 pub mod StepLemmas
+pub mod CommonLaws
 pub mod Texts
 pub mod PlainTexts
 pub mod TextsRead

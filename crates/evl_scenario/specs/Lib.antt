@@ -12,3 +12,4 @@ pub mod Writings
 pub mod Traces
 pub mod Widths
 pub mod Fields
+pub mod Common

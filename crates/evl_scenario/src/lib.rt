@@ -5,6 +5,7 @@
 
 mod boards;
 mod calls;
+mod common;
 mod faults;
 mod fields;
 mod lines;

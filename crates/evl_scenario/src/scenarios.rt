@@ -1,5 +1,5 @@
 //! Scenarios, read from text.
-ghost use Rattle.std.specs.Prelude.{◌≡◌, ◌⊎◌, ◌+◌, ◌-◌, ◌^◌, min, Some, None, Ok, Err, if◌then◌else◌, option_map, codes, IfOk, IfErr};
+ghost use Rattle.std.specs.Prelude.{◌≡◌, ◌⊎◌, ◌+◌, ◌-◌, ◌^◌, min, Some, None, Ok, Err, if◌then◌else◌, option_map, codes, IfOk, IfErr, IfSome};
 ghost use Rattle.std.specs.Str.{is_utf8};
 ghost use Rattle.toml.specs.Data.{get_member};
 ghost use Rattle.toml.specs.Parse.{parse_document};
@@ -7,6 +7,7 @@ ghost use Rattle.toml.specs.View.{view, table_view, items_view};
 ghost use Rattle.evl_scenario.specs.Scenarios.{opening_of, are_tables, step_tables, steps_of, script_of, document_script, scenario_of};
 
 use crate::boards::{read_board, read_limit};
+use crate::common::{read_head, read_step_tables};
 use crate::faults::Fault;
 use crate::steps::{Step, read_step};
 use crate::tables::{field, has_only_keys};
@@ -148,11 +149,28 @@ fn text_of(bytes: &[u8]) -> Option<&str>
     }
 }
 
+// What a text of the common shape asks to be played; none where it has another shape or can't be read.
+fn read_common(alloc: Global, text: &str, given: Option<u32>) -> Option<Scenario>
+    ensures { IfSome result (λ scenario. document_script given (parse_document text.now) ≡ Ok scenario) }
+{
+    let (table, rest) = read_head(alloc, text)?;
+    let (board, limit) = read_opening(&table, given)?;
+    let steps = read_step_tables(alloc, rest)?;
+    Some(Scenario {
+        board,
+        limit,
+        steps,
+    })
+}
+
 // What a text asks to be played, whatever its length.
 fn read_text(alloc: Global, text: &str, given: Option<u32>) -> Result<Scenario, Fault>
     ensures ok { IfOk result (λ scenario. document_script given (parse_document text.now) ≡ Ok scenario) }
     ensures err { IfErr result (λ e. (e ≡ Fault.Memory) ⊎ (document_script given (parse_document text.now) ≡ Err e)) }
 {
+    if let Some(scenario) = read_common(alloc, text, given) {
+        return Ok(scenario);
+    }
     match toml::table_from_str(alloc, text) {
         Ok(table) => read_document(alloc, &table, given),
         Err(e) => {

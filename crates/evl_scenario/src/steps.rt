@@ -1,7 +1,7 @@
 //! The steps of a scenario.
 ghost use Rattle.std.specs.Prelude.{◌≡◌, ◌≤◌, map, option_map};
-ghost use Rattle.toml.specs.View.{view};
-ghost use Rattle.evl_scenario.specs.Steps.{word_of, keys_of, step_of};
+ghost use Rattle.toml.specs.View.{table_view, view};
+ghost use Rattle.evl_scenario.specs.Steps.{word_of, keys_of, step_in, step_of};
 
 use crate::calls::{line_call, line_word, step_keys};
 use crate::tables::{at, at_text, has_only_keys};
@@ -26,13 +26,12 @@ pub fn step_keys_of(word: &str) -> Option<&'static [&'static str]>
     }
 }
 
-/// The step that a TOML value stands for: a table with a word, a thread, and just the keys of the word. The bytes of
-/// its call, if it carries any, lie in a box of `spares`.
-pub fn read_step(value: &Value, spares: &mut Spares<Global>) -> Option<Step>
+/// The step that a table stands for: one with a word, a thread, and just the keys of the word. The bytes of its call, if
+/// it carries any, lie in a box of `spares`.
+pub fn read_step_table(table: &Table, spares: &mut Spares<Global>) -> Option<Step>
     requires there { 1 ≤ spares.old }
-    ensures { result ≡ step_of (view value.now) }
+    ensures { result ≡ step_in (table_view table.now) }
 {
-    let table = value.as_table()?;
     let text = at_text(table, "do")?;
     let word = line_word(text)?;
     if !has_only_keys(table, step_keys(word)) {
@@ -41,4 +40,12 @@ pub fn read_step(value: &Value, spares: &mut Spares<Global>) -> Option<Step>
     let who = at(table, "who")?;
     let call = line_call(text, table, spares)?;
     Some(Step { who, call })
+}
+
+/// The step that a TOML value stands for, which is a table.
+pub fn read_step(value: &Value, spares: &mut Spares<Global>) -> Option<Step>
+    requires there { 1 ≤ spares.old }
+    ensures { result ≡ step_of (view value.now) }
+{
+    read_step_table(value.as_table()?, spares)
 }
