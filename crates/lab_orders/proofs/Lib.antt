@@ -3,6 +3,7 @@ pub mod Leads
 pub mod Weighing
 pub mod Fronts
 pub mod Noticing
+pub mod JudgeLaws
 pub mod Going
 pub mod EveryRun
 pub mod Once
@@ -10,3 +11,4 @@ pub mod Ends
 pub mod Merges
 pub mod Tallying
 pub mod TooMany
+pub mod Indexing

@@ -14,10 +14,10 @@ use Rattle.lab_orders.specs.declared.nodes.Node.{Node}
 use Rattle.lab_orders.proofs.EveryRun.{below_or_at}
 
 -- 1 where it holds
-abbrev one_if : Bool → ℕ
+abbrev pub one_if : Bool → ℕ
 one_if b = cond b 1 0
 
-abbrev one_where : {S : Type 0} → (S → Bool) → S → ℕ
+abbrev pub one_where : {S : Type 0} → (S → Bool) → S → ℕ
 one_where holds s = one_if (holds s)
 
 none_of : (b : Bool) → one_if b ≡ 0 → b ≡ false
@@ -28,7 +28,7 @@ none_here : (k : ℕ) (b : Bool) → b ≡ false → k * one_if b ≡ 0
 none_here k true e = cc
 none_here k false e = omega arith
 
-no_weight : {M S : Type 0} (state : M → S) (holds : S → Bool) (nodes : List (Node M)) → All (λ node. holds (state node.at) ≡ false) nodes
+pub no_weight : {M S : Type 0} (state : M → S) (holds : S → Bool) (nodes : List (Node M)) → All (λ node. holds (state node.at) ≡ false) nodes
     → weight state (one_where holds) nodes ≡ 0
 no_weight state holds [] all = refl
 no_weight {M} {S} state holds (node ∷ nodes) all =

@@ -1,5 +1,5 @@
 -- How far a world was gone through.
-use Rattle.std.specs.Prelude.{ℕ, ◌≡◌, ◌+◌, ◌*◌, ◌<◌, ◌≤◌, true, List, [], length, All, AllPairs, Some, min, slice_index_or, sum_by}
+use Rattle.std.specs.Prelude.{ℕ, ◌≡◌, ◌≢◌, ◌+◌, ◌*◌, ◌<◌, ◌≤◌, true, List, [], length, All, AllPairs, Some, map, min, slice_index_or, sum_by}
 use Rattle.lab_orders.specs.Machines.{Machine, led_along, is_over, runs, orders}
 use Rattle.lab_orders.specs.Weights.{total, weight, ahead_by, ahead, at_end}
 use Rattle.lab_orders.specs.declared.nodes.Node.{Node}
@@ -41,6 +41,18 @@ pub record IsGone {M S : Type 0} (m : Machine S) (state : M → S) (s : S) (most
   pub few : All (λ nodes. length nodes ≤ most) levels
   pub stand : (k : ℕ) → k < steps → StandFor m state s k (slice_index_or levels k [])
   pub counted : moments ≡ min (sum_by length levels) 18446744073709551615
+
+-- no two of these nodes are at one state
+abbrev pub states : {M S : Type 0} → (M → S) → List (Node M) → List S
+states state nodes = map (λ node. state node.at) nodes
+
+abbrev pub AreApart : {M S : Type 0} → (M → S) → List (Node M) → Type 0
+AreApart state nodes = AllPairs (λ one other. one ≢ other) (states state nodes)
+
+-- and no two nodes of one number of steps are
+pub record GoesApart {M S : Type 0} (m : Machine S) (state : M → S) (s : S) (most steps moments : ℕ) : Type 0 where
+  pub gone : IsGone m state s most steps moments
+  pub apart : All (λ nodes. AreApart state nodes) gone.levels
 
 -- new is old with the orders of a node, each with one step more by one of these callers
 pub record AddsSteps {M S : Type 0} (m : Machine S) (state : M → S) (fits : M → Type 0) (node : Node M) (callers : List ℕ) (old new : List (Node M)) : Type 0 where

@@ -1,7 +1,8 @@
 //! All orders of a world.
 ghost use Rattle.std.specs.Prelude.{ℕ, [], ◌∷◌, ◌++◌, if◌then◌else◌, ◌≡◌, ◌+◌, ◌<◌, ◌≤◌, ◌⊎◌, ◌||◌, true, false, min, not, is_some, length, vec_len, OnOk, IfOk, IfErr, ◌*◌};
 ghost use Rattle.lab_orders.specs.Firsts.{AreFirsts};
-ghost use Rattle.lab_orders.specs.Fronts.{AddsSteps, AreFit, AreLed, AreOver, AreShortest, IsFront, IsGone, LeadsOn};
+ghost use Rattle.lab_orders.specs.Fronts.{AddsSteps, AreApart, AreFit, AreLed, AreOver, AreShortest, GoesApart, IsFront, IsGone, LeadsOn};
+ghost use Rattle.lab_orders.specs.Levels.{IsApart};
 ghost use Rattle.lab_orders.specs.Machines.{numbers_below, is_over, orders, runs};
 ghost use Rattle.lab_orders.specs.Weights.{ahead, ahead_by, count_limit, total, weight};
 
@@ -50,6 +51,7 @@ fn add_next<W: World>(
     ensures uncounted { IfErr result (λ error. error ≡ OrdersError.Count → count_limit ≤ weight (W.state world.now) (λ s. 1) next.old.nodes.items + node.now.count * ahead_by (W.machine world.now) (λ s. 1) (W.state world.now node.now.at) (caller ∷ [])) }
     ensures goes { IfOk result (λ goes. goes ≡ is_some ((W.machine world.now).go (W.state world.now node.now.at) caller)) }
     ensures adds { IfOk result (λ goes. AddsSteps (W.machine world.now) (W.state world.now) (W.fits world.now) node.now (caller ∷ []) next.old.nodes.items next.new.nodes.items) }
+    ensures apart { IfOk result (λ goes. W.complete world.now → IsApart (W.state world.now) (W.digest_at world.now) next.old → IsApart (W.state world.now) (W.digest_at world.now) next.new) }
 {
     let Ok(reached) = world.step(alloc, &node.at, caller) else {
         return Err(OrdersError::Memory);
@@ -83,6 +85,7 @@ fn add_nexts<W: World>(
     ensures uncounted { IfErr result (λ error. error ≡ OrdersError.Count → count_limit ≤ weight (W.state world.now) (λ s. 1) next.old.nodes.items + node.now.count * ahead (W.machine world.now) (λ s. 1) (W.state world.now node.now.at)) }
     ensures goes { IfOk result (λ goes. goes ≡ not (is_over (W.machine world.now) (W.state world.now node.now.at))) }
     ensures adds { IfOk result (λ goes. AddsSteps (W.machine world.now) (W.state world.now) (W.fits world.now) node.now (numbers_below (W.machine world.now).callers) next.old.nodes.items next.new.nodes.items) }
+    ensures apart { IfOk result (λ goes. W.complete world.now → IsApart (W.state world.now) (W.digest_at world.now) next.old → IsApart (W.state world.now) (W.digest_at world.now) next.new) }
 {
     let mut goes_on = false;
     let callers = world.callers();
@@ -113,8 +116,8 @@ fn keep_end<M: Drop>(
     }
 }
 
-// The moments that are reached by one step more. Those at which nobody can make one are put to the ends.
-fn next_level<W: World>(
+/// The moments that are reached by one step more. Those at which nobody can make one are put to the ends.
+pub(crate) fn next_level<W: World>(
     alloc: Global,
     world: &W,
     level: Level<W::Moment>,
@@ -123,6 +126,7 @@ fn next_level<W: World>(
     requires { AreFit (W.fits world.now) level.nodes.items }
     ensures uncounted { IfErr result (λ error. error ≡ OrdersError.Count → count_limit ≤ weight (W.state world.now) (ahead (W.machine world.now) (λ s. 1)) level.nodes.items) }
     ensures leads { IfOk result (λ next. LeadsOn (W.machine world.now) (W.state world.now) (W.fits world.now) level.nodes.items next.nodes.items ends.old.items ends.new.items) }
+    ensures apart { IfOk result (λ next. W.complete world.now → AreApart (W.state world.now) next.nodes.items) }
 {
     let mut next = Level::new(alloc);
     for node in level.into_nodes() {
@@ -148,6 +152,7 @@ fn first_front<W: World>(
     ensures front { IfOk result (λ front. IsFront (W.machine world.now) (W.state world.now) (W.fits world.now) (W.state world.now start) front.steps front.level.nodes.items front.ends.items) }
     ensures steps { IfOk result (λ front. front.steps ≡ 0) }
     ensures moments { IfOk result (λ front. front.moments ≡ 0) }
+    ensures apart { IfOk result (λ front. AreApart (W.state world.now) front.level.nodes.items) }
 {
     let level = first_level(alloc, start)?;
     Ok(Front {
@@ -172,6 +177,7 @@ fn next_front<W: World>(
         → IsFront (W.machine world.now) (W.state world.now) (W.fits world.now) s next.steps next.level.nodes.items next.ends.items) }
     ensures steps { IfOk result (λ next. next.steps ≡ front.steps + 1) }
     ensures moments { IfOk result (λ next. next.moments ≡ min (front.moments + vec_len front.level.nodes) 18446744073709551615) }
+    ensures apart { IfOk result (λ next. W.complete world.now → AreApart (W.state world.now) next.level.nodes.items) }
 {
     let Front {
         level,
@@ -237,6 +243,9 @@ pub fn explore<W: World>(
     // many moments are told.
     ensures asked { IfOk result (λ found. found.steps ≤ steps) }
     ensures gone { IfOk result (λ found. IsGone (W.machine world.now) (W.state world.now) (W.state world.now start) most found.steps found.moments) }
+
+    // Where each two moments of one state are told as such, no two of one number of steps are at one state.
+    ensures apart { IfOk result (λ found. W.complete world.now → GoesApart (W.machine world.now) (W.state world.now) (W.state world.now start) most found.steps found.moments) }
 
     // Where nothing was cut off, no run has as many steps.
     ensures whole { IfOk result (λ found. found.whole ≡ true → runs (W.machine world.now) (W.state world.now start) found.steps ≡ []) }

@@ -47,8 +47,8 @@ fn node_at<'a, W: World>(
     None
 }
 
-// The order of a node once more.
-fn order_of<M>(alloc: Global, node: &Node<M>) -> Result<Vec<u16>, AllocError>
+/// The order of a node once more. `AllocError` where memory couldn't grow.
+pub(crate) fn order_of<M>(alloc: Global, node: &Node<M>) -> Result<Vec<u16>, AllocError>
     ensures { IfOk result (λ order. order.items ≡ node.now.order.items) }
 {
     let mut order = Vec::with_capacity(alloc, node.order.len())?;

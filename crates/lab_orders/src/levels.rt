@@ -1,6 +1,8 @@
 //! The moments that are reached by one number of steps.
-ghost use Rattle.std.specs.Prelude.{ℕ, [], ◌∷◌, ◌++◌, ◌≡◌, ◌+◌, ◌<◌, ◌≤◌, Some, OnOk, IfSome, IfOk, IfErr, length, true, slice_get, slice_set, vec_len};
-ghost use Rattle.lab_orders.specs.Fronts.{AddsSteps, AreFit};
+ghost use Rattle.std.specs.Prelude.{ℕ, List, [], ◌∷◌, ◌++◌, ◌≡◌, ◌≢◌, ◌+◌, ◌<◌, ◌≤◌, All, None, Some, OnOk, IfNone, IfSome, IfOk, IfErr, false, length, nat_eq, true, slice_get, slice_index_or, slice_set, vec_len};
+ghost use Rattle.std.specs.HashMap.{get};
+ghost use Rattle.lab_orders.specs.Fronts.{AddsSteps, AreFit, states};
+ghost use Rattle.lab_orders.specs.Levels.{IsApart, IsIndexed};
 ghost use Rattle.lab_orders.specs.Weights.{count_limit, weight};
 
 use crate::nodes::Node;
@@ -29,7 +31,8 @@ pub(crate) struct Level<M> {
 impl<M> Level<M> {
     /// No moments.
     pub(crate) fn new(alloc: Global) -> Level<M>
-        ensures { result.nodes.items ≡ [] }
+        ensures nodes { result.nodes.items ≡ [] }
+        ensures indexed { IsIndexed [] result }
     {
         Level {
             nodes: Vec::new(alloc),
@@ -52,10 +55,28 @@ fn is_at<W: World>(world: &W, nodes: &[Node<W::Moment>], place: usize, moment: &
     requires moment { W.fits world.now moment.now }
     ensures within { result ≡ true → place < length nodes.now }
     ensures same { result ≡ true → (node : _) → slice_get nodes.now place ≡ Some node → W.state world.now node.at ≡ W.state world.now moment.now }
+    ensures apart { W.complete world.now → result ≡ false → (node : _) → slice_get nodes.now place ≡ Some node → W.state world.now node.at ≢ W.state world.now moment.now }
 {
     match nodes.get(place) {
         Some(node) => world.is_same(&node.at, moment),
         None => false,
+    }
+}
+
+// The place of the newest node of a digest.
+fn newest_of<M>(level: &Level<M>, digest: u64) -> Option<usize>
+    ensures { result ≡ get nat_eq level.now.places digest }
+{
+    level.places.get(&digest).copied()
+}
+
+// The place of the next older node of the digest of the one at a place.
+fn older_than<M>(level: &Level<M>, place: usize) -> Option<usize>
+    ensures { result ≡ slice_index_or level.now.older.items place None }
+{
+    match level.older.get(place) {
+        Some(older) => *older,
+        None => None,
     }
 }
 
@@ -70,14 +91,18 @@ fn place_of<W: World>(
     requires moment { W.fits world.now moment.now }
     ensures within { IfSome result (λ i. i < vec_len level.now.nodes) }
     ensures same { IfSome result (λ i. (node : _) → slice_get level.now.nodes.items i ≡ Some node → W.state world.now node.at ≡ W.state world.now moment.now) }
+    ensures none { IfNone result (W.complete world.now → digest ≡ W.digest_at world.now (W.state world.now moment.now) → IsApart (W.state world.now) (W.digest_at world.now) level.now
+        → All (λ at. at ≢ W.state world.now moment.now) (states (W.state world.now) level.now.nodes.items)) }
 {
-    let mut next = level.places.get(&digest).copied();
-    for _ in 0..level.nodes.len() {
-        let place = next?;
+    let mut next = newest_of(level, digest);
+    for _step in 0..level.nodes.len() {
+        let Some(place) = next else {
+            return None;
+        };
         if is_at(world, level.nodes.as_slice(), place, moment) {
             return Some(place);
         }
-        next = *level.older.get(place)?;
+        next = older_than(level, place);
     }
     None
 }
@@ -109,9 +134,10 @@ fn longer(alloc: Global, order: &[u16], caller: u16) -> Result<Vec<u16>, AllocEr
 
 // Puts a node behind all others.
 fn add_node<M: Drop>(level: &mut Level<M>, digest: u64, node: Node<M>) -> Result<(), AllocError>
-    ensures { OnOk result (level.new.nodes.items ≡ level.old.nodes.items ++ node ∷ []) }
+    ensures nodes { OnOk result (level.new.nodes.items ≡ level.old.nodes.items ++ node ∷ []) }
+    ensures indexed { OnOk result ((digests : List ℕ) → length digests ≡ vec_len level.old.nodes → IsIndexed digests level.old → IsIndexed (digests ++ digest ∷ []) level.new) }
 {
-    let older = level.places.get(&digest).copied();
+    let older = newest_of(level, digest);
     level.older.push(older)?;
     level.places.insert(digest, level.nodes.len())?;
     level.nodes.push(node)?;
@@ -144,8 +170,9 @@ fn add_moment<M: Drop>(
     before: &Node<M>,
     caller: u16,
 ) -> Result<(), AllocError>
-    ensures { OnOk result ((node : _) × (level.new.nodes.items ≡ level.old.nodes.items ++ node ∷ [])
+    ensures node { OnOk result ((node : _) × (level.new.nodes.items ≡ level.old.nodes.items ++ node ∷ [])
         × (node.at ≡ moment) × (node.count ≡ before.now.count) × (node.order.items ≡ before.now.order.items ++ caller ∷ [])) }
+    ensures indexed { OnOk result ((digests : List ℕ) → length digests ≡ vec_len level.old.nodes → IsIndexed digests level.old → IsIndexed (digests ++ digest ∷ []) level.new) }
 {
     let order = longer(alloc, before.order.as_slice(), caller)?;
     let node = Node {
@@ -174,6 +201,7 @@ pub(crate) fn add_orders<W: World>(
     requires leads { (W.machine world.now).go (W.state world.now before.now.at) caller ≡ Some (W.state world.now moment) }
     ensures uncounted { IfErr result (λ error. error ≡ OrdersError.Count → count_limit ≤ weight (W.state world.now) (λ s. 1) level.old.nodes.items + before.now.count) }
     ensures adds { OnOk result (AddsSteps (W.machine world.now) (W.state world.now) (W.fits world.now) before.now (caller ∷ []) level.old.nodes.items level.new.nodes.items) }
+    ensures apart { OnOk result (W.complete world.now → IsApart (W.state world.now) (W.digest_at world.now) level.old → IsApart (W.state world.now) (W.digest_at world.now) level.new) }
 {
     let digest = world.digest(&moment);
     match place_of(world, level, digest, &moment) {

@@ -4,7 +4,9 @@
 
 mod exploring;
 mod firsts;
+mod judging;
 mod laws;
+mod leading;
 mod levels;
 mod nodes;
 mod tallies;
@@ -12,9 +14,11 @@ mod worlds;
 
 pub use exploring::{Explored, explore};
 pub use firsts::First;
+pub use judging::{Judge, Sought, find_first};
 pub use laws::{
     merges_are_orders, orders_are_merges, orders_end, runs_are_all_runs, runs_are_there_once,
 };
+pub use leading::{Led, lead};
 pub use levels::OrdersError;
 pub use nodes::Node;
 pub use tallies::{Tally, add_tally};

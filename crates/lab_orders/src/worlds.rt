@@ -1,5 +1,5 @@
 //! What callers drive.
-ghost use Rattle.std.specs.Prelude.{ℕ, Bool, ◌≡◌, ◌<◌, true, IfOk, IfSome, option_map};
+ghost use Rattle.std.specs.Prelude.{ℕ, Bool, ◌≡◌, ◌≢◌, ◌<◌, true, false, IfOk, IfSome, option_map};
 
 use std::alloc::{AllocError, Global};
 
@@ -29,6 +29,12 @@ pub trait World {
     /// How many questions are asked.
     ghost asked: { Self → ℕ };
 
+    /// That each two moments of one state are told as such, and have the digest of that state.
+    ghost complete: { Self → Type 0 };
+
+    /// The digest of a state, where there is one.
+    ghost digest_at: { Self → Self.State → ℕ };
+
     /// How many callers there are.
     fn callers(&self) -> u16
         ensures { result ≡ (machine self.now).callers };
@@ -46,13 +52,16 @@ pub trait World {
         ensures fits { IfOk result (λ next. IfSome next (fits self.now)) };
 
     /// A number that moments of one state share.
-    fn digest(&self, moment: &Self::Moment) -> u64;
+    fn digest(&self, moment: &Self::Moment) -> u64
+        requires { fits self.now moment.now }
+        ensures { complete self.now → result ≡ digest_at self.now (state self.now moment.now) };
 
     /// Whether two moments have the same state.
     fn is_same(&self, one: &Self::Moment, other: &Self::Moment) -> bool
         requires one { fits self.now one.now }
         requires other { fits self.now other.now }
-        ensures { result ≡ true → state self.now one.now ≡ state self.now other.now };
+        ensures same { result ≡ true → state self.now one.now ≡ state self.now other.now }
+        ensures apart { complete self.now → result ≡ false → state self.now one.now ≢ state self.now other.now };
 
     /// How many questions are asked at each moment.
     fn questions(&self) -> usize

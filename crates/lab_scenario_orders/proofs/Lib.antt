@@ -2,9 +2,11 @@ pub mod AskLaws
 pub mod CallLaws
 pub mod FirstLaws
 pub mod MomentLaws
+pub mod OrderTextLaws
 pub mod OutcomeLaws
 pub mod RisingLaws
 pub mod ScenarioLaws
+pub mod SeekLaws
 pub mod ShareLaws
 pub mod TextLaws
 pub mod ToldLaws

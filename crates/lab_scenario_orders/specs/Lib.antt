@@ -9,9 +9,11 @@ pub mod Json
 pub mod KeyLines
 pub mod Leaving
 pub mod Moments
+pub mod OrderTexts
 pub mod Outcomes
 pub mod Reports
 pub mod Scenarios
+pub mod Seeking
 pub mod Shares
 pub mod Splits
 pub mod Told

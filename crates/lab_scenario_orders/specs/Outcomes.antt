@@ -5,7 +5,9 @@ use Rattle.lab_orders.specs.Firsts.{AreFirsts}
 use Rattle.lab_orders.specs.Fronts.{IsGone}
 use Rattle.lab_orders.specs.Machines.{orders, runs}
 use Rattle.lab_orders.specs.Tallies.{AreDistinct, told_weight}
-use Rattle.lab_orders.specs.Weights.{total}
+use Rattle.lab_orders.specs.Weights.{count_limit, total}
+use Rattle.lab_orders.specs.declared.levels.OrdersError.{OrdersError}
+use Rattle.lab_orders.specs.declared.levels.OrdersError.TheVariants.{Memory, Count}
 use Rattle.lab_orders.specs.declared.tallies.Tally.{Tally}
 use Rattle.lab_scenario_orders.specs.Callers.{first_seen, machine}
 use Rattle.lab_scenario_orders.specs.Firsts.{LeadThere}
@@ -28,6 +30,12 @@ AreRising outcomes = AllPairs (λ one other. one ≤ other) (lengths outcomes)
 pub record AreRisen (k : ℕ) (outcomes : List Tally) : Type 0 where
   pub rise : AreRising outcomes
   pub below : All (λ n. n ≤ k) (lengths outcomes)
+
+-- Why outcomes can't be told: memory ran out; or more runs of so many steps, or more orders of fewer, than a count can tell.
+abbrev pub CanNotTell : Callers → List Handler → OrdersError → Type 0
+CanNotTell c bank Memory = Unit {0}
+CanNotTell c bank Count =
+    (k : ℕ) × ((count_limit ≤ length (runs (machine c) (first_seen c bank) k)) ⊎ (count_limit ≤ length (orders (machine c) (first_seen c bank) k)))
 
 -- The outcomes of all orders of callers over a bank.
 pub record AreOutcomes (c : Callers) (bank : List Handler) (watches : List Watch) (most : ℕ) (found : Outcomes) : Type 0 where

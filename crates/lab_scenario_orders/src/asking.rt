@@ -1,9 +1,9 @@
 //! All orders, and what is asked of them.
-ghost use Rattle.std.specs.Prelude.{◌≡◌, All, IfOk, None, false, position, string_bytes};
+ghost use Rattle.std.specs.Prelude.{◌≡◌, All, IfErr, IfOk, None, false, position, string_bytes};
 ghost use Rattle.lab_orders.specs.Machines.{orders};
 ghost use Rattle.lab_scenario_orders.specs.Asks.{is_against};
 ghost use Rattle.lab_scenario_orders.specs.Callers.{first_seen, machine};
-ghost use Rattle.lab_scenario_orders.specs.Outcomes.{AreOutcomes};
+ghost use Rattle.lab_scenario_orders.specs.Outcomes.{AreOutcomes, CanNotTell};
 ghost use Rattle.lab_scenario_orders.specs.Told.{told_text};
 
 use crate::asks::{Ask, first_against};
@@ -30,6 +30,7 @@ pub fn ask_all<B: BankMaker>(
     most: usize,
 ) -> Result<Asked, OrdersError>
     ensures outcomes { IfOk result (λ asked. AreOutcomes callers.now (B.bank bank.now) ask.now.watches.items most asked.outcomes) }
+    ensures uncounted { IfErr result (CanNotTell callers.now (B.bank bank.now)) }
     ensures against { IfOk result (λ asked. asked.against ≡ position (λ outcome. is_against ask.now (string_bytes outcome.told)) asked.outcomes.all.items) }
 
     // Where no outcome is, no order ends so.

@@ -70,8 +70,8 @@ pub(crate) fn first_lacked(board: &Board, claims: &[Claim]) -> Option<Part>
     None
 }
 
-// The words of a text.
-fn words_of(alloc: Global, text: &str) -> Result<Vec<&str>, AllocError>
+/// The words of a text: between single blanks. `AllocError` where memory couldn't grow.
+pub(crate) fn words_of(alloc: Global, text: &str) -> Result<Vec<&str>, AllocError>
     ensures { IfOk result (λ words. map (λ word. word.now) words.items ≡ words_of text.now) }
 {
     text.split(' ').collect(alloc)

@@ -1,16 +1,16 @@
 //! The outcomes of all orders.
-ghost use Rattle.std.specs.Prelude.{ℕ, List, ◌≡◌, ◌+◌, ◌*◌, ◌<◌, ◌≤◌, ◌⊎◌, [], true, false, IfOk, OnOk, length, string_bytes, sum_by};
+ghost use Rattle.std.specs.Prelude.{ℕ, List, ◌≡◌, ◌+◌, ◌*◌, ◌<◌, ◌≤◌, ◌⊎◌, [], true, false, IfErr, IfOk, OnOk, length, string_bytes, sum_by};
 ghost use Rattle.evl_kernel.specs.state.States.{Handler};
 ghost use Rattle.lab_orders.specs.Firsts.{AreFirsts};
 ghost use Rattle.lab_orders.specs.Fronts.{AreLed, AreOver, AreShortest, IsGone};
 ghost use Rattle.lab_orders.specs.Machines.{orders, runs};
 ghost use Rattle.lab_orders.specs.Tallies.{AreDistinct, told_weight};
-ghost use Rattle.lab_orders.specs.Weights.{total, weight};
+ghost use Rattle.lab_orders.specs.Weights.{count_limit, total, weight};
 ghost use Rattle.lab_scenario_orders.specs.Asks.{is_stuck_line, some_line};
 ghost use Rattle.lab_scenario_orders.specs.Callers.{Seen, state_begun, first_seen, machine};
 ghost use Rattle.lab_scenario_orders.specs.Firsts.{LeadThere, LeadsTo};
 ghost use Rattle.lab_scenario_orders.specs.Moments.{IsNoted, seen_at, trailed};
-ghost use Rattle.lab_scenario_orders.specs.Outcomes.{AreOutcomes, AreRisen, AreRising};
+ghost use Rattle.lab_scenario_orders.specs.Outcomes.{AreOutcomes, AreRisen, AreRising, CanNotTell};
 ghost use Rattle.lab_scenario_orders.specs.Told.{told_text};
 ghost use Rattle.lab_scenario_orders.specs.Watches.{is_noted_at};
 
@@ -45,25 +45,35 @@ pub struct Outcomes {
     pub whole: bool,
 }
 
-// An end as an outcome, with the kernel as it stands there.
-fn tally_at<B: BankMaker>(
+// What is told of a moment, with the kernel as it stands there.
+fn told_by<B: BankMaker>(
     alloc: Global,
     kernel: &KernelOf<B::Made, Global>,
     callers: &Callers,
     bank: &B,
-    end: Node<Moment>,
-) -> Result<Tally, AllocError>
-    requires state { kernel.now.history.state ≡ trailed callers.now (state_begun callers.now (B.bank bank.now)) end.at.trail.items }
-    ensures told { IfOk result (λ tally. string_bytes tally.told ≡ told_text callers.now (seen_at callers.now (B.bank bank.now) end.at)) }
-    ensures count { IfOk result (λ tally. tally.count ≡ end.count) }
-    ensures order { IfOk result (λ tally. tally.order.items ≡ end.order.items) }
+    moment: &Moment,
+) -> Result<String, AllocError>
+    requires state { kernel.now.history.state ≡ trailed callers.now (state_begun callers.now (B.bank bank.now)) moment.now.trail.items }
+    ensures { IfOk result (λ told. string_bytes told ≡ told_text callers.now (seen_at callers.now (B.bank bank.now) moment.now)) }
 {
-    match told_of(alloc, kernel, callers, &end.at) {
-        Ok(told) => Ok(Tally {
-            told,
-            count: end.count,
-            order: end.order,
-        }),
+    told_of(alloc, kernel, callers, moment)
+}
+
+/// What is told of a moment, where it is an end. `AllocError` where memory couldn't grow.
+pub(crate) fn told_there<B: BankMaker>(
+    alloc: Global,
+    callers: &Callers,
+    bank: &B,
+    moment: &Moment,
+) -> Result<String, AllocError>
+    ensures { IfOk result (λ told. string_bytes told ≡ told_text callers.now (seen_at callers.now (B.bank bank.now) moment.now)) }
+{
+    match led(alloc, callers, bank, moment.trail.as_slice()) {
+        Ok(kernel) => {
+            let told = told_by(alloc, &kernel, callers, bank, moment);
+            leave(kernel);
+            told
+        }
         Err(error) => Err(error),
     }
 }
@@ -79,12 +89,12 @@ fn tally_of<B: BankMaker>(
     ensures count { IfOk result (λ tally. tally.count ≡ end.count) }
     ensures order { IfOk result (λ tally. tally.order.items ≡ end.order.items) }
 {
-    match led(alloc, callers, bank, end.at.trail.as_slice()) {
-        Ok(kernel) => {
-            let tally = tally_at(alloc, &kernel, callers, bank, end);
-            leave(kernel);
-            tally
-        }
+    match told_there(alloc, callers, bank, &end.at) {
+        Ok(told) => Ok(Tally {
+            told,
+            count: end.count,
+            order: end.order,
+        }),
         Err(error) => Err(error),
     }
 }
@@ -102,6 +112,7 @@ fn put_end<B: BankMaker>(
     ensures distinct { OnOk result (AreDistinct all.new.items) }
     ensures rise { OnOk result ((k : ℕ) → AreRisen k all.old.items → k ≤ length end.order.items → AreRisen (length end.order.items) all.new.items) }
     ensures lead { OnOk result ((s : Seen) → LeadThere callers.now s all.old.items → LeadsTo callers.now s (told_text callers.now (seen_at callers.now (B.bank bank.now) end.at)) end.order.items → LeadThere callers.now s all.new.items) }
+    ensures uncounted { IfErr result (λ error. error ≡ OrdersError.Count → count_limit ≤ told_weight (λ text. 1) all.old.items + end.count) }
 {
     match tally_of(alloc, callers, bank, end) {
         Ok(tally) => match add_tally(all, tally) {
@@ -114,7 +125,8 @@ fn put_end<B: BankMaker>(
 
 // How many orders lead to these ends.
 fn count_of(ends: &[Node<Moment>]) -> Result<u128, OrdersError>
-    ensures { IfOk result (λ count. count ≡ sum_by (λ end. end.count) ends.now) }
+    ensures sum { IfOk result (λ count. count ≡ sum_by (λ end. end.count) ends.now) }
+    ensures uncounted { IfErr result (λ error. count_limit ≤ sum_by (λ end. end.count) ends.now) }
 {
     let mut count: u128 = 0;
     for end in ends {
@@ -140,6 +152,7 @@ fn outcomes_at<B: BankMaker>(
     ensures distinct { IfOk result (λ all. AreDistinct all.items) }
     ensures lead { IfOk result (λ all. LeadThere callers.now (first_seen callers.now (B.bank bank.now)) all.items) }
     ensures rise { IfOk result (λ all. AreRising all.items) }
+    ensures uncounted { IfErr result (λ error. error ≡ OrdersError.Count → count_limit ≤ weight (seen_at callers.now (B.bank bank.now)) (λ seen. 1) ends.items) }
 {
     let mut all = Vec::new(alloc);
     for end in ends {
@@ -167,8 +180,8 @@ fn start_at<C>(
     }
 }
 
-// The moment before the first caller's step.
-fn start_of<B: BankMaker>(
+/// The moment before the first caller's step. `AllocError` where memory couldn't grow.
+pub(crate) fn start_of<B: BankMaker>(
     alloc: Global,
     callers: &Callers,
     bank: &B,
@@ -208,6 +221,7 @@ fn ends_of<B: BankMaker>(
     ensures shortest { IfOk result (λ found. AreShortest found.steps found.ends.items) }
     ensures firsts { IfOk result (λ found. AreFirsts (machine callers.now) (first_seen callers.now (B.bank bank.now)) (λ n seen. is_noted_at watches.now n seen.state) found.steps 0 found.firsts.items) }
     ensures watched { IfOk result (λ found. length found.firsts.items ≡ length watches.now) }
+    ensures uncounted { IfErr result (CanNotTell callers.now (B.bank bank.now)) }
 {
     let start = match start_of(alloc, callers, bank, watches) {
         Ok(start) => start,
@@ -233,7 +247,8 @@ pub fn outcomes_of<B: BankMaker>(
     watches: &[Watch],
     most: usize,
 ) -> Result<Outcomes, OrdersError>
-    ensures { IfOk result (AreOutcomes callers.now (B.bank bank.now) watches.now most) }
+    ensures outcomes { IfOk result (AreOutcomes callers.now (B.bank bank.now) watches.now most) }
+    ensures uncounted { IfErr result (CanNotTell callers.now (B.bank bank.now)) }
 {
     let Explored {
         ends,

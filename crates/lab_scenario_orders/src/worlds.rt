@@ -179,6 +179,10 @@ impl<'a, B: BankMaker> World for Driven<'a, B> {
 
     ghost asked = { λ driven. length driven.watches.now };
 
+    ghost complete = { λ driven. ⊥ };
+
+    ghost digest_at = { λ driven seen. 0 };
+
     fn callers(&self) -> u16 {
         self.callers.count()
     }

@@ -40,6 +40,10 @@ impl World for Free {
 
     ghost asked = { λ callers. 0 };
 
+    ghost complete = { λ callers. ⊤ };
+
+    ghost digest_at = { λ callers state. state };
+
     fn callers(&self) -> u16 {
         4
     }

@@ -13,6 +13,8 @@ mod free;
 #[cfg(test)]
 mod locks;
 #[cfg(test)]
+mod one_order;
+#[cfg(test)]
 mod orders;
 #[cfg(test)]
 mod splits;

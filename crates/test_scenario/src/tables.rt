@@ -22,7 +22,7 @@ fn if_somewhere(state: u8) -> Option<u8>
 }
 
 impl World for Table {
-    ghost use Rattle.std.specs.Prelude.{false, ⊤};
+    ghost use Rattle.std.specs.Prelude.{◌%◌, false, ⊤};
     ghost use Rattle.test_scenario.specs.Tables.{machine};
 
     type Moment = u8;
@@ -38,6 +38,10 @@ impl World for Table {
     ghost holds = { λ table question moment. false };
 
     ghost asked = { λ table. 0 };
+
+    ghost complete = { λ table. ⊤ };
+
+    ghost digest_at = { λ table state. state % 4 };
 
     fn callers(&self) -> u16 {
         2

@@ -15,6 +15,7 @@ loop-caller-preserved g c =
           c.is_either-goes_on.ensures;
       adds = caller_more m state (g.W.World.fits w) node c.loop-caller.caller c.args.next.now.nodes.items c.loop-caller.next.nodes.items c.add_next.new.next.nodes.items
           c.loop-caller.invariant.adds c.in-Ok.ensures.adds;
+      apart = λ whole was. c.in-Ok.ensures.apart whole (c.loop-caller.invariant.apart whole was);
     }
 
 pub returns-in-Err-clause-uncounted : goal.returns-in-Err-clause-uncounted

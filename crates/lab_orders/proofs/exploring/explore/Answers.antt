@@ -1,6 +1,6 @@
 use Rattle.std.proofs.Common.{ℕ, List, ◌+◌, ◌∙◌, arith, inr, subst, sym}
 use Rattle.lab_orders.proofs.Fronts.{counted_at, whole_at, cut_at, more_at, led_at, over_at}
-use Rattle.lab_orders.proofs.Going.{gone_none, gone_more}
+use Rattle.lab_orders.proofs.Going.{apart_at, apart_more, apart_none, gone_none, gone_more}
 use Rattle.lab_orders.proofs.Noticing.{firsts_at, none_yet}
 use Rattle.lab_orders.specs.Firsts.{AreFirsts}
 use Rattle.lab_orders.specs.Fronts.{IsFront}
@@ -106,6 +106,8 @@ loop-step-init g c =
           (none_yet (g.W.World.machine w) (g.W.World.state w c.args.start) (g.W.World.holds w) 0 c.in-Ok-no_firsts.firsts.items c.in-Ok-no_firsts.ensures.none);
       each = c.in-Ok-no_firsts.ensures.count ∙ c.questions.ensures;
       gone = gone_none (g.W.World.machine w) (g.W.World.state w) (g.W.World.state w c.args.start) c.args.most c.in-Ok.front.steps c.in-Ok.front.moments c.in-Ok.ensures.steps c.in-Ok.ensures.moments;
+      level = λ whole. c.in-Ok.ensures.apart;
+      apart = λ whole. apart_none (g.W.World.machine w) (g.W.World.state w) (g.W.World.state w c.args.start) c.args.most c.in-Ok.front.steps c.in-Ok.front.moments c.in-Ok.ensures.steps c.in-Ok.ensures.moments;
     }
 
 pub loop-step-preserved : goal.loop-step-preserved
@@ -125,6 +127,12 @@ loop-step-preserved g c =
           c.in-Ok-next_front.next.steps c.in-Ok-next_front.next.moments level.items c.loop-step.invariant.gone c.loop-step.invariant.front.reached
           (omega (arith, level.ok.0, c.len-count.ensures, c.if-count-eq0.false)) (omega (arith, level.ok.0, c.len-count.ensures, c.if-count-most.false))
           c.in-Ok-next_front.ensures.steps (omega (arith, level.ok.0, c.in-Ok-next_front.ensures.moments));
+      level = c.in-Ok-next_front.ensures.apart;
+      apart = λ whole.
+          apart_more (g.W.World.machine w) (g.W.World.state w) (g.W.World.state w c.args.start) c.args.most c.loop-step.front.steps c.loop-step.front.moments
+          c.in-Ok-next_front.next.steps c.in-Ok-next_front.next.moments level.items (c.loop-step.invariant.apart whole) c.loop-step.invariant.front.reached
+          (omega (arith, level.ok.0, c.len-count.ensures, c.if-count-eq0.false)) (omega (arith, level.ok.0, c.len-count.ensures, c.if-count-most.false))
+          c.in-Ok-next_front.ensures.steps (omega (arith, level.ok.0, c.in-Ok-next_front.ensures.moments)) (c.loop-step.invariant.level whole);
     }
 
 pub returns-in-Err-next_front-clause-uncounted : goal.returns-in-Err-next_front-clause-uncounted
@@ -151,3 +159,21 @@ returns-clause-firsts g c =
     let w = c.args.world.now in
     firsts_at (g.W.World.machine w) (g.W.World.state w c.args.start) (g.W.World.holds w) c.loop-step.front.steps c.found-2.result.steps c.loop-step.firsts.items c.found-2.result.firsts.items
     c.loop-step.invariant.firsts c.found-2.ensures.firsts c.found-2.ensures.steps
+
+pub returns-then-count-eq0-clause-apart : goal.returns-then-count-eq0-clause-apart
+returns-then-count-eq0-clause-apart g c = λ whole.
+    let w = c.args.world.now in
+    apart_at (g.W.World.machine w) (g.W.World.state w) (g.W.World.state w c.args.start) c.args.most c.loop-step.front.steps c.loop-step.front.moments c.found.result.steps c.found.result.moments
+    c.found.ensures.steps c.found.ensures.moments (c.loop-step.invariant.apart whole)
+
+pub returns-then-count-most-clause-apart : goal.returns-then-count-most-clause-apart
+returns-then-count-most-clause-apart g c = λ whole.
+    let w = c.args.world.now in
+    apart_at (g.W.World.machine w) (g.W.World.state w) (g.W.World.state w c.args.start) c.args.most c.loop-step.front.steps c.loop-step.front.moments c.found-then-count-most.result.steps c.found-then-count-most.result.moments
+    c.found-then-count-most.ensures.steps c.found-then-count-most.ensures.moments (c.loop-step.invariant.apart whole)
+
+pub returns-clause-apart : goal.returns-clause-apart
+returns-clause-apart g c = λ whole.
+    let w = c.args.world.now in
+    apart_at (g.W.World.machine w) (g.W.World.state w) (g.W.World.state w c.args.start) c.args.most c.loop-step.front.steps c.loop-step.front.moments c.found-2.result.steps c.found-2.result.moments
+    c.found-2.ensures.steps c.found-2.ensures.moments (c.loop-step.invariant.apart whole)

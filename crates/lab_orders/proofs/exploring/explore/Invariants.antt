@@ -1,6 +1,6 @@
 use Rattle.std.proofs.Common.{◌≡◌, length}
 use Rattle.lab_orders.specs.Firsts.{AreFirsts}
-use Rattle.lab_orders.specs.Fronts.{IsFront, IsGone}
+use Rattle.lab_orders.specs.Fronts.{AreApart, GoesApart, IsFront, IsGone}
 use Rattle.lab_orders.proofs.exploring.explore.Given as goal
 
 abbrev pub invariant-loop-step : goal.invariant-loop-step
@@ -11,4 +11,6 @@ invariant-loop-step g l =
       firsts : AreFirsts (g.W.World.machine l.world) (g.W.World.state l.world l.fn.start) (g.W.World.holds l.world) l.front.steps 0 l.firsts.items;
       each : length l.firsts.items ≡ g.W.World.asked l.world;
       gone : IsGone (g.W.World.machine l.world) (g.W.World.state l.world) (g.W.World.state l.world l.fn.start) l.most l.front.steps l.front.moments;
+      level : g.W.World.complete l.world → AreApart (g.W.World.state l.world) l.front.level.nodes.items;
+      apart : g.W.World.complete l.world → GoesApart (g.W.World.machine l.world) (g.W.World.state l.world) (g.W.World.state l.world l.fn.start) l.most l.front.steps l.front.moments;
     }

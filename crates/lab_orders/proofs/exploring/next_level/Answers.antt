@@ -1,5 +1,6 @@
 use Rattle.std.proofs.Common.{◌∙◌, arith}
 use Rattle.lab_orders.proofs.Fronts.{fit_same, fit_head, fit_rest, through_none, through_more, through_all}
+use Rattle.lab_orders.proofs.Indexing.{apart_none}
 use Rattle.lab_orders.specs.Weights.{count_limit, weight}
 use Rattle.lab_orders.proofs.TooMany.{too_many_from}
 use Rattle.lab_orders.proofs.exploring.next_level.Goals as goal
@@ -15,7 +16,8 @@ loop-node-init g c =
     let whole = given.0 ∙ c.into_nodes-node-items.ensures in
     record {
       fit = fit_same m state fits rest c.args.level.nodes.items whole c.requires;
-      leads = through_none m state fits rest c.args.level.nodes.items c.new-next.result.nodes.items c.args.ends.now.items whole c.new-next.ensures;
+      leads = through_none m state fits rest c.args.level.nodes.items c.new-next.result.nodes.items c.args.ends.now.items whole c.new-next.ensures.nodes;
+      apart = λ complete. apart_none state (g.W.World.digest_at w) c.new-next.result c.new-next.ensures.nodes c.new-next.ensures.indexed;
     }
 
 pub add_nexts-requires-clause-node : goal.add_nexts-requires-clause-node
@@ -43,6 +45,7 @@ loop-node-preserved g c =
       leads = through_more m state fits rest others c.in-Some.node c.in-Ok.goes_on c.args.level.nodes.items c.loop-node.next.nodes.items c.add_nexts.new.next.nodes.items
           c.args.ends.now.items c.loop-node.ends.items c.keep_end.new.ends.items c.loop-node.invariant.leads c.in-Some.ensures.steps.0 c.in-Ok.ensures.adds c.in-Ok.ensures.goes
           c.in-Ok-keep_end.ensures.kept;
+      apart = λ complete. c.in-Ok.ensures.apart complete (c.loop-node.invariant.apart complete);
     }
 
 pub returns-clause-leads : goal.returns-clause-leads
@@ -59,3 +62,6 @@ returns-in-Err-clause-uncounted g c = λ e.
     let through = c.loop-node.invariant.leads in
     too_many_from (g.W.World.machine w) (λ s. 1) state count_limit (weight state (λ s. 1) c.loop-node.next.nodes.items) through.0 c.loop-node.node-iterator.rest.items c.next.new.self.rest.items
     c.args.level.nodes.items c.in-Some.node through.1 c.in-Some.ensures.steps.0 (through.2.sums (λ s. 1)) (c.in-Err.ensures.uncounted e)
+
+pub returns-clause-apart : goal.returns-clause-apart
+returns-clause-apart g c = λ complete. (c.loop-node.invariant.apart complete).apart

@@ -13,4 +13,4 @@ returns-clause-none g c = λ e.
     let callers = c.args.callers.now in
     no_order (told_text callers) (is_against c.args.ask.now) c.in-Ok.outcomes.all.items
     (orders (machine callers) (first_seen callers (g.B.BankMaker.bank c.args.bank.now)) c.in-Ok.outcomes.steps)
-    c.in-Ok.ensures.counted (ap (λ (all : List Tally). position (λ tally. is_against c.args.ask.now (string_bytes tally.told)) all) (sym c.as_slice-2.ensures.value) ∙ (sym c.first_against-against.ensures ∙ e))
+    c.in-Ok.ensures.outcomes.counted (ap (λ (all : List Tally). position (λ tally. is_against c.args.ask.now (string_bytes tally.told)) all) (sym c.as_slice-2.ensures.value) ∙ (sym c.first_against-against.ensures ∙ e))

@@ -1,0 +1,10 @@
+use Rattle.std.proofs.Common.{◌≡◌}
+use Rattle.lab_orders.specs.Levels.{IsApart}
+use Rattle.lab_orders.proofs.Indexing.{IsPast}
+use Rattle.lab_orders.proofs.levels.place_of.Given as goal
+
+abbrev pub invariant-loop-step : goal.invariant-loop-step
+invariant-loop-step g l =
+    let state = g.W.World.state l.world in
+    let digest = g.W.World.digest_at l.world in
+    g.W.World.complete l.world → l.digest ≡ digest (state l.moment) → IsApart state digest l.level → IsPast state digest l.level (state l.moment) l.next l._step
