@@ -1,0 +1,4 @@
+pub mod Calls
+pub mod Notices
+pub mod Texts
+pub mod Warned

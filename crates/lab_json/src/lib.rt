@@ -1,0 +1,13 @@
+//! JSON for programs that ask the lab: the list of the calls, and what is found in texts.
+//! What names no source is this profile's own.
+#![tactic(auto)]
+
+mod calls;
+mod notices;
+mod texts;
+mod warned;
+
+pub use calls::{write_call_of, write_calls};
+pub use notices::{Notice, Noticed, write_faults, write_notice};
+pub use texts::{put_comma, put_name, put_text};
+pub use warned::{write_judged, write_warnings};
