@@ -31,6 +31,10 @@ impl<'a> World for Stepping<'a> {
 
     ghost asked = { λ stepping. 0 };
 
+    ghost complete = { λ stepping. ⊥ };
+
+    ghost digest_at = { λ stepping seen. 0 };
+
     fn callers(&self) -> u16 {
         self.crew.count()
     }

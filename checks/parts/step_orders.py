@@ -1,0 +1,167 @@
+"""Counts the orders of callers' atomic steps on staxes and mutexes by itself, and compares them with a report of `lab orders`.
+
+Words are plain numbers here, written again by the pages CALLERS_TEXT and STEP_ORDERS: a stax's word has how many hold it in its
+low half, bit 30 for the stage of the last ones in and bit 31 for the mark; a mutex's has one more than its owner's number.
+Nobody claims in a text, so no mark is ever set."""
+import collections
+import re
+import subprocess
+
+OOB = 1 << 30
+HOLDERS = 0xFFFF
+COUNTS = re.compile(r"# (\d+) orders?, (\d+) outcomes?, (\d+) moments?")
+OUTCOME = re.compile(r"# outcome \d+: (\d+) orders?")
+TURN = re.compile(r"T(\d+) (\w+)")
+
+
+class Text:
+    """Callers on their stages, with their calls: kind, number and name."""
+
+    def __init__(self, staxes, mutexes, callers):
+        self.staxes, self.mutexes, self.callers = staxes, mutexes, callers
+
+    def written(self):
+        """The text of callers."""
+        kinds = ", ".join(['"normal"'] * self.mutexes)
+        lines = [f"[board]\nthreads = {len(self.callers)}\nstaxes = {self.staxes}\nmutexes = [{kinds}]"]
+        for who, (stage, calls) in enumerate(self.callers):
+            if stage == "oob":
+                lines.append(f'[[setup]]\ndo = "attach"\nwho = {who}\npolicy = "fifo 10"\nstage = "oob"')
+        for who, (stage, calls) in enumerate(self.callers):
+            for do, key, number, name in calls:
+                lines.append(f'[[step]]\ndo = "{do}"\nwho = {who}')
+                lines.append(f'pass = "{name}"' if key == "pass" else f'{key} = {number}\nas = "{name}"')
+        return "\n".join(lines) + "\n"
+
+    def first(self):
+        """The state before any step: words, who holds each, where each caller stands, how many of its calls are over, its answers."""
+        none = (False,) * len(self.callers)
+        words = tuple((0, none) for _ in self.staxes), tuple((0, none) for _ in range(self.mutexes))
+        return words + ((None,) * len(self.callers), (0,) * len(self.callers), ((),) * len(self.callers))
+
+    def refusal(self, stax, word, stage):
+        """Why a word of a stax lets nobody of this stage in, if it doesn't."""
+        if word & HOLDERS and (word & OOB != 0) != (stage == "oob"):
+            return "Again"
+        return "Limit" if word & HOLDERS >= self.staxes[stax] else None
+
+    def at_stax(self, who, stage, call, place, word, held):
+        """A turn at a stax: the step, the word and who holds it then, and the place or the answer."""
+        do, _, stax, _ = call
+        if do == "unlock_stax":
+            return ("leave", word - 1, False, None, "done") if held else ("refused", word, held, None, "NotOwner")
+        if held:
+            return "refused", word, held, None, "Busy"
+        refusal = self.refusal(stax, word, stage)
+        if place is None:
+            return "look", word, held, None if refusal else word, refusal
+        if place != word:
+            return "exchange", word, held, None, refusal or "Raced"
+        return "exchange", (word & HOLDERS) + 1 + OOB * (stage == "oob"), True, None, "pass"
+
+    def at_mutex(self, who, stage, call, word, held):
+        """And one at a mutex."""
+        if call[0] == "unlock_mutex_fast":
+            return ("unlock", 0, False, None, "done") if held else ("refused", word, held, None, "NotOwner")
+        if stage != "oob" or held:
+            return "refused", word, held, None, "Deadlock" if stage == "oob" else "WrongStage"
+        return ("try", word, held, None, "Busy") if word else ("try", who + 1, True, None, "pass")
+
+    def turn(self, state, who):
+        """A caller's next turn, and the state behind it; none where its calls are over."""
+        staxes, mutexes, places, made, answers = state
+        stage, calls = self.callers[who]
+        if made[who] == len(calls):
+            return None
+        call = calls[made[who]]
+        of_stax = call[0].endswith("stax")
+        words, number = staxes if of_stax else mutexes, call[2]
+        if number >= len(words):
+            step, place, answer = "refused", None, "Unknown"
+        else:
+            word, held = words[number]
+            args = (who, stage, call) + ((places[who],) if of_stax else ()) + (word, held[who])
+            step, word, holds, place, answer = (self.at_stax if of_stax else self.at_mutex)(*args)
+            words = changed(words, number, (word, changed(held, who, holds)))
+        staxes, mutexes = (words, mutexes) if of_stax else (staxes, words)
+        if answer is not None:
+            made, answers = changed(made, who, made[who] + 1), changed(answers, who, answers[who] + (answer,))
+        return step, (staxes, mutexes, changed(places, who, place), made, answers)
+
+    def told(self, state):
+        """What is reported of a state at the end."""
+        staxes, mutexes, _, _, answers = state
+        lines = ["# T%d -> %s" % (who, " -> ".join(said)) for who, said in enumerate(answers) if said]
+        for number, (word, _) in enumerate(staxes):
+            lines.append(f"# stax {number}: {'oob' if word & OOB else 'inband'}, held by {word & HOLDERS}")
+        for number, (word, _) in enumerate(mutexes):
+            lines.append(f"# mutex {number}: " + (f"T{word - 1}" if word else "free"))
+        return "\n".join(lines)
+
+
+def changed(items, place, item):
+    return items[:place] + (item,) + items[place + 1 :]
+
+
+def counted(text):
+    """How many orders lead to each outcome, and how many moments there are."""
+    level, ends, moments = {text.first(): 1}, collections.Counter(), 0
+    while level:
+        moments += len(level)
+        after = collections.Counter()
+        for state, count in level.items():
+            turns = [turn for turn in (text.turn(state, who) for who in range(len(text.callers))) if turn]
+            for _, behind in turns:
+                after[behind] += count
+            if not turns:
+                ends[text.told(state)] += count
+        level = after
+    return ends, moments
+
+
+def led(text, order):
+    """What is told where an order of a report leads, of turns by callers with their steps; none where it doesn't."""
+    state = text.first()
+    for who, step in order:
+        turn = text.turn(state, int(who))
+        if turn is None or turn[0] != step:
+            return None
+        state = turn[1]
+    is_over = not any(text.turn(state, who) for who in range(len(text.callers)))
+    return text.told(state) if is_over else None
+
+
+def random_text(dice):
+    """Two or three callers, each with two to four calls, by names that it has given, or not."""
+    staxes, mutexes, callers = [dice.choice([1, 2]) for _ in range(dice.choice([1, 1, 2]))], dice.choice([0, 1, 1, 2]), []
+    for _ in range(dice.choice([2, 2, 3])):
+        calls, names = [], {}
+        while len(calls) < dice.choice([2, 3, 4]):
+            if names and dice.random() < 0.5:
+                name = dice.choice(sorted(names))
+                calls.append(("unlock_stax" if names[name][0] == "stax" else "unlock_mutex_fast", "pass", names[name][1], name))
+                continue
+            key = "mutex" if mutexes and dice.random() < 0.5 else "stax"
+            number, name = dice.randrange(mutexes if key == "mutex" else len(staxes)), f"{key[0]}{dice.choice('ab')}"
+            calls.append((f"try_lock_{key}", key, number, name))
+            names[name] = (key, number)
+        callers.append((dice.choice(["inband", "oob", "oob"]), calls))
+    return Text(staxes, mutexes, callers)
+
+
+def compare(command, text):
+    """Where the report of a text differs from what is counted here, as lines."""
+    done = subprocess.run(command, input=text.written(), capture_output=True, text=True, check=False)
+    if done.returncode:
+        return [f"status {done.returncode}: {done.stderr.strip()}"]
+    wanted, moments = counted(text)
+    counts = tuple(map(int, COUNTS.match(done.stdout).groups()))
+    faults = [] if counts == (sum(wanted.values()), len(wanted), moments) else [f"{counts}, and not {sum(wanted.values()), len(wanted), moments}"]
+    found = {}
+    for part in re.split(r"(?m)^(?=# outcome )", done.stdout)[1:]:
+        lines = part.splitlines()
+        told = "\n".join(lines[1:-1])
+        found[told] = int(OUTCOME.match(lines[0]).group(1))
+        if led(text, TURN.findall(lines[-1])) != told:
+            faults.append(f"{lines[-1]} doesn't lead to\n{told}")
+    return faults + [f"{found.get(told)} orders, and not {wanted[told]}, lead to\n{told}" for told in {**wanted, **found} if found.get(told) != wanted.get(told)]

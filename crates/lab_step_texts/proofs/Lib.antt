@@ -1,0 +1,3 @@
+pub mod CallLaws
+pub mod CrewLaws
+pub mod ReadingLaws

@@ -1,0 +1,31 @@
+-- What calls on words can be answered, as it is told.
+use Rattle.std.specs.Prelude.{ℕ, ◌+◌, Bool, false, not, ◌&&◌, ◌||◌, List, [], ◌∷◌, codes, find, Option, string_bytes}
+use Rattle.std.specs.List.{list_any}
+use Rattle.std.specs.Str.{bytes_eq}
+use Rattle.lab_scenario_orders.specs.Asks.{caller_text}
+use Rattle.lab_scenario_orders.specs.declared.asks.Never.{Never}
+use Rattle.lab_step_orders.specs.declared.calls.WordCall.{WordCall}
+use Rattle.lab_step_orders.specs.declared.calls.WordCall.TheVariants.{TryLockStax, UnlockStax, ClaimStax, TryLockMutex, UnlockMutexFast}
+use Rattle.lab_step_orders.specs.declared.crews.CrewCaller.{CrewCaller}
+
+abbrev pub answers_of : WordCall → List (List ℕ)
+answers_of (TryLockStax stax) = codes "pass" ∷ codes "Again" ∷ codes "Limit" ∷ codes "Raced" ∷ codes "Unknown" ∷ codes "Busy" ∷ []
+answers_of (UnlockStax stax) = codes "done" ∷ codes "done, others want in" ∷ codes "NotOwner" ∷ []
+answers_of (ClaimStax stax) = codes "done" ∷ codes "Unknown" ∷ []
+answers_of (TryLockMutex mutex) = codes "pass" ∷ codes "Busy" ∷ codes "Unknown" ∷ codes "WrongStage" ∷ codes "Deadlock" ∷ []
+answers_of (UnlockMutexFast mutex) = codes "done" ∷ codes "Busy" ∷ codes "NotOwner" ∷ []
+
+abbrev pub can_be : List ℕ → WordCall → Bool
+can_be answer call = list_any (bytes_eq answer) (answers_of call)
+
+-- one of these callers, numbered from k, is told so, and a call of its can be answered so
+abbrev pub can_have : List ℕ → List ℕ → ℕ → List CrewCaller → Bool
+can_have who answer k [] = false
+can_have who answer k (caller ∷ rest) = (bytes_eq (caller_text k) who && list_any (can_be answer) caller.calls.items) || can_have who answer (k + 1) rest
+
+abbrev pub is_impossible : List CrewCaller → Never → Bool
+is_impossible callers never = not (can_have (string_bytes never.who) (string_bytes never.answer) 0 callers)
+
+-- the first answer that no call of its caller can have
+abbrev pub first_impossible : List CrewCaller → List Never → Option Never
+first_impossible callers all = find (is_impossible callers) all

@@ -1,0 +1,5 @@
+pub mod Answers
+pub mod Calls
+pub mod Crews
+pub mod Faults
+pub mod Kinds

@@ -1,0 +1,112 @@
+//! What calls on words can be answered, as it is told.
+ghost use Rattle.std.specs.Prelude.{◌≡◌, IfOk, map, not, option_map, string_bytes};
+ghost use Rattle.std.specs.List.{list_any};
+ghost use Rattle.std.specs.Str.{bytes_eq};
+ghost use Rattle.lab_scenario_orders.specs.Asks.{caller_text};
+ghost use Rattle.lab_step_texts.specs.Answers as answers;
+ghost use Rattle.lab_step_texts.specs.Answers.{can_be, can_have, first_impossible, is_impossible};
+
+use lab_scenario_orders::{Ask, Never};
+use lab_step_orders::{Crew, CrewCaller, WordCall};
+use std::alloc::{AllocError, Global};
+
+// What a call can be answered.
+fn answers_of(call: WordCall) -> &'static [&'static str]
+    ensures { map (λ word. word.now) result.now ≡ answers.answers_of call }
+{
+    match call {
+        WordCall::TryLockStax(_) => &["pass", "Again", "Limit", "Raced", "Unknown", "Busy"],
+        WordCall::UnlockStax(_) => &["done", "done, others want in", "NotOwner"],
+        WordCall::ClaimStax(_) => &["done", "Unknown"],
+        WordCall::TryLockMutex(_) => &["pass", "Busy", "Unknown", "WrongStage", "Deadlock"],
+        WordCall::UnlockMutexFast(_) => &["done", "Busy", "NotOwner"],
+    }
+}
+
+// Whether a text is among these.
+fn is_among(words: &[&str], text: &str) -> bool
+    ensures { result ≡ list_any (bytes_eq text.now) (map (λ word. word.now) words.now) }
+{
+    for word in words {
+        if text == *word {
+            return true;
+        }
+    }
+    false
+}
+
+// Whether a call can be answered so.
+fn can_be(answer: &str, call: WordCall) -> bool
+    ensures { result ≡ can_be answer.now call }
+{
+    is_among(answers_of(call), answer)
+}
+
+// Whether one of these calls can.
+fn can_any(answer: &str, calls: &[WordCall]) -> bool
+    ensures { result ≡ list_any (can_be answer.now) calls.now }
+{
+    calls.iter().any(|call| can_be(answer, *call))
+}
+
+// Whether a thread is told so.
+fn is_named(alloc: Global, who: &str, number: usize) -> Result<bool, AllocError>
+    ensures { IfOk result (λ named. named ≡ bytes_eq (caller_text number) who.now) }
+{
+    let name = format!(in alloc; "T{number}")?;
+    Ok(name.as_str() == who)
+}
+
+// Whether one of these callers is told so, and a call of its can be answered so.
+fn can_have(
+    alloc: Global,
+    who: &str,
+    answer: &str,
+    callers: &[CrewCaller],
+) -> Result<bool, AllocError>
+    ensures { IfOk result (λ can. can ≡ can_have who.now answer.now 0 callers.now) }
+{
+    for (number, caller) in callers.iter().enumerate() {
+        if is_named(alloc, who, number)? && can_any(answer, caller.calls.as_slice()) {
+            return Ok(true);
+        }
+    }
+    Ok(false)
+}
+
+// Whether no call of its caller can have an answer.
+fn is_impossible(alloc: Global, callers: &[CrewCaller], never: &Never) -> Result<bool, AllocError>
+    ensures { IfOk result (λ cannot. cannot ≡ is_impossible callers.now never.now) }
+{
+    match can_have(alloc, never.who.as_str(), never.answer.as_str(), callers) {
+        Ok(can) => Ok(!can),
+        Err(error) => Err(error),
+    }
+}
+
+// The first of these that none can have.
+fn impossible_among<'a>(
+    alloc: Global,
+    callers: &[CrewCaller],
+    all: &'a [Never],
+) -> Result<Option<&'a Never>, AllocError>
+    ensures { IfOk result (λ found. option_map (λ one. one.now) found ≡ first_impossible callers.now all.now) }
+{
+    for one in all {
+        if is_impossible(alloc, callers, one)? {
+            return Ok(Some(one));
+        }
+    }
+    Ok(None)
+}
+
+/// The first answer of `never` that no call of its caller can have. `AllocError` where memory couldn't grow.
+pub fn first_impossible<'a>(
+    alloc: Global,
+    crew: &Crew,
+    ask: &'a Ask,
+) -> Result<Option<&'a Never>, AllocError>
+    ensures { IfOk result (λ found. option_map (λ one. one.now) found ≡ first_impossible crew.now.callers.items ask.now.never.items) }
+{
+    impossible_among(alloc, crew.callers.as_slice(), ask.never.as_slice())
+}

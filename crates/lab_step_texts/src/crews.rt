@@ -1,0 +1,217 @@
+//! The callers of a text that was read, with their calls.
+ghost use Rattle.std.specs.Prelude.{ℕ, ◌≡◌, ◌≤◌, [], IfErr, IfOk, Some, find, length, option_map, slice_get};
+ghost use Rattle.std.specs.List.{list_all, list_any};
+ghost use Rattle.lab_step_texts.specs.Calls as texts;
+ghost use Rattle.lab_step_texts.specs.Calls.{is_of, own_calls, stage_in, unattached};
+ghost use Rattle.lab_step_texts.specs.Crews as crews;
+ghost use Rattle.lab_step_texts.specs.Crews.{IsCrewOf, IsKept, caller_of};
+ghost use Rattle.lab_step_orders.specs.declared.crews.CrewCaller.{CrewCaller};
+
+use crate::calls::{CallerCall, CallsFault, calls_of};
+use crate::faults::{StepFault, StepsFault};
+use evl_base::{Board, Call, MutexKind, Policy, Stage, ThreadId};
+use evl_scenario::Fault;
+use lab_callers_text::{Act, CallersStep, CallersText};
+use lab_step_orders::{Crew, CrewCaller, WordCall};
+use std::alloc::{AllocError, Global};
+
+// Whether a mutex neither nests nor has a ceiling.
+fn is_plain(kind: MutexKind) -> bool
+    ensures { result ≡ crews.is_plain kind }
+{
+    match kind {
+        MutexKind::Normal => true,
+        MutexKind::Recursive | MutexKind::Ceiling(_) => false,
+    }
+}
+
+// Whether all of these do.
+fn are_plain(kinds: &[MutexKind]) -> bool
+    ensures { result ≡ list_all crews.is_plain kinds.now }
+{
+    kinds.iter().all(|kind| is_plain(*kind))
+}
+
+// Whether a policy is of a quota group.
+fn has_group(policy: Policy) -> bool
+    ensures { result ≡ texts.has_group policy }
+{
+    match policy {
+        Policy::Quota { .. } => true,
+        Policy::Fifo(_) | Policy::Rr { .. } | Policy::Weak(_) => false,
+    }
+}
+
+// The stage on which a step attaches its thread, if it does.
+fn stage_set(act: &Act) -> Option<Stage>
+    ensures { result ≡ texts.stage_set act.now }
+{
+    match act {
+        Act::Call(Call::Attach { policy, stage }) => {
+            if has_group(*policy) {
+                None
+            } else {
+                Some(*stage)
+            }
+        }
+        _ => None,
+    }
+}
+
+// Whether a step is of this thread.
+fn is_any(steps: &[CallersStep], who: ThreadId) -> bool
+    ensures { result ≡ list_any (is_of who.0) steps.now }
+{
+    steps.iter().any(|step| step.who.0 == who.0)
+}
+
+// Whether a step may be set up behind these.
+fn may_attach(threads: u16, before: &[CallersStep], step: &CallersStep) -> bool
+    ensures { result ≡ texts.may_attach threads before.now step.now }
+{
+    step.who.0 < threads && stage_set(&step.act).is_some() && !is_any(before, step.who)
+}
+
+// The number of the first step that may not be set up, from 1.
+fn unattached(threads: u16, setup: &[CallersStep]) -> Option<usize>
+    ensures { result ≡ unattached threads 1 [] setup.now }
+{
+    for i in 0..setup.len() {
+        if !may_attach(threads, &setup[..i], &setup[i]) {
+            return Some(i + 1);
+        }
+    }
+    None
+}
+
+// The first step of a thread.
+fn first_of(setup: &[CallersStep], who: u16) -> Option<&CallersStep>
+    ensures { option_map (λ step. step.now) result ≡ find (is_of who) setup.now }
+{
+    setup.iter().find(|step| step.who.0 == who)
+}
+
+// The stage of a thread behind what is set up.
+fn stage_in(setup: &[CallersStep], who: u16) -> Stage
+    ensures { result ≡ stage_in who setup.now }
+{
+    match first_of(setup, who) {
+        Some(step) => stage_set(&step.act).unwrap_or(Stage::Inband),
+        None => Stage::Inband,
+    }
+}
+
+// The calls of one caller.
+fn own_calls(alloc: Global, calls: &[CallerCall], who: u16) -> Result<Vec<WordCall>, AllocError>
+    ensures { IfOk result (λ own. own.items ≡ own_calls who calls.now) }
+{
+    let mut own = Vec::new(alloc);
+    for made in calls {
+        if made.who.0 == who {
+            own.push(made.call)?;
+        }
+    }
+    Ok(own)
+}
+
+// A thread on its stage, with its calls.
+fn caller_of(
+    alloc: Global,
+    setup: &[CallersStep],
+    calls: &[CallerCall],
+    who: u16,
+) -> Result<CrewCaller, AllocError>
+    ensures { IfOk result (caller_of setup.now calls.now who) }
+{
+    let stage = stage_in(setup, who);
+    let calls = own_calls(alloc, calls, who)?;
+    Ok(CrewCaller { stage, calls })
+}
+
+// So many threads.
+fn callers_of(
+    alloc: Global,
+    threads: u16,
+    setup: &[CallersStep],
+    calls: &[CallerCall],
+) -> Result<Vec<CrewCaller>, AllocError>
+    ensures each { IfOk result (λ all. length all.items ≡ threads) }
+    ensures callers { IfOk result (λ all. (k : ℕ) (caller : CrewCaller) → slice_get all.items k ≡ Some caller → caller_of setup.now calls.now k caller) }
+{
+    let mut all = Vec::new(alloc);
+    for who in 0..threads {
+        let caller = caller_of(alloc, setup, calls, who)?;
+        all.push(caller)?;
+    }
+    Ok(all)
+}
+
+// The limits of the staxes of a board.
+fn limits_of(alloc: Global, board: &Board) -> Result<Vec<u16>, AllocError>
+    ensures { IfOk result (λ limits. limits.items ≡ board.now.staxes.items) }
+{
+    let mut limits = Vec::new(alloc);
+    limits.extend_from_slice(board.staxes.as_slice())?;
+    Ok(limits)
+}
+
+// Callers over a board's staxes and mutexes.
+fn crew_over(board: &Board, limits: Vec<u16>, callers: Vec<CrewCaller>) -> Result<Crew, Fault>
+    ensures limits { IfOk result (λ crew. crew.limits ≡ limits) }
+    ensures mutexes { IfOk result (λ crew. crew.mutexes ≡ length board.now.mutexes.items) }
+    ensures callers { IfOk result (λ crew. crew.callers ≡ callers) }
+{
+    let Ok(mutexes) = u16::try_from(board.mutexes.len()) else {
+        return Err(Fault::Board);
+    };
+    match Crew::new(limits, mutexes, callers) {
+        Ok(crew) => Ok(crew),
+        Err(_) => Err(Fault::Board),
+    }
+}
+
+// The callers with these calls.
+fn crew_with(
+    alloc: Global,
+    board: &Board,
+    setup: &[CallersStep],
+    calls: &[CallerCall],
+) -> Result<Crew, Fault>
+    ensures limits { IfOk result (λ crew. crew.limits.items ≡ board.now.staxes.items) }
+    ensures mutexes { IfOk result (λ crew. crew.mutexes ≡ length board.now.mutexes.items) }
+    ensures each { IfOk result (λ crew. length crew.callers.items ≡ board.now.threads) }
+    ensures callers { IfOk result (λ crew. (k : ℕ) (caller : CrewCaller) → slice_get crew.callers.items k ≡ Some caller → caller_of setup.now calls.now k caller) }
+{
+    let Ok(limits) = limits_of(alloc, board) else {
+        return Err(Fault::Memory);
+    };
+    let Ok(callers) = callers_of(alloc, board.threads, setup, calls) else {
+        return Err(Fault::Memory);
+    };
+    crew_over(board, limits, callers)
+}
+
+/// The callers of a text that was read, of which so many steps are set up.
+pub(crate) fn crew_of(alloc: Global, read: &CallersText, count: usize) -> Result<Crew, StepsFault>
+    requires { count ≤ length read.now.steps.items }
+    ensures crew { IfOk result (IsCrewOf read.now count) }
+    ensures kept { IfErr result (IsKept read.now count) }
+{
+    if !are_plain(read.board.mutexes.as_slice()) {
+        return Err(StepsFault::Mutex);
+    }
+    let steps = read.steps.as_slice();
+    let setup = &steps[..count];
+    if let Some(number) = unattached(read.board.threads, setup) {
+        return Err(StepsFault::Step(number, StepFault::Setup));
+    }
+    let calls = match calls_of(alloc, read.board.threads, count, steps) {
+        Ok(calls) => calls,
+        Err(CallsFault::Step(number, fault)) => return Err(StepsFault::Step(number, fault)),
+        Err(CallsFault::Memory) => return Err(StepsFault::Text(Fault::Memory)),
+    };
+    match crew_with(alloc, &read.board, setup, calls.as_slice()) {
+        Ok(crew) => Ok(crew),
+        Err(fault) => Err(StepsFault::Text(fault)),
+    }
+}

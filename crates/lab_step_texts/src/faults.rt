@@ -1,0 +1,48 @@
+//! Why a text isn't gone through step by step.
+ghost use Rattle.std.specs.Prelude.{◌≡◌};
+ghost use Rattle.lab_step_texts.specs.Faults.{step_words};
+
+use evl_scenario::Fault;
+
+/// Why a step isn't gone through.
+#[derive(Clone, Copy, PartialEq, Eq, Debug)]
+pub enum StepFault {
+    /// The board has no such thread.
+    Who,
+    /// It is set up, and is no `attach`, or one with a quota group, or its thread is attached by a step before it.
+    Setup,
+    /// It goes through the core's lock.
+    Core,
+    /// It unlocks by a name that its caller has for no such lock.
+    Pass,
+}
+
+impl StepFault {
+    /// What is said of it.
+    pub fn words(self) -> &'static str
+        ensures { result.now ≡ step_words self }
+    {
+        match self {
+            StepFault::Who => "who: there is no such thread",
+            StepFault::Setup => { "what is set up is attach, once a thread, with no quota group" }
+            StepFault::Core => {
+                "it goes through the core's lock; steps are known of try_lock_stax, unlock_stax, try_lock_mutex and unlock_mutex_fast"
+            }
+            StepFault::Pass =>
+                "pass: no step of its caller before it has this name for such a lock",
+        }
+    }
+}
+
+/// Why a text isn't gone through.
+#[derive(Clone, Copy, PartialEq, Eq, Debug)]
+pub enum StepsFault {
+    /// It can't be read as one of callers; the steps that are set up are counted too.
+    Text(Fault),
+    /// A step stands before one that is set up.
+    Mixed,
+    /// A mutex of the board nests, or has a ceiling.
+    Mutex,
+    /// The step with this number, from 1, those that are set up counted too.
+    Step(usize, StepFault),
+}

@@ -1,0 +1,15 @@
+//! Texts of callers whose orders of atomic steps are asked for: the callers with their calls on words, and what is asked.
+#![tactic(auto)]
+
+mod answers;
+mod asks;
+mod calls;
+mod crews;
+mod faults;
+mod reading;
+
+pub use answers::first_impossible;
+pub use asks::read_step_ask;
+pub use calls::CallerCall;
+pub use faults::{StepFault, StepsFault};
+pub use reading::{asks_steps, read_steps};

@@ -1,0 +1,68 @@
+//! Texts of callers whose orders of steps are asked for, read.
+ghost use Rattle.std.specs.Prelude.{◌≡◌, IfErr, IfOk, string_bytes};
+ghost use Rattle.lab_kinds.specs.Kinds.{kind_of};
+ghost use Rattle.lab_step_texts.specs.Crews.{IsKeptOf, IsReadAs, IsReadOf, IsRefused};
+ghost use Rattle.lab_step_texts.specs.Kinds.{asks_steps, is_of_callers};
+
+use crate::crews::crew_of;
+use crate::faults::StepsFault;
+use evl_scenario::Fault;
+use lab_callers_text::{CallersText, read_callers};
+use lab_kinds::{TextKind, kind_of};
+use lab_scenario_orders::{Split, split_text};
+use lab_step_orders::Crew;
+use std::alloc::{AllocError, Global};
+
+// Whether the steps of a text are those of callers.
+fn is_of_callers(alloc: Global, scenario: &[u8]) -> Result<bool, AllocError>
+    ensures { IfOk result (λ is. is ≡ is_of_callers (kind_of scenario.now)) }
+{
+    match kind_of(alloc, scenario)? {
+        TextKind::Callers => Ok(true),
+        TextKind::Scenario | TextKind::Orders | TextKind::Bank => Ok(false),
+    }
+}
+
+/// Whether a text is one of callers, but for what is set up and what is asked. `AllocError` where memory couldn't grow.
+#[tactic(auto, unfolding(crate::specs::Kinds::asks_steps))]
+pub fn asks_steps(alloc: Global, bytes: &[u8]) -> Result<bool, AllocError>
+    ensures { IfOk result (λ asks. asks ≡ asks_steps bytes.now) }
+{
+    let Ok(text) = str::from_utf8(bytes) else {
+        return Ok(false);
+    };
+    let split = split_text(alloc, text)?;
+    is_of_callers(alloc, split.scenario.as_str().as_bytes())
+}
+
+// The callers of a text that was split.
+fn read_split(alloc: Global, split: &Split) -> Result<Crew, StepsFault>
+    ensures crew { IfOk result (IsReadOf (string_bytes split.now.scenario) split.now.setup) }
+    ensures kept { IfErr result (IsKeptOf (string_bytes split.now.scenario) split.now.setup) }
+{
+    let read = match read_callers(alloc, split.scenario.as_str().as_bytes(), None) {
+        Ok(read) => read,
+        Err(fault) => return Err(StepsFault::Text(fault)),
+    };
+    let steps = read.steps.as_slice();
+    let count = split.setup.min(steps.len());
+    crew_of(alloc, &read, count)
+}
+
+/// The callers of a text, with their calls on words: a text of callers, in which `[[setup]]` stands for a step that comes
+/// first.
+pub fn read_steps(alloc: Global, bytes: &[u8]) -> Result<Crew, StepsFault>
+    ensures crew { IfOk result (IsReadAs bytes.now) }
+    ensures refused { IfErr result (IsRefused bytes.now) }
+{
+    let Ok(text) = str::from_utf8(bytes) else {
+        return Err(StepsFault::Text(Fault::Text));
+    };
+    let Ok(split) = split_text(alloc, text) else {
+        return Err(StepsFault::Text(Fault::Memory));
+    };
+    if split.is_mixed {
+        return Err(StepsFault::Mixed);
+    }
+    read_split(alloc, &split)
+}
