@@ -53,7 +53,7 @@ abbrev pub part : Text → List Rule → Shape
 part name rules = record (new_shape name) { rules = rules }
 
 unfoldable pub check_part : Shape
-check_part = part (codes "check") (bank_rule ∷ record (several_rule (codes "FILE")) { required = true } ∷ [])
+check_part = part (codes "check") (bank_rule ∷ free_rule (codes "json") ∷ record (several_rule (codes "FILE")) { required = true } ∷ [])
 
 unfoldable pub draw_part : Shape
 draw_part =
@@ -62,7 +62,7 @@ draw_part =
 
 unfoldable pub play_part : Shape
 play_part =
-    part (codes "play") (bank_rule ∷ limit_rule ∷ mark_rule (codes "json") ∷ folder_rule (codes "against") ∷ mark_rule (codes "all")
+    part (codes "play") (bank_rule ∷ limit_rule ∷ mark_rule (codes "json") ∷ mark_rule (codes "states") ∷ folder_rule (codes "against") ∷ mark_rule (codes "all")
     ∷ folder_rule (codes "record") ∷ mark_rule (codes "force") ∷ several_rule (codes "FILE") ∷ [])
 
 unfoldable pub convert_part : Shape
@@ -74,13 +74,13 @@ live_part = part (codes "live") (bank_rule ∷ limit_rule ∷ free_rule (codes "
 unfoldable pub orders_part : Shape
 orders_part =
     part (codes "orders") (bank_rule ∷ number_rule (codes "most") (pos 100000000) ∷ number_rule (codes "outcome") (pos 1000000) ∷ number_rule (codes "state") (pos 1000000)
-    ∷ free_rule (codes "json") ∷ file_rule ∷ [])
+    ∷ free_rule (codes "first") ∷ text_rule (codes "order") ∷ free_rule (codes "json") ∷ file_rule ∷ [])
 
 unfoldable pub callers_part : Shape
 callers_part = part (codes "callers") (bank_rule ∷ limit_rule ∷ file_rule ∷ [])
 
 unfoldable pub help_part : Shape
-help_part = part (codes "help") (one_rule (codes "WORD") ∷ [])
+help_part = part (codes "help") (free_rule (codes "json") ∷ one_rule (codes "WORD") ∷ [])
 
 -- ---- all
 

@@ -1,6 +1,7 @@
 -- What `lab help` tells.
 use Rattle.std.specs.Prelude.{◌≡◌, ℕ, List, ◌++◌, codes, Bool, true, false, Option, Some, None, is_some}
 use Rattle.evl_scenario.specs.Steps.{word_of}
+use Rattle.lab_json.specs.Calls.{call_named, calls_json}
 use Rattle.lab_live.specs.Helps.{call_help, forms_text}
 use Rattle.lab_streams.specs.Outputs.{Output, prints, refuses}
 
@@ -15,3 +16,12 @@ HelpsWith false word output = output ≡ refuses 3 (no_call_text word)
 abbrev pub Helps : Option (List ℕ) → Output → Type 0
 Helps None output = output ≡ prints forms_text
 Helps (Some word) output = HelpsWith (is_some (word_of word)) word output
+
+-- as JSON
+abbrev pub HelpsJsonWith : Bool → List ℕ → Output → Type 0
+HelpsJsonWith true word output = output ≡ prints (call_named word)
+HelpsJsonWith false word output = output ≡ refuses 3 (no_call_text word)
+
+abbrev pub HelpsJson : Option (List ℕ) → Output → Type 0
+HelpsJson None output = output ≡ prints calls_json
+HelpsJson (Some word) output = HelpsJsonWith (is_some (word_of word)) word output

@@ -3,7 +3,7 @@ ghost use Rattle.std.specs.Prelude.{◌≡◌, true, map, pos, codes, IfOk, IfEr
 ghost use Rattle.clap.specs.Words.{app_of, kind_of, subcommand_of, subcommand_rows_of, takes};
 ghost use Rattle.clap.specs.declared.builder.value_parser.ValueParser.TheVariants.{Signed};
 ghost use Rattle.clap.specs.declared.error.kind.ErrorKind.TheVariants.{OutOfMemory};
-ghost use Rattle.lab.specs.Grammar.{IsPart, IsWord, callers_part, check_part, convert_part, file_rule, folder_rule, free_rule, grammar, help_part, live_part, mark_rule, number_rule, one_rule, orders_part, play_part, several_rule};
+ghost use Rattle.lab.specs.Grammar.{IsPart, IsWord, callers_part, check_part, convert_part, file_rule, folder_rule, free_rule, grammar, help_part, live_part, mark_rule, number_rule, one_rule, orders_part, play_part, several_rule, text_rule};
 
 use crate::draw_commands::draw_command;
 use crate::options::{bank_word, limit_word, to_a_million};
@@ -30,7 +30,8 @@ fn check_command<'a>(alloc: Global) -> Result<Command<'a>, AllocError>
         "Tells every fault of texts of each kind, with its place, or else the warnings of a scenario's dry run",
     );
     let over_bank = command.arg(bank_word(alloc))?;
-    let with_files = over_bank.arg(checked_files(alloc))?;
+    let as_json = over_bank.arg(as_json_word(alloc, "A line of JSON for each fault or warning"))?;
+    let with_files = as_json.arg(checked_files(alloc))?;
     Ok(with_files)
 }
 
@@ -44,6 +45,29 @@ fn json_word<'a>(alloc: Global) -> Result<Arg<'a>, AllocError>
         .help("A line of JSON for each entry, with its plays")
         .conflicts_with("against")?
         .conflicts_with("record")
+}
+
+// How the machine stands is told.
+fn states_word<'a>(alloc: Global) -> Result<Arg<'a>, AllocError>
+    ensures { IfOk result (IsWord (mark_rule (codes "states"))) }
+{
+    Arg::new(alloc, "states")
+        .long("states")
+        .action(ArgAction::SetTrue)
+        .help("A line of JSON for how the machine stands before the first step, and one after each")
+        .conflicts_with("json")?
+        .conflicts_with("against")?
+        .conflicts_with("record")
+}
+
+// What is told as JSON, of texts and of calls.
+fn as_json_word<'a>(alloc: Global, help: &'a str) -> Arg<'a>
+    ensures { IsWord (free_rule (codes "json")) result }
+{
+    Arg::new(alloc, "json")
+        .long("json")
+        .action(ArgAction::SetTrue)
+        .help(help)
 }
 
 // The folder of traces that were kept.
@@ -110,7 +134,8 @@ fn play_command<'a>(alloc: Global) -> Result<Command<'a>, AllocError>
     let over_bank = command.arg(bank_word(alloc))?;
     let with_limit = over_bank.arg(limit_word(alloc))?;
     let as_json = with_limit.arg(json_word(alloc)?)?;
-    let against = as_json.arg(against_word(alloc)?)?;
+    let with_states = as_json.arg(states_word(alloc)?)?;
+    let against = with_states.arg(against_word(alloc)?)?;
     let with_all = against.arg(all_word(alloc)?)?;
     let recorded = with_all.arg(record_word(alloc)?)?;
     let with_force = recorded.arg(force_word(alloc)?)?;
@@ -194,7 +219,7 @@ fn live_command<'a>(alloc: Global) -> Result<Command<'a>, AllocError>
     ensures { IfOk result (IsPart live_part) }
 {
     let command = Command::new(alloc, "live").about(
-        "Answers each line of standard input, a call as a trace has it; ? helps",
+        "Answers each line of standard input, a call as a trace has it; ? helps; ./lab keeps a history by rlwrap, if it is there",
     );
     let over_bank = command.arg(bank_word(alloc))?;
     let with_limit = over_bank.arg(limit_word(alloc))?;
@@ -256,6 +281,29 @@ fn state_word<'a>(alloc: Global) -> Arg<'a>
         )
 }
 
+// Whether the first order that is against what is asked is looked for.
+fn first_word<'a>(alloc: Global) -> Arg<'a>
+    ensures { IsWord (free_rule (codes "first")) result }
+{
+    Arg::new(alloc, "first")
+        .long("first")
+        .action(ArgAction::SetTrue)
+        .help(
+            "Ends at the first order that is against what is asked, and prints its scenario alone",
+        )
+}
+
+// The order whose scenario is printed.
+fn order_word<'a>(alloc: Global) -> Arg<'a>
+    ensures { IsWord (text_rule (codes "order")) result }
+{
+    Arg::new(alloc, "order")
+        .long("order")
+        .value_name("ORDER")
+        .action(ArgAction::Set)
+        .help("Prints the scenario of this order alone, as \"T1 T2 T1\", if its steps can be made")
+}
+
 // What is told of all orders as JSON.
 fn orders_json_word<'a>(alloc: Global) -> Arg<'a>
     ensures { IsWord (free_rule (codes "json")) result }
@@ -277,7 +325,9 @@ fn orders_command<'a>(alloc: Global) -> Result<Command<'a>, AllocError>
     let with_most = over_bank.arg(most_word(alloc))?;
     let with_outcome = with_most.arg(outcome_word(alloc))?;
     let with_state = with_outcome.arg(state_word(alloc))?;
-    let with_json = with_state.arg(orders_json_word(alloc))?;
+    let with_first = with_state.arg(first_word(alloc))?;
+    let with_order = with_first.arg(order_word(alloc))?;
+    let with_json = with_order.arg(orders_json_word(alloc))?;
     let with_file = with_json.arg(callers_file(alloc))?;
     Ok(with_file)
 }
@@ -320,7 +370,8 @@ fn help_command<'a>(alloc: Global) -> Result<Command<'a>, AllocError>
     let command = Command::new(alloc, "help").about(
         "Tells a form of each call, or of one what its keys take",
     );
-    let with_word = command.arg(call_word(alloc))?;
+    let as_json = command.arg(as_json_word(alloc, "A line of JSON for each call"))?;
+    let with_word = as_json.arg(call_word(alloc))?;
     Ok(with_word)
 }
 

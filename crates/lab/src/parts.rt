@@ -2,16 +2,24 @@
 ghost use Rattle.std.specs.Prelude.{IfErr};
 ghost use Rattle.lab_streams.specs.Streams.{EndsEarly};
 
-use crate::explains::{explained_callers, explained_draws, explained_orders, explained_plays};
-use crate::helps::help;
+use crate::explains::{
+    explained_callers, explained_draws, explained_orders, explained_plays, explained_states,
+};
+use crate::helps::{help, help_json};
 use clap::ArgMatches;
 use lab_drives::live;
+use lab_notes::note_files;
 use lab_plays::check_files;
 use lab_streams::{
     REFUSED, Source, Stream, asked_of, convert, converting_of, drawing_of, driving_of, playing_of,
 };
 use std::io;
 use std::rt::Files;
+
+// Whether a word that takes no value stands there.
+fn is_set(matches: &ArgMatches<'_>, id: &str) -> bool {
+    matches.get_one(id).unwrap_or(false)
+}
 
 /// Does what the words ask for, and answers the status. It ends early only for want of memory, or where a stream has
 /// failed.
@@ -27,7 +35,11 @@ pub fn do_part<R: Files + AllocGlobal, I: Source, O: Stream, E: Stream>(
     match matches.subcommand() {
         Some(("check", inner)) => {
             let files = inner.get_strs("FILE").unwrap_or(&[]);
-            check_files(rt, inner.get_str("bank"), files, out, err)
+            if is_set(inner, "json") {
+                note_files(rt, inner.get_str("bank"), files, out, err)
+            } else {
+                check_files(rt, inner.get_str("bank"), files, out, err)
+            }
         }
         Some(("draw", inner)) => explained_draws(
             rt,
@@ -40,7 +52,12 @@ pub fn do_part<R: Files + AllocGlobal, I: Source, O: Stream, E: Stream>(
         ),
         Some(("play", inner)) => {
             let files = inner.get_strs("FILE").unwrap_or(&[]);
-            explained_plays(rt, playing_of(inner), files, input, out, err)
+            let playing = playing_of(inner);
+            if is_set(inner, "states") {
+                explained_states(rt, playing, files, input, out, err)
+            } else {
+                explained_plays(rt, playing, files, input, out, err)
+            }
         }
         Some(("convert", inner)) => {
             let asked = converting_of(inner);
@@ -49,7 +66,13 @@ pub fn do_part<R: Files + AllocGlobal, I: Source, O: Stream, E: Stream>(
         Some(("live", inner)) => live(rt, driving_of(inner), input, out, err),
         Some(("orders", inner)) => explained_orders(rt, &asked_of(inner), input, out, err),
         Some(("callers", inner)) => explained_callers(rt, driving_of(inner), input, out, err),
-        Some(("help", inner)) => help(rt.alloc(), inner.get_str("WORD"), out, err),
+        Some(("help", inner)) => {
+            if is_set(inner, "json") {
+                help_json(rt.alloc(), inner.get_str("WORD"), out, err)
+            } else {
+                help(rt.alloc(), inner.get_str("WORD"), out, err)
+            }
+        }
         _ => Ok(REFUSED),
     }
 }

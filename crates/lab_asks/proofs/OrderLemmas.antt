@@ -1,6 +1,6 @@
 -- The report and the first outcome that is against what is asked, as the definitions of orders have them.
-use Rattle.std.proofs.Common.{◌≡◌, ◌⊎◌, inr, List, ℕ, Bool, true, Option, Result, Ok, Err, IfOk, OnOk, refl, subst}
-use Rattle.std.specs.Prelude.{IsSomeAnd, is_ok, position, string_bytes}
+use Rattle.std.proofs.Common.{◌≡◌, ◌⊎◌, ◌++◌, inr, List, ℕ, Bool, true, false, Option, Result, Ok, Err, IfOk, OnOk, ap, append_assoc, codes, decimal, refl, subst, sym}
+use Rattle.std.specs.Prelude.{IsSomeAnd, MatchBool, is_ok, position, string_bytes}
 use Rattle.std.specs.Io.KnownBytes.{Appends}
 use Rattle.evl_kernel.specs.state.States.{Handler}
 use Rattle.lab_orders.specs.declared.tallies.Tally.{Tally}
@@ -16,7 +16,9 @@ use Rattle.lab_scenario_orders.specs.Scenarios.{order_scenario}
 use Rattle.lab_scenario_orders.specs.declared.texts.TextFault.{TextFault}
 use Rattle.lab_kinds.specs.declared.kinds.TextKind.{TextKind}
 use Rattle.lab_streams.specs.Endings.{line_about}
-use Rattle.lab_asks.specs.Orders.{first_against, impossible_in, json_of, order_of, report_of, scenario_of, text_fault_words}
+use Rattle.lab_asks.specs.OneOrder.{order_of}
+use Rattle.lab_asks.specs.Orders.{impossible_in, text_fault_words}
+use Rattle.lab_asks.specs.Outcomes.{first_against, json_of, report_of, scenario_of}
 use Rattle.lab_streams.specs.Readings.{Reading}
 use Rattle.lab_streams.specs.Outputs.{Output, Writes, WritesOfText, WritesOverBank, refuses}
 use Rattle.lab_streams.proofs.OutputLemmas.{told_of}
@@ -61,3 +63,21 @@ pub refused_kinded : (E : Type 0) (Is : Output → Type 0) (old quiet spoken : O
 refused_kinded E Is old quiet spoken name kind other fault was r same is says ends =
     told_of E Is old quiet spoken (line_about name) (text_fault_words other fault) was r is
     (subst (λ (k : TextKind). OnOk was (IsSomeAnd (text_fault_words k fault) (λ w. Appends quiet spoken (line_about name w)))) same says) ends
+
+-- the one of two, by a test
+pub is_first : (b : Bool) (A B : Type 0) → b ≡ true → A → MatchBool b A B
+is_first true A B e a = a
+is_first false A B e a = cc
+
+pub is_second : (b : Bool) (A B : Type 0) → b ≡ false → B → MatchBool b A B
+is_second true A B e a = cc
+is_second false A B e a = a
+
+-- a number and words behind it, in a line
+pub word_line : (name : List ℕ) (number : ℕ)
+    → name ++ (codes ": --order: word " ++ (decimal number ++ codes " is no caller\n")) ≡ line_about name (codes "--order: word " ++ (decimal number ++ codes " is no caller"))
+word_line name number = ap (λ (rest : List ℕ). name ++ (codes ": --order: word " ++ rest)) (sym (append_assoc (decimal number) (codes " is no caller") (codes "\n")))
+
+pub made_line : (name : List ℕ) (number : ℕ)
+    → name ++ (codes ": --order: step " ++ (decimal number ++ codes " can't be made\n")) ≡ line_about name (codes "--order: step " ++ (decimal number ++ codes " can't be made"))
+made_line name number = ap (λ (rest : List ℕ). name ++ (codes ": --order: step " ++ rest)) (sym (append_assoc (decimal number) (codes " can't be made") (codes "\n")))

@@ -1,8 +1,11 @@
 //! What `lab orders` tells of all orders of callers' calls, or of their atomic steps, and what came of what was asked.
 #![tactic(auto)]
 
+mod copies;
+mod one_order;
 mod order_faults;
 mod orders;
+mod step_orders;
 mod verdicts;
 
 pub use orders::tell_orders;

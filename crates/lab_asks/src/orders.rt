@@ -3,20 +3,24 @@ ghost use Rattle.std.specs.Prelude.{◌≡◌, ◌-◌, ◌++◌, codes, decimal
 ghost use Rattle.std.specs.Io.KnownBytes.{Appends};
 ghost use Rattle.evl_plans.specs.Told.{handler_of};
 ghost use Rattle.lab_streams.specs.Endings.{line_about};
-ghost use Rattle.lab_asks.specs.Orders.{IsSetTo, IsUnpicked, TellsAsked, TellsGiven, TellsOrders, TellsOutcomes, TellsPossible, TellsRead, TellsText, impossible_in, json_of, json_told, order_at, order_in, order_of, outcomes_told, report_of, report_told, scenario_of, scenario_told, state_told, text_name};
+ghost use Rattle.lab_asks.specs.Orders.{IsSetTo, IsUnpicked, TellsAll, TellsAsked, TellsEither, TellsGiven, TellsOrders, TellsOutcomes, TellsPossible, TellsRead, TellsText, impossible_in, json_of, json_told, order_at, order_in, order_of, outcomes_told, report_of, report_told, scenario_of, scenario_told, state_told, text_name};
 ghost use Rattle.lab_streams.specs.Outputs.{Writes, WritesOfText};
 ghost use Rattle.lab_streams.specs.Streams.{EndsEarly};
 
+use crate::copies::Copies;
+use crate::one_order::{print_order, tell_first, tell_order};
 use crate::order_faults::{tell_ask_fault, tell_impossible, tell_text_fault};
+use crate::step_orders::tell_steps;
 use crate::verdicts::tell_against;
-use evl_plans::{Planned, copied_bank};
+use evl_plans::Planned;
 use lab_kinds::kind_of;
 use lab_lines::callers_text;
 use lab_orders::{First, OrdersError, Tally};
 use lab_scenario_orders::{
-    Ask, Asked as Answered, BankMaker, Callers, Never, ask_all, first_impossible, leaving,
-    read_ask, read_callers, scenario_of, write_json, write_report,
+    Ask, Asked as Answered, Callers, Never, ask_all, first_impossible, leaving, read_ask,
+    read_callers, write_json, write_report,
 };
+use lab_step_texts::asks_steps;
 use lab_streams::{
     AT_FAULT, Asked, Shown, Stream, as_orders, read_plans, read_text, refused, tell_place,
     tell_refused, tell_unread,
@@ -25,23 +29,15 @@ use std::alloc::{AllocError, Global};
 use std::io::{self, Read};
 use std::rt::Files;
 
-// Callbacks that are copied for each kernel.
-#[derive(Drop)]
-struct Copies<'a> {
-    plans: &'a [Planned],
-}
-
-impl<'a> BankMaker for Copies<'a> {
-    ghost use Rattle.std.specs.Prelude.{map};
-    ghost use Rattle.evl_plans.specs.Told.{handler_of};
-
-    type Made = Planned;
-
-    ghost bank = { λ copies. map handler_of copies.plans.now };
-
-    fn make(&self, alloc: Global) -> Result<Vec<Planned>, AllocError> {
-        copied_bank(alloc, self.plans)
-    }
+// What is printed of all orders.
+#[derive(Clone, Copy, PartialEq, Eq, Debug)]
+enum View {
+    Report,
+    Json,
+    // The scenario of the outcome with this number, from 1.
+    Outcome(u32),
+    // That of the first order that leads to a moment as the question with this number looks for, from 1.
+    State(u32),
 }
 
 // Prints the outcomes.
@@ -118,23 +114,6 @@ fn tell_json<O: Stream, E: Stream>(
 {
     print_json(alloc, callers, ask, answered, out)?;
     tell_against(err, asked.name(), ask, answered)
-}
-
-// Prints an order as a scenario.
-fn print_order<O: Stream>(
-    alloc: Global,
-    callers: &Callers,
-    bank: &Copies<'_>,
-    order: &[u16],
-    out: &mut O,
-) -> io::Result<()>
-    ensures text { OnOk result (Appends (O.contents out.old) (O.contents out.new) (order_of callers.now order.now)) }
-    ensures early { IfErr result (EndsEarly false (O.has_failed out.new) false) }
-{
-    match scenario_of(alloc, callers, bank, order) {
-        Ok(scenario) => out.write_all(scenario.as_bytes()),
-        Err(error) => Err(error.into()),
-    }
 }
 
 // Prints the scenario of an outcome.
@@ -253,6 +232,7 @@ pub fn outcome_at(all: &[Tally], number: u32) -> Option<&Tally>
 fn tell_answered<O: Stream, E: Stream>(
     alloc: Global,
     asked: &Asked<'_>,
+    view: View,
     callers: &Callers,
     ask: &Ask,
     bank: &Copies<'_>,
@@ -260,28 +240,52 @@ fn tell_answered<O: Stream, E: Stream>(
     out: &mut O,
     err: &mut E,
 ) -> io::Result<u8>
-    ensures writes { IfOk result (Writes (λ output. output ≡ outcomes_told asked.now.shown (text_name asked.now) callers.now ask.now answered.now.outcomes answered.now.against) (O.contents out.old) (O.contents out.new) (E.contents err.old) (E.contents err.new)) }
+    ensures writes { IfOk result (Writes (λ output. output ≡ outcomes_told view (text_name asked.now) callers.now ask.now answered.now.outcomes answered.now.against) (O.contents out.old) (O.contents out.new) (E.contents err.old) (E.contents err.new)) }
     ensures early { IfErr result (EndsEarly false (O.has_failed out.new) (E.has_failed err.new)) }
 {
-    match asked.shown {
-        Shown::Outcome(number) => {
+    match view {
+        View::Outcome(number) => {
             let outcome = outcome_at(answered.outcomes.all.as_slice(), number);
             tell_scenario(
                 alloc, asked, number, callers, ask, bank, answered, outcome, out, err,
             )
         }
-        Shown::State(number) => {
+        View::State(number) => {
             let order = order_at(answered.outcomes.firsts.as_slice(), number);
             tell_state(
                 alloc, asked, number, callers, ask, bank, answered, order, out, err,
             )
         }
-        Shown::Json => tell_json(alloc, asked, callers, ask, answered, out, err),
-        Shown::Report => tell_report(alloc, asked, callers, ask, bank, answered, out, err),
+        View::Json => tell_json(alloc, asked, callers, ask, answered, out, err),
+        View::Report => tell_report(alloc, asked, callers, ask, bank, answered, out, err),
     }
 }
 
 // Goes through all orders, and answers the status.
+fn go_through_all<O: Stream, E: Stream>(
+    alloc: Global,
+    asked: &Asked<'_>,
+    view: View,
+    callers: &Callers,
+    ask: &Ask,
+    bank: &Copies<'_>,
+    out: &mut O,
+    err: &mut E,
+) -> io::Result<u8>
+    ensures writes { IfOk result (Writes (TellsAll (map handler_of bank.now.plans.now) asked.now.most view (text_name asked.now) callers.now ask.now) (O.contents out.old) (O.contents out.new) (E.contents err.old) (E.contents err.new)) }
+    ensures early { IfErr result (EndsEarly false (O.has_failed out.new) (E.has_failed err.new)) }
+{
+    match ask_all(alloc, callers, bank, ask, asked.most) {
+        Ok(answered) => tell_answered(alloc, asked, view, callers, ask, bank, &answered, out, err),
+        Err(OrdersError::Count) => {
+            let told = tell_refused(err, asked.name(), "more orders than can be counted");
+            refused(told)
+        }
+        Err(OrdersError::Memory) => Err(AllocError.into()),
+    }
+}
+
+// Goes through the orders that are asked for, and answers the status.
 fn go_through<O: Stream, E: Stream>(
     alloc: Global,
     asked: &Asked<'_>,
@@ -295,13 +299,21 @@ fn go_through<O: Stream, E: Stream>(
     ensures early { IfErr result (EndsEarly false (O.has_failed out.new) (E.has_failed err.new)) }
 {
     let bank = Copies { plans };
-    match ask_all(alloc, callers, &bank, ask, asked.most) {
-        Ok(answered) => tell_answered(alloc, asked, callers, ask, &bank, &answered, out, err),
-        Err(OrdersError::Count) => {
-            let told = tell_refused(err, asked.name(), "more orders than can be counted");
-            refused(told)
+    match asked.shown {
+        Shown::First => tell_first(alloc, asked, callers, ask, &bank, out, err),
+        Shown::Order(text) => tell_order(alloc, asked, text, callers, &bank, out, err),
+        Shown::Report => {
+            go_through_all(alloc, asked, View::Report, callers, ask, &bank, out, err)
         }
-        Err(OrdersError::Memory) => Err(AllocError.into()),
+        Shown::Json => go_through_all(alloc, asked, View::Json, callers, ask, &bank, out, err),
+        Shown::Outcome(number) => {
+            let view = View::Outcome(number);
+            go_through_all(alloc, asked, view, callers, ask, &bank, out, err)
+        }
+        Shown::State(number) => {
+            let view = View::State(number);
+            go_through_all(alloc, asked, view, callers, ask, &bank, out, err)
+        }
     }
 }
 
@@ -426,6 +438,26 @@ fn tell_text<O: Stream, E: Stream>(
     }
 }
 
+// Goes through all orders of a text's calls, or of its callers' steps, and answers the status.
+fn tell_either<O: Stream, E: Stream>(
+    alloc: Global,
+    asked: &Asked<'_>,
+    plans: &[Planned],
+    text: &[u8],
+    out: &mut O,
+    err: &mut E,
+) -> io::Result<u8>
+    ensures writes { IfOk result (Writes (TellsEither (map handler_of plans.now) asked.now.most asked.now.shown (text_name asked.now) text.now) (O.contents out.old) (O.contents out.new) (E.contents err.old) (E.contents err.new)) }
+    ensures early { IfErr result (EndsEarly false (O.has_failed out.new) (E.has_failed err.new)) }
+{
+    let steps = asks_steps(alloc, text)?;
+    if steps {
+        tell_steps(alloc, asked, text, out, err)
+    } else {
+        tell_text(alloc, asked, plans, text, out, err)
+    }
+}
+
 // Goes through all orders of the text of callers that stands for a text, and answers the status.
 fn tell_given<O: Stream, E: Stream>(
     alloc: Global,
@@ -439,7 +471,7 @@ fn tell_given<O: Stream, E: Stream>(
     ensures early { IfErr result (EndsEarly false (O.has_failed out.new) (E.has_failed err.new)) }
 {
     match callers_text(alloc, text) {
-        Ok(plain) => tell_text(alloc, asked, plans, plain.as_slice(), out, err),
+        Ok(plain) => tell_either(alloc, asked, plans, plain.as_slice(), out, err),
         Err(fault) => refused(tell_place(err, asked.name(), &fault)),
     }
 }

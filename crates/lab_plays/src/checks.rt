@@ -17,8 +17,8 @@ use std::alloc::{AllocError, Global};
 use std::io;
 use std::rt::Files;
 
-// Tells the warnings of a scenario without fault; a text of another kind has none.
-fn warn(
+/// Tells the warnings of a scenario without fault; a text of another kind has none.
+pub fn warn(
     alloc: Global,
     plans: &[Planned],
     kind: TextKind,

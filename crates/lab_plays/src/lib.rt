@@ -9,5 +9,6 @@ mod folders;
 mod plays;
 mod records;
 
-pub use checks::check_files;
+pub use checks::{check_files, warn};
+pub use expects::{Judged, judge};
 pub use plays::play_files;

@@ -1,6 +1,7 @@
 pub mod Banks
 pub mod Endings
 pub mod Lines
+pub mod OrderWords
 pub mod Outputs
 pub mod Readings
 pub mod Streams

@@ -7,8 +7,6 @@ use Rattle.clap.specs.declared.parser.matches.Found.{Found}
 use Rattle.evl_shell.specs.Arguments.{number_of}
 use Rattle.lab_streams.specs.declared.words.Form.{Form}
 use Rattle.lab_streams.specs.declared.words.Form.TheVariants.{Svg, Html, Events, Table, Rows}
-use Rattle.lab_streams.specs.declared.words.Shown.{Shown}
-use Rattle.lab_streams.specs.declared.words.Shown.TheVariants as shown
 use Rattle.lab_streams.specs.declared.words.Way.{Way}
 use Rattle.lab_streams.specs.declared.words.Way.TheVariants.{Down, Across, Fitting}
 use Rattle.lab_streams.specs.declared.words.Telling.{Telling}
@@ -21,20 +19,6 @@ is_set found id = option_map_or (λ text. bytes_eq text (codes "true")) (one_tex
 -- the number behind a word
 abbrev pub number_at : Found → List ℕ → Option ℕ
 number_at found id = option_and_then number_of (one_text found id)
-
--- what is printed of all orders, by the first of these words that stands there
-abbrev pub state_of : Option ℕ → Shown
-state_of None = shown.Report
-state_of (Some number) = shown.State number
-
-abbrev pub outcome_of : Option ℕ → Shown → Shown
-outcome_of None other = other
-outcome_of (Some number) other = shown.Outcome number
-
-abbrev pub shown_of : Found → Shown
-shown_of found =
-    if is_set found (codes "json") then shown.Json
-    else outcome_of (number_at found (codes "outcome")) (state_of (number_at found (codes "state")))
 
 -- the form of a picture, by the first of these words that stands there
 abbrev pub form_of : Found → Form

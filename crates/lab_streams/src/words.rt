@@ -2,6 +2,7 @@
 ghost use Rattle.std.specs.Prelude.{◌≡◌, codes, option_map, unwrap_or};
 ghost use Rattle.clap.specs.Words.{first_value, found_of};
 ghost use Rattle.lab_streams.specs.Words as words;
+ghost use Rattle.lab_streams.specs.OrderWords.{Shows};
 ghost use Rattle.lab_streams.specs.Words.{AsksFor};
 
 use clap::ArgMatches;
@@ -139,9 +140,9 @@ fn way_of(matches: &ArgMatches<'_>) -> Way
     }
 }
 
-/// What is printed of all orders.
+/// What is printed of all orders, or which order alone is asked for.
 #[derive(Clone, Copy, PartialEq, Eq, Debug)]
-pub enum Shown {
+pub enum Shown<'a> {
     /// The report.
     Report,
     /// The same as JSON.
@@ -150,6 +151,10 @@ pub enum Shown {
     Outcome(u32),
     /// That of the first order to a moment as the question with this number looks for, from 1.
     State(u32),
+    /// That of the first order that is against what is asked; the search ends there.
+    First,
+    /// That of the order that this text tells.
+    Order(&'a str),
 }
 
 /// What `orders` is asked for: the file of a bank, how many moments one number of steps may lead to, what is printed, and
@@ -158,7 +163,7 @@ pub enum Shown {
 pub struct Asked<'a> {
     pub bank: Option<&'a str>,
     pub most: usize,
-    pub shown: Shown,
+    pub shown: Shown<'a>,
     pub file: Option<&'a str>,
 }
 
@@ -232,12 +237,18 @@ pub fn driving_of<'a>(matches: &ArgMatches<'a>) -> Driving<'a>
     }
 }
 
-// What is printed of all orders.
-fn shown_of(matches: &ArgMatches<'_>) -> Shown
-    ensures { result ≡ words.shown_of (found_of matches.now) }
+// What is printed of all orders, or which order alone is asked for.
+fn shown_of<'a>(matches: &ArgMatches<'a>) -> Shown<'a>
+    ensures { Shows (found_of matches.now) result }
 {
     if is_set(matches, "json") {
         return Shown::Json;
+    }
+    if is_set(matches, "first") {
+        return Shown::First;
+    }
+    if let Some(order) = matches.get_str("order") {
+        return Shown::Order(order);
     }
     if let Some(number) = number_at(matches, "outcome") {
         return Shown::Outcome(number);
@@ -252,7 +263,7 @@ fn shown_of(matches: &ArgMatches<'_>) -> Shown
 pub fn asked_of<'a>(matches: &ArgMatches<'a>) -> Asked<'a>
     ensures bank { option_map (λ file. file.now) result.bank ≡ first_value (found_of matches.now) (codes "bank") }
     ensures most { result.most ≡ unwrap_or (words.number_at (found_of matches.now) (codes "most")) 100000 }
-    ensures shown { result.shown ≡ words.shown_of (found_of matches.now) }
+    ensures shown { Shows (found_of matches.now) result.shown }
     ensures file { option_map (λ file. file.now) result.file ≡ first_value (found_of matches.now) (codes "FILE") }
 {
     Asked {

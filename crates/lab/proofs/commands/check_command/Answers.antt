@@ -12,6 +12,8 @@ returns c =
     let local = ap (λ f. f.has_globals) c.about-command.ensures ∙ c.new.ensures.local in
     let over_bank = c.in_ok-over_bank.ensures.shape c.bank_word.ensures.1 ∙ ap₂ with_rule start c.bank_word.ensures.0 in
     let local_over_bank = c.in_ok-over_bank.ensures.globals ∙ ap₂ ◌||◌ local c.bank_word.ensures.1 in
-    let with_files = c.in_ok-with_files.ensures.shape c.checked_files.ensures.1 ∙ ap₂ with_rule over_bank c.checked_files.ensures.0 in
-    let local_with_files = c.in_ok-with_files.ensures.globals ∙ ap₂ ◌||◌ local_over_bank c.checked_files.ensures.1 in
+    let as_json = c.in_ok-as_json.ensures.shape c.as_json_word.ensures.1 ∙ ap₂ with_rule over_bank c.as_json_word.ensures.0 in
+    let local_as_json = c.in_ok-as_json.ensures.globals ∙ ap₂ ◌||◌ local_over_bank c.as_json_word.ensures.1 in
+    let with_files = c.in_ok-with_files.ensures.shape c.checked_files.ensures.1 ∙ ap₂ with_rule as_json c.checked_files.ensures.0 in
+    let local_with_files = c.in_ok-with_files.ensures.globals ∙ ap₂ ◌||◌ local_as_json c.checked_files.ensures.1 in
     λ old new adds. adds.shape local_with_files ∙ ap (λ app. with_subcommand (app_of old) app.top) with_files

@@ -1,26 +1,41 @@
-use Rattle.std.proofs.Common.{◌≡◌, ◌∙◌, ℕ, Option, ap, codes, inl, inr, map, option_map, refl}
+use Rattle.std.proofs.Common.{codes, map, option_map}
 use Rattle.std.specs.Prelude.{unwrap_or}
 use Rattle.evl_plans.specs.Told.{handler_of as told_by}
-use Rattle.lab_streams.specs.Endings.{line_about}
-use Rattle.lab_asks.specs.Orders.{TellsOutcomes, outcomes_told}
-use Rattle.lab_streams.specs.Outputs.{Output}
-use Rattle.lab_asks.proofs.OrderLemmas.{against_is}
-use Rattle.lab_streams.proofs.OutputLemmas.{told, written_as}
+use Rattle.lab_asks.specs.Orders.{TellsOutcomes}
+use Rattle.lab_asks.specs.Outcomes.{TellsAll}
+use Rattle.lab_asks.specs.declared.orders.View.TheVariants as view
+use Rattle.lab_streams.specs.declared.words.Shown.TheVariants.{Report, Json, Outcome, State}
+use Rattle.lab_streams.proofs.OutputLemmas.{written_as}
 use Rattle.lab_asks.proofs.orders.go_through.Goals as goal
 
-pub returns-in-Ok-clause-writes : goal.returns-in-Ok-clause-writes
-returns-in-Ok-clause-writes g c =
+pub returns-in-Report-clause-writes : goal.returns-in-Report-clause-writes
+returns-in-Report-clause-writes g c =
     let name = unwrap_or (option_map (λ file. file.now) c.args.asked.now.file) (codes "-") in
-    let one = c.args.asked.now.shown in
-    let callers = c.args.callers.now in
-    let ask = c.args.ask.now in
-    let found = c.in-Ok.answered.outcomes in
-    let output : Option ℕ → Output = λ place. outcomes_told one name callers ask found place in
-    written_as _ (TellsOutcomes (map told_by c.args.plans.now) c.args.asked.now.most one name callers ask) _ _ _ _ (λ output. output ≡ outcomes_told one name callers ask found c.in-Ok.answered.against) c.tell_answered.result
-    (λ o is. inl (found, c.in-Ok.ensures.outcomes, is ∙ ap output (c.in-Ok.ensures.against ∙ against_is ask found.all.items))) c.tell_answered.ensures.writes
+    let bank = map told_by c.args.plans.now in
+    let most = c.args.asked.now.most in
+    rw c.in-Report.is (written_as _ (TellsOutcomes bank most Report name c.args.callers.now c.args.ask.now) _ _ _ _ (TellsAll bank most view.Report name c.args.callers.now c.args.ask.now)
+    c.go_through_all.result (λ output h. h) c.go_through_all.ensures.writes)
 
-pub returns-in-Err-Count-clause-writes : goal.returns-in-Err-Count-clause-writes
-returns-in-Err-Count-clause-writes g c =
+pub returns-in-Json-clause-writes : goal.returns-in-Json-clause-writes
+returns-in-Json-clause-writes g c =
     let name = unwrap_or (option_map (λ file. file.now) c.args.asked.now.file) (codes "-") in
-    told _ (TellsOutcomes (map told_by c.args.plans.now) c.args.asked.now.most c.args.asked.now.shown name c.args.callers.now c.args.ask.now) _ _ _ (line_about name (codes "more orders than can be counted"))
-    c.tell_refused-told.result c.refused.result (inr refl) (rw c.name.ensures at c.tell_refused-told.ensures.line) c.refused.ensures.status
+    let bank = map told_by c.args.plans.now in
+    let most = c.args.asked.now.most in
+    rw c.in-Json.is (written_as _ (TellsOutcomes bank most Json name c.args.callers.now c.args.ask.now) _ _ _ _ (TellsAll bank most view.Json name c.args.callers.now c.args.ask.now)
+    c.go_through_all-in-Json.result (λ output h. h) c.go_through_all-in-Json.ensures.writes)
+
+pub returns-in-Outcome-clause-writes : goal.returns-in-Outcome-clause-writes
+returns-in-Outcome-clause-writes g c =
+    let name = unwrap_or (option_map (λ file. file.now) c.args.asked.now.file) (codes "-") in
+    let bank = map told_by c.args.plans.now in
+    let most = c.args.asked.now.most in
+    rw c.in-Outcome.is (written_as _ (TellsOutcomes bank most (Outcome c.in-Outcome.number) name c.args.callers.now c.args.ask.now) _ _ _ _ (TellsAll bank most (view.Outcome c.in-Outcome.number) name c.args.callers.now c.args.ask.now)
+    c.go_through_all-in-Outcome.result (λ output h. h) c.go_through_all-in-Outcome.ensures.writes)
+
+pub returns-in-State-clause-writes : goal.returns-in-State-clause-writes
+returns-in-State-clause-writes g c =
+    let name = unwrap_or (option_map (λ file. file.now) c.args.asked.now.file) (codes "-") in
+    let bank = map told_by c.args.plans.now in
+    let most = c.args.asked.now.most in
+    rw c.in-State.is (written_as _ (TellsOutcomes bank most (State c.in-State.number) name c.args.callers.now c.args.ask.now) _ _ _ _ (TellsAll bank most (view.State c.in-State.number) name c.args.callers.now c.args.ask.now)
+    c.go_through_all-in-State.result (λ output h. h) c.go_through_all-in-State.ensures.writes)

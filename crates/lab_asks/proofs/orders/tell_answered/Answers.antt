@@ -1,7 +1,7 @@
 use Rattle.std.proofs.Common.{◌≡◌, IfOk, List, ℕ, Option, codes, option_map, subst}
 use Rattle.std.specs.Prelude.{unwrap_or}
 use Rattle.lab_orders.specs.declared.tallies.Tally.{Tally}
-use Rattle.lab_asks.specs.Orders.{scenario_told, state_told}
+use Rattle.lab_asks.specs.Outcomes.{scenario_told, state_told}
 use Rattle.lab_streams.specs.Outputs.{Writes}
 use Rattle.lab_asks.proofs.orders.tell_answered.Goals as goal
 

@@ -3,7 +3,7 @@ use Rattle.std.specs.Prelude.{unwrap_or}
 use Rattle.evl_plans.specs.Told.{handler_of as told_by}
 use Rattle.lab_lines.specs.Kinds.{IsOfCallers}
 use Rattle.lab_streams.specs.Lines.{place_text}
-use Rattle.lab_asks.specs.Orders.{TellsText, TellsGiven}
+use Rattle.lab_asks.specs.Orders.{TellsEither, TellsGiven}
 use Rattle.lab_streams.proofs.OutputLemmas.{told_of, unread_said, written_as}
 use Rattle.lab_asks.proofs.orders.tell_given.Goals as goal
 
@@ -14,8 +14,8 @@ returns-in-Ok-clause-writes g c =
     let most = c.args.asked.now.most in
     let one = c.args.asked.now.shown in
     let is : IsOfCallers c.args.text.items c.as_slice.result.now = subst (IsOfCallers c.args.text.items) (sym c.as_slice.ensures.value) c.in-Ok.ensures.plain in
-    written_as _ (TellsGiven bank most one name c.args.text.items) _ _ _ _ (TellsText bank most one name c.as_slice.result.now) c.tell_text.result
-    (λ output h. inl (c.as_slice.result.now, is, h)) c.tell_text.ensures.writes
+    written_as _ (TellsGiven bank most one name c.args.text.items) _ _ _ _ (TellsEither bank most one name c.as_slice.result.now) c.tell_either.result
+    (λ output h. inl (c.as_slice.result.now, is, h)) c.tell_either.ensures.writes
 
 pub returns-in-Err-clause-writes : goal.returns-in-Err-clause-writes
 returns-in-Err-clause-writes g c =

@@ -1,7 +1,7 @@
 use Rattle.std.proofs.Common.{◌∙◌, List, ℕ, OnOk, subst}
 use Rattle.std.specs.Io.KnownBytes.{Appends}
 use Rattle.lab_asks.proofs.OrderLemmas.{order_is}
-use Rattle.lab_asks.proofs.orders.print_order.Goals as goal
+use Rattle.lab_asks.proofs.one_order.print_order.Goals as goal
 
 pub returns-in-Ok-clause-text : goal.returns-in-Ok-clause-text
 returns-in-Ok-clause-text g c =

@@ -1,0 +1,29 @@
+-- One of two things that a truth value chooses; what is told of a step, and of the number of outcomes.
+use Rattle.std.proofs.Common.{◌≡◌, ℕ, ◌++◌, Bool, true, false, List, Option, Some, codes, decimal, length, refl, sym, ap, ◌∙◌, append_assoc}
+use Rattle.std.specs.Prelude.{MatchBool}
+use Rattle.lab_scenario_orders.specs.declared.asks.Ask.{Ask}
+use Rattle.lab_step_orders.specs.declared.outcomes.StepOutcomes.{StepOutcomes}
+use Rattle.lab_streams.specs.Endings.{line_about}
+use Rattle.lab_asks.specs.StepOrders.{wanted_text}
+use Rattle.lab_asks.specs.Verdicts.{is_count_against}
+
+pub is_first : (b : Bool) (A B : Type 0) → b ≡ true → A → MatchBool b A B
+is_first true A B e a = a
+is_first false A B e a = cc
+
+pub is_second : (b : Bool) (A B : Type 0) → b ≡ false → B → MatchBool b A B
+is_second true A B e b = cc
+is_second false A B e b = b
+
+-- a number and words behind it, in a line
+pub step_line : (name words said : List ℕ) (number : ℕ) → said ≡ words
+    → name ++ (codes ": bad step " ++ (decimal number ++ (codes ": " ++ (said ++ codes "\n")))) ≡ line_about name (codes "bad step " ++ (decimal number ++ (codes ": " ++ words)))
+step_line name words said number same =
+    ap (λ (w : List ℕ). name ++ (codes ": bad step " ++ (decimal number ++ (codes ": " ++ (w ++ codes "\n"))))) same
+    ∙ ap (λ (rest : List ℕ). name ++ (codes ": bad step " ++ rest)) (sym (append_assoc (decimal number) (codes ": " ++ words) (codes "\n")))
+
+-- other outcomes than as many as are asked for
+pub counted_text : (name : List ℕ) (asks : Ask) (found : StepOutcomes) (o : Option ℕ) (wanted : ℕ) → o ≡ Some wanted → is_count_against wanted found.whole (length found.all.items) ≡ true
+    → wanted_text name asks found o
+    ≡ codes "lab: " ++ (name ++ (codes ": outcomes: " ++ (decimal (length found.all.items) ++ (codes ", and not " ++ (decimal wanted ++ codes "\n")))))
+counted_text name asks found o wanted is against = rw (is, against) refl

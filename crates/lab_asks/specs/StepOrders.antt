@@ -1,0 +1,136 @@
+-- What `lab orders` tells of the orders of callers' atomic steps.
+use Rattle.std.specs.Prelude.{◌≡◌, ◌⊎◌, ◌+◌, ◌-◌, ◌^◌, min, ℕ, Bool, ◌||◌, MatchBool, if◌then◌else◌, length, nat_lt, List, ◌++◌, codes, decimal, position, slice_get, string_bytes, Option, Some, None, IsSomeAnd, option_and_then}
+use Rattle.toml.specs.Parse.{parse_document}
+use Rattle.lab_orders.specs.declared.levels.OrdersError.TheVariants.{Count}
+use Rattle.lab_orders.specs.declared.tallies.Tally.{Tally}
+use Rattle.lab_scenario_orders.specs.Asks.{Asks, ask_table, is_against}
+use Rattle.lab_scenario_orders.specs.KeyLines.{IsPlaced}
+use Rattle.lab_scenario_orders.specs.Splits.{ask_part}
+use Rattle.lab_scenario_orders.specs.declared.asks.Ask.{Ask}
+use Rattle.lab_scenario_orders.specs.declared.asks.AskFault.{AskFault}
+use Rattle.lab_scenario_orders.specs.declared.asks.Never.{Never}
+use Rattle.lab_step_orders.specs.Outcomes.{AreOutcomes, CanNotTell}
+use Rattle.lab_step_orders.specs.Reports.{outcome_text, report_text}
+use Rattle.lab_step_orders.specs.declared.crews.Crew.{Crew}
+use Rattle.lab_step_orders.specs.declared.outcomes.StepOutcomes.{StepOutcomes}
+use Rattle.lab_step_texts.specs.Answers.{first_impossible}
+use Rattle.lab_step_texts.specs.Crews.{IsReadAs, IsRefused}
+use Rattle.lab_step_texts.specs.Faults.{step_words}
+use Rattle.lab_step_texts.specs.declared.faults.StepsFault.{StepsFault}
+use Rattle.lab_step_texts.specs.declared.faults.StepsFault.TheVariants.{Text, Mixed, Mutex, Step}
+use Rattle.lab_streams.specs.Endings.{fault_words, line_about}
+use Rattle.lab_asks.specs.Asks.{ask_fault_line, impossible_text}
+use Rattle.lab_streams.specs.Outputs.{Output, refuses}
+use Rattle.lab_asks.specs.Verdicts.{holds_text, is_asked, is_count_against, unanswered_text}
+use Rattle.lab_streams.specs.declared.words.Shown.{Shown}
+use Rattle.lab_streams.specs.declared.words.Shown.TheVariants.{Report, Json, Outcome, State, First, Order}
+
+-- ---- the outcomes
+
+-- the place of the first outcome that is against what is asked
+unfoldable pub first_against : Ask → List Tally → Option ℕ
+first_against asks outcomes = position (λ outcome. is_against asks (string_bytes outcome.told)) outcomes
+
+unfoldable pub report_of : Crew → StepOutcomes → List ℕ
+report_of crew found = report_text crew found
+
+unfoldable pub outcome_of : Crew → ℕ → Tally → List ℕ
+outcome_of crew number outcome = outcome_text crew number outcome
+
+-- ---- what came of what is asked
+
+-- no outcome is against what is asked: where nothing is asked, nothing is said
+abbrev pub none_text : List ℕ → Ask → StepOutcomes → List ℕ
+none_text name asks found = if is_asked asks then (if found.whole then holds_text name asks found.count else unanswered_text name found.steps) else codes ""
+
+abbrev pub none_status : Ask → StepOutcomes → ℕ
+none_status asks found = if is_asked asks then (if found.whole then 0 else 5) else 0
+
+-- or there are other outcomes than so many
+abbrev pub wanted_text : List ℕ → Ask → StepOutcomes → Option ℕ → List ℕ
+wanted_text name asks found None = none_text name asks found
+wanted_text name asks found (Some wanted) =
+    if is_count_against wanted found.whole (length found.all.items)
+    then codes "lab: " ++ (name ++ (codes ": outcomes: " ++ (decimal (length found.all.items) ++ (codes ", and not " ++ (decimal wanted ++ codes "\n")))))
+    else none_text name asks found
+
+abbrev pub wanted_status : Ask → StepOutcomes → Option ℕ → ℕ
+wanted_status asks found None = none_status asks found
+wanted_status asks found (Some wanted) = if is_count_against wanted found.whole (length found.all.items) then 1 else none_status asks found
+
+-- or the outcome with this number is against it, from 1
+abbrev pub asked_text : List ℕ → Ask → StepOutcomes → Option ℕ → List ℕ
+asked_text name asks found None = wanted_text name asks found asks.outcomes
+asked_text name asks found (Some place) = codes "lab: " ++ (name ++ (codes ": outcome " ++ (decimal (min (place + 1) (2 ^ 64 - 1)) ++ codes " is against what is asked\n")))
+
+abbrev pub asked_status : Ask → StepOutcomes → Option ℕ → ℕ
+asked_status asks found None = wanted_status asks found asks.outcomes
+asked_status asks found (Some place) = 1
+
+-- this is printed, and what came of what is asked is said
+abbrev pub verdict : List ℕ → List ℕ → Ask → StepOutcomes → Output
+verdict printed name asks found =
+    let place = first_against asks found.all.items in
+    record { printed = printed; said = asked_text name asks found place; status = asked_status asks found place }
+
+-- the outcome with this number alone, if there is one
+abbrev pub one_told : List ℕ → ℕ → Crew → Ask → StepOutcomes → Option Tally → Output
+one_told name number crew asks found None = refuses 2 (line_about name (codes "there is no outcome " ++ decimal number))
+one_told name number crew asks found (Some outcome) = verdict (outcome_of crew number outcome) name asks found
+
+-- the report, or one outcome alone; there are no questions about moments, no JSON, and no order alone
+abbrev pub outcomes_told : Shown → List ℕ → Crew → Ask → StepOutcomes → Output
+outcomes_told Report name crew asks found = verdict (report_of crew found) name asks found
+outcomes_told Json name crew asks found = refuses 2 (line_about name (codes "--json is for orders of whole calls"))
+outcomes_told (Outcome number) name crew asks found = one_told name number crew asks found (slice_get found.all.items (number - 1))
+outcomes_told (State number) name crew asks found = refuses 2 (line_about name (codes "no order leads to state " ++ decimal number))
+outcomes_told First name crew asks found = refuses 2 (line_about name (codes "--first is for orders of whole calls"))
+outcomes_told (Order text) name crew asks found = refuses 2 (line_about name (codes "--order is for orders of whole calls"))
+
+-- the outcomes of all orders, or that there are more of these, or of runs of one length, than a count can tell
+abbrev pub TellsFound : ℕ → Shown → List ℕ → Crew → Ask → Output → Type 0
+TellsFound most one name crew asks output =
+    ((found : StepOutcomes) × AreOutcomes crew most found × (output ≡ outcomes_told one name crew asks found))
+    ⊎ (CanNotTell crew Count × (output ≡ refuses 2 (line_about name (codes "more orders than can be counted"))))
+
+-- ---- what is asked
+
+-- where each answer of `never` is possible
+abbrev pub TellsPossible : ℕ → Shown → List ℕ → Crew → Ask → Option Never → Output → Type 0
+TellsPossible most one name crew asks None output = TellsFound most one name crew asks output
+TellsPossible most one name crew asks (Some never) output = output ≡ refuses 2 (impossible_text name never None)
+
+unfoldable pub impossible_in : Crew → Ask → Option Never
+impossible_in crew asks = first_impossible crew.callers.items asks.never.items
+
+-- what can't be asked of orders of steps: threads aren't picked, and no facts are known of a moment
+abbrev pub asks_whole : Ask → Bool
+asks_whole asks = asks.as_picked || nat_lt 0 (length asks.watches.items)
+
+abbrev pub TellsUnpicked : ℕ → Shown → List ℕ → Crew → Ask → Bool → Output → Type 0
+TellsUnpicked most one name crew asks whole output =
+    MatchBool whole (output ≡ refuses 2 (line_about name (codes "as_picked, never_state, sometimes and always are for orders of whole calls"))) (TellsPossible most one name crew asks (impossible_in crew asks) output)
+
+-- the tables `[ask]` of a text ask this
+abbrev pub IsAskOf : List ℕ → Ask → Type 0
+IsAskOf text asks = IsSomeAnd (option_and_then ask_table (parse_document (ask_part text))) (λ table. Asks table asks)
+
+-- what is asked; or it can't be read, for some fault
+abbrev pub TellsAsked : ℕ → Shown → List ℕ → Crew → List ℕ → Output → Type 0
+TellsAsked most one name crew text output =
+    ((asks : Ask) × IsAskOf text asks × TellsUnpicked most one name crew asks (asks_whole asks) output)
+    ⊎ ((fault : AskFault) × IsPlaced text fault × IsSomeAnd (ask_fault_line name fault) (λ line. output ≡ refuses 2 line))
+
+-- ---- the text
+
+-- why it isn't gone through
+abbrev pub steps_fault_words : StepsFault → Option (List ℕ)
+steps_fault_words (Text fault) = fault_words fault
+steps_fault_words Mixed = Some (codes "a [[setup]] behind a [[step]]")
+steps_fault_words Mutex = Some (codes "bad board: a mutex that nests or has a ceiling goes through the core's lock")
+steps_fault_words (Step number fault) = Some (codes "bad step " ++ (decimal number ++ (codes ": " ++ step_words fault)))
+
+abbrev pub TellsSteps : ℕ → Shown → List ℕ → List ℕ → Output → Type 0
+TellsSteps most one name text output =
+    ((crew : Crew) × IsReadAs text crew × TellsAsked most one name crew text output)
+    ⊎ ((fault : StepsFault) × IsRefused text fault × IsSomeAnd (steps_fault_words fault) (λ words. output ≡ refuses 2 (line_about name words)))

@@ -1,0 +1,409 @@
+//! `lab orders` on a text of callers: every order of their atomic steps on words.
+ghost use Rattle.std.specs.Prelude.{◌≡◌, ◌-◌, ◌++◌, codes, decimal, option_map, slice_get, string_bytes, IfOk, OnOk, IsSomeAnd, IfErr, false};
+ghost use Rattle.std.specs.Io.KnownBytes.{Appends};
+ghost use Rattle.lab_streams.specs.Endings.{line_about};
+ghost use Rattle.lab_asks.specs.Orders.{impossible_text, text_name};
+ghost use Rattle.lab_streams.specs.Outputs.{Writes};
+ghost use Rattle.lab_asks.specs.StepOrders.{TellsAsked, TellsFound, TellsPossible, TellsSteps, TellsUnpicked, asked_status, asked_text, asks_whole, first_against, impossible_in, none_status, none_text, one_told, outcome_of, outcomes_told, report_of, steps_fault_words, verdict, wanted_status, wanted_text};
+ghost use Rattle.lab_streams.specs.Streams.{EndsEarly};
+ghost use Rattle.lab_streams.specs.declared.words.Shown.TheVariants.{Report};
+
+use crate::order_faults::{tell_ask_fault, tell_meant};
+use crate::orders::{outcome_at, tell_no_outcome, tell_no_state};
+use crate::verdicts::{is_asked, is_count_against, tell_holds, tell_unanswered};
+use lab_orders::{OrdersError, Tally};
+use lab_scenario_orders::{Ask, Never, first_against};
+use lab_step_orders::{
+    Crew, StepOutcomes, step_outcomes_of, write_step_outcome, write_step_report,
+};
+use lab_step_texts::{StepFault, StepsFault, first_impossible, read_step_ask, read_steps};
+use lab_streams::{AGAINST, AT_FAULT, Asked, Shown, Stream, refused, tell_fault, tell_refused};
+use std::alloc::{AllocError, Global};
+use std::io;
+
+// Tells what holds where no outcome is against what is asked, and answers the status.
+fn tell_none<E: Stream>(err: &mut E, name: &str, ask: &Ask, found: &StepOutcomes) -> io::Result<u8>
+    ensures status { IfOk result (λ status. status ≡ none_status ask.now found.now) }
+    ensures line { OnOk result (Appends (E.contents err.old) (E.contents err.new) (none_text name.now ask.now found.now)) }
+    ensures early { IfErr result (EndsEarly false false (E.has_failed err.new)) }
+{
+    if !is_asked(ask) {
+        return Ok(0);
+    }
+    if found.whole {
+        tell_holds(err, name, ask, found.count)
+    } else {
+        tell_unanswered(err, name, found.steps)
+    }
+}
+
+// Tells whether there are as many outcomes as are asked for, and else what holds, and answers the status.
+fn tell_number<E: Stream>(
+    err: &mut E,
+    name: &str,
+    ask: &Ask,
+    found: &StepOutcomes,
+) -> io::Result<u8>
+    ensures status { IfOk result (λ status. status ≡ wanted_status ask.now found.now ask.now.outcomes) }
+    ensures line { OnOk result (Appends (E.contents err.old) (E.contents err.new) (wanted_text name.now ask.now found.now ask.now.outcomes)) }
+    ensures early { IfErr result (EndsEarly false false (E.has_failed err.new)) }
+{
+    let Some(wanted) = ask.outcomes else {
+        return tell_none(err, name, ask, found);
+    };
+    let outcomes = found.all.as_slice();
+    let count = outcomes.len();
+    if is_count_against(usize::from(wanted), found.whole, count) {
+        writeln!(err, "lab: {name}: outcomes: {count}, and not {wanted}")?;
+        return Ok(AGAINST);
+    }
+    tell_none(err, name, ask, found)
+}
+
+// Tells what came of what is asked, and answers the status.
+fn tell_against<E: Stream>(
+    err: &mut E,
+    name: &str,
+    ask: &Ask,
+    found: &StepOutcomes,
+    against: Option<usize>,
+) -> io::Result<u8>
+    ensures status { IfOk result (λ status. status ≡ asked_status ask.now found.now against) }
+    ensures line { OnOk result (Appends (E.contents err.old) (E.contents err.new) (asked_text name.now ask.now found.now against)) }
+    ensures early { IfErr result (EndsEarly false false (E.has_failed err.new)) }
+{
+    if let Some(place) = against {
+        let number = place.saturating_add(1);
+        writeln!(
+            err,
+            "lab: {name}: outcome {number} is against what is asked"
+        )?;
+        return Ok(AGAINST);
+    }
+    tell_number(err, name, ask, found)
+}
+
+// The place of the first outcome that is against what is asked.
+#[tactic(auto, unfolding(crate::specs::StepOrders::first_against))]
+fn against_in(ask: &Ask, found: &StepOutcomes) -> Option<usize>
+    ensures { result ≡ first_against ask.now found.now.all.items }
+{
+    first_against(ask, found.all.as_slice())
+}
+
+// Prints this, and tells what came of what is asked; answers the status.
+fn tell_printed<O: Stream, E: Stream>(
+    printed: &str,
+    name: &str,
+    ask: &Ask,
+    found: &StepOutcomes,
+    out: &mut O,
+    err: &mut E,
+) -> io::Result<u8>
+    ensures writes { IfOk result (Writes (λ output. output ≡ verdict printed.now name.now ask.now found.now) (O.contents out.old) (O.contents out.new) (E.contents err.old) (E.contents err.new)) }
+    ensures early { IfErr result (EndsEarly false (O.has_failed out.new) (E.has_failed err.new)) }
+{
+    out.write_all(printed.as_bytes())?;
+    tell_against(err, name, ask, found, against_in(ask, found))
+}
+
+// The report.
+#[tactic(auto, unfolding(crate::specs::StepOrders::report_of))]
+fn report_of(alloc: Global, crew: &Crew, found: &StepOutcomes) -> Result<String, AllocError>
+    ensures { IfOk result (λ text. string_bytes text ≡ report_of crew.now found.now) }
+{
+    write_step_report(alloc, crew, found)
+}
+
+// One outcome, told as this number.
+#[tactic(auto, unfolding(crate::specs::StepOrders::outcome_of))]
+fn outcome_of(
+    alloc: Global,
+    crew: &Crew,
+    number: u32,
+    outcome: &Tally,
+) -> Result<String, AllocError>
+    ensures { IfOk result (λ text. string_bytes text ≡ outcome_of crew.now number outcome.now) }
+{
+    write_step_outcome(alloc, crew, number as usize, outcome)
+}
+
+// Prints the report, and answers the status.
+fn tell_report<O: Stream, E: Stream>(
+    alloc: Global,
+    name: &str,
+    crew: &Crew,
+    ask: &Ask,
+    found: &StepOutcomes,
+    out: &mut O,
+    err: &mut E,
+) -> io::Result<u8>
+    ensures writes { IfOk result (Writes (λ output. output ≡ outcomes_told Report name.now crew.now ask.now found.now) (O.contents out.old) (O.contents out.new) (E.contents err.old) (E.contents err.new)) }
+    ensures early { IfErr result (EndsEarly false (O.has_failed out.new) (E.has_failed err.new)) }
+{
+    match report_of(alloc, crew, found) {
+        Ok(report) => tell_printed(report.as_str(), name, ask, found, out, err),
+        Err(error) => Err(error.into()),
+    }
+}
+
+// Prints this outcome alone, and answers the status.
+fn tell_shown<O: Stream, E: Stream>(
+    alloc: Global,
+    name: &str,
+    number: u32,
+    crew: &Crew,
+    ask: &Ask,
+    found: &StepOutcomes,
+    outcome: &Tally,
+    out: &mut O,
+    err: &mut E,
+) -> io::Result<u8>
+    ensures writes { IfOk result (Writes (λ output. output ≡ verdict (outcome_of crew.now number outcome.now) name.now ask.now found.now) (O.contents out.old) (O.contents out.new) (E.contents err.old) (E.contents err.new)) }
+    ensures early { IfErr result (EndsEarly false (O.has_failed out.new) (E.has_failed err.new)) }
+{
+    match outcome_of(alloc, crew, number, outcome) {
+        Ok(text) => tell_printed(text.as_str(), name, ask, found, out, err),
+        Err(error) => Err(error.into()),
+    }
+}
+
+// Prints the outcome with this number alone, if there is one, and answers the status.
+fn tell_one<O: Stream, E: Stream>(
+    alloc: Global,
+    name: &str,
+    number: u32,
+    crew: &Crew,
+    ask: &Ask,
+    found: &StepOutcomes,
+    outcome: Option<&Tally>,
+    out: &mut O,
+    err: &mut E,
+) -> io::Result<u8>
+    ensures writes { IfOk result (Writes (λ output. output ≡ one_told name.now number crew.now ask.now found.now (option_map (λ outcome. outcome.now) outcome.entry)) (O.contents out.old) (O.contents out.new) (E.contents err.old) (E.contents err.new)) }
+    ensures early { IfErr result (EndsEarly false (O.has_failed out.new) (E.has_failed err.new)) }
+{
+    match outcome {
+        Some(one) => tell_shown(alloc, name, number, crew, ask, found, one, out, err),
+        None => tell_no_outcome(err, name, number),
+    }
+}
+
+// Prints what is asked for of the outcomes, and answers the status.
+fn tell_found<O: Stream, E: Stream>(
+    alloc: Global,
+    asked: &Asked<'_>,
+    crew: &Crew,
+    ask: &Ask,
+    found: &StepOutcomes,
+    out: &mut O,
+    err: &mut E,
+) -> io::Result<u8>
+    ensures writes { IfOk result (Writes (λ output. output ≡ outcomes_told asked.now.shown (text_name asked.now) crew.now ask.now found.now) (O.contents out.old) (O.contents out.new) (E.contents err.old) (E.contents err.new)) }
+    ensures early { IfErr result (EndsEarly false (O.has_failed out.new) (E.has_failed err.new)) }
+{
+    match asked.shown {
+        Shown::Report => tell_report(alloc, asked.name(), crew, ask, found, out, err),
+        Shown::Json => {
+            let told = tell_refused(err, asked.name(), "--json is for orders of whole calls");
+            refused(told)
+        }
+        Shown::Outcome(number) => {
+            let outcome = outcome_at(found.all.as_slice(), number);
+            tell_one(
+                alloc,
+                asked.name(),
+                number,
+                crew,
+                ask,
+                found,
+                outcome,
+                out,
+                err,
+            )
+        }
+        Shown::State(number) => tell_no_state(err, asked.name(), number),
+        Shown::First => {
+            let told = tell_refused(err, asked.name(), "--first is for orders of whole calls");
+            refused(told)
+        }
+        Shown::Order(_) => {
+            let told = tell_refused(err, asked.name(), "--order is for orders of whole calls");
+            refused(told)
+        }
+    }
+}
+
+// Goes through all orders, and answers the status.
+fn go_through<O: Stream, E: Stream>(
+    alloc: Global,
+    asked: &Asked<'_>,
+    crew: &Crew,
+    ask: &Ask,
+    out: &mut O,
+    err: &mut E,
+) -> io::Result<u8>
+    ensures writes { IfOk result (Writes (TellsFound asked.now.most asked.now.shown (text_name asked.now) crew.now ask.now) (O.contents out.old) (O.contents out.new) (E.contents err.old) (E.contents err.new)) }
+    ensures early { IfErr result (EndsEarly false (O.has_failed out.new) (E.has_failed err.new)) }
+{
+    match step_outcomes_of(alloc, crew, asked.most) {
+        Ok(found) => tell_found(alloc, asked, crew, ask, &found, out, err),
+        Err(OrdersError::Count) => {
+            let told = tell_refused(err, asked.name(), "more orders than can be counted");
+            refused(told)
+        }
+        Err(OrdersError::Memory) => Err(AllocError.into()),
+    }
+}
+
+// The first answer of `never` that no call of its caller can have.
+#[tactic(auto, unfolding(crate::specs::StepOrders::impossible_in))]
+fn impossible_in<'a>(alloc: Global, crew: &Crew, ask: &'a Ask) -> io::Result<Option<&'a Never>>
+    ensures found { IfOk result (λ found. option_map (λ never. never.now) found ≡ impossible_in crew.now ask.now) }
+    ensures early { IfErr result (EndsEarly false false false) }
+{
+    match first_impossible(alloc, crew, ask) {
+        Ok(found) => Ok(found),
+        Err(error) => Err(error.into()),
+    }
+}
+
+// Tells such an answer; where there is none, goes through all orders. Answers the status.
+fn tell_possible<O: Stream, E: Stream>(
+    alloc: Global,
+    asked: &Asked<'_>,
+    crew: &Crew,
+    ask: &Ask,
+    found: Option<&Never>,
+    out: &mut O,
+    err: &mut E,
+) -> io::Result<u8>
+    ensures writes { IfOk result (Writes (TellsPossible asked.now.most asked.now.shown (text_name asked.now) crew.now ask.now (option_map (λ never. never.now) found.entry)) (O.contents out.old) (O.contents out.new) (E.contents err.old) (E.contents err.new)) }
+    ensures early { IfErr result (EndsEarly false (O.has_failed out.new) (E.has_failed err.new)) }
+{
+    match found {
+        None => go_through(alloc, asked, crew, ask, out, err),
+        Some(never) => refused(tell_meant(err, asked.name(), never, None)),
+    }
+}
+
+// Goes through all orders where each answer of `never` is possible, and answers the status.
+fn tell_asked<O: Stream, E: Stream>(
+    alloc: Global,
+    asked: &Asked<'_>,
+    crew: &Crew,
+    ask: &Ask,
+    out: &mut O,
+    err: &mut E,
+) -> io::Result<u8>
+    ensures writes { IfOk result (Writes (TellsPossible asked.now.most asked.now.shown (text_name asked.now) crew.now ask.now (impossible_in crew.now ask.now)) (O.contents out.old) (O.contents out.new) (E.contents err.old) (E.contents err.new)) }
+    ensures early { IfErr result (EndsEarly false (O.has_failed out.new) (E.has_failed err.new)) }
+{
+    let found = impossible_in(alloc, crew, ask)?;
+    tell_possible(alloc, asked, crew, ask, found, out, err)
+}
+
+// Goes through all orders, unless steps shall be made as threads are picked; answers the status.
+fn tell_unpicked<O: Stream, E: Stream>(
+    alloc: Global,
+    asked: &Asked<'_>,
+    crew: &Crew,
+    ask: &Ask,
+    whole: bool,
+    out: &mut O,
+    err: &mut E,
+) -> io::Result<u8>
+    ensures writes { IfOk result (Writes (TellsUnpicked asked.now.most asked.now.shown (text_name asked.now) crew.now ask.now whole) (O.contents out.old) (O.contents out.new) (E.contents err.old) (E.contents err.new)) }
+    ensures early { IfErr result (EndsEarly false (O.has_failed out.new) (E.has_failed err.new)) }
+{
+    if whole {
+        let told = tell_refused(
+            err,
+            asked.name(),
+            "as_picked, never_state, sometimes and always are for orders of whole calls",
+        );
+        refused(told)
+    } else {
+        tell_asked(alloc, asked, crew, ask, out, err)
+    }
+}
+
+// Whether something is asked that can't be of orders of steps.
+fn asks_whole(ask: &Ask) -> bool
+    ensures { result ≡ asks_whole ask.now }
+{
+    ask.as_picked || ask.watches.len() > 0
+}
+
+// Tells what is asked of callers, and answers the status.
+fn tell_crew<O: Stream, E: Stream>(
+    alloc: Global,
+    asked: &Asked<'_>,
+    crew: &Crew,
+    text: &[u8],
+    out: &mut O,
+    err: &mut E,
+) -> io::Result<u8>
+    ensures writes { IfOk result (Writes (TellsAsked asked.now.most asked.now.shown (text_name asked.now) crew.now text.now) (O.contents out.old) (O.contents out.new) (E.contents err.old) (E.contents err.new)) }
+    ensures early { IfErr result (EndsEarly false (O.has_failed out.new) (E.has_failed err.new)) }
+{
+    match read_step_ask(alloc, crew, text) {
+        Ok(ask) => tell_unpicked(alloc, asked, crew, &ask, asks_whole(&ask), out, err),
+        Err(fault) => {
+            let told = tell_ask_fault(err, asked.name(), fault);
+            refused(told)
+        }
+    }
+}
+
+// Tells why a step isn't gone through.
+fn tell_step<E: Stream>(
+    err: &mut E,
+    name: &str,
+    number: usize,
+    fault: StepFault,
+) -> io::Result<bool>
+    ensures text { OnOk result (IsSomeAnd (steps_fault_words (StepsFault.Step number fault)) (λ words. Appends (E.contents err.old) (E.contents err.new) (line_about name.now words))) }
+    ensures early { IfErr result (EndsEarly false false (E.has_failed err.new)) }
+{
+    let words = fault.words();
+    writeln!(err, "{name}: bad step {number}: {words}")?;
+    Ok(true)
+}
+
+// Tells why a text isn't gone through.
+fn tell_steps_fault<E: Stream>(err: &mut E, name: &str, fault: StepsFault) -> io::Result<bool>
+    ensures text { OnOk result (IsSomeAnd (steps_fault_words fault) (λ words. Appends (E.contents err.old) (E.contents err.new) (line_about name.now words))) }
+    ensures early { IfErr result (EndsEarly false false (E.has_failed err.new)) }
+{
+    match fault {
+        StepsFault::Text(fault) => tell_fault(err, name, fault),
+        StepsFault::Mixed => tell_refused(err, name, "a [[setup]] behind a [[step]]"),
+        StepsFault::Mutex => {
+            tell_refused(
+                err,
+                name,
+                "bad board: a mutex that nests or has a ceiling goes through the core's lock",
+            )
+        }
+        StepsFault::Step(number, fault) => tell_step(err, name, number, fault),
+    }
+}
+
+/// Goes through all orders of the steps of a text's callers, and answers the status: 1 where an outcome is against what
+/// is asked, 5 where none is and longer orders were cut off, 2 where the text is refused.
+pub fn tell_steps<O: Stream, E: Stream>(
+    alloc: Global,
+    asked: &Asked<'_>,
+    text: &[u8],
+    out: &mut O,
+    err: &mut E,
+) -> io::Result<u8>
+    ensures writes { IfOk result (Writes (TellsSteps asked.now.most asked.now.shown (text_name asked.now) text.now) (O.contents out.old) (O.contents out.new) (E.contents err.old) (E.contents err.new)) }
+    ensures early { IfErr result (EndsEarly false (O.has_failed out.new) (E.has_failed err.new)) }
+{
+    match read_steps(alloc, text) {
+        Ok(crew) => tell_crew(alloc, asked, &crew, text, out, err),
+        Err(fault) => refused(tell_steps_fault(err, asked.name(), fault)),
+    }
+}

@@ -1,0 +1,2 @@
+mod NoteLemmas
+mod StateLemmas
