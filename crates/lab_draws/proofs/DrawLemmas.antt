@@ -11,7 +11,6 @@ use Rattle.evl_kernel.specs.state.States.{Handler}
 use Rattle.evl_plans.specs.Told.{handler_of}
 use Rattle.evl_plans.specs.Traces.{Refuses}
 use Rattle.lab_traces.specs.Says.{IsLine, IsMisread, read_of, says_some, text_of, whole_lines}
-use Rattle.lab_traces.specs.declared.traces.Misread.{Misread}
 use Rattle.lab_traces.specs.declared.traces.Misread.TheVariants as misread
 use Rattle.lab_traces.specs.declared.traces.TraceLine.{TraceLine}
 use Rattle.lab_drawing.specs.Pictures.{going_text, shown_with}

@@ -82,8 +82,8 @@ fn known_moments(
 // The most lines of which a picture goes down where no way is asked for.
 const MOST_DOWN: usize = 60;
 
-// Which way a picture of so many marks goes.
-fn goes_for(way: Way, count: usize) -> Goes
+/// Which way a picture of so many marks goes.
+pub(crate) fn goes_for(way: Way, count: usize) -> Goes
     ensures { result ≡ goes_for way count }
 {
     match way {

@@ -4,5 +4,7 @@
 mod draw_faults;
 mod draw_html;
 mod draws;
+mod machines;
 
 pub use draws::draw;
+pub use machines::{Pictured, machine_picture};

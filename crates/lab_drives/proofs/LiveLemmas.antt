@@ -1,13 +1,10 @@
 -- What a driven machine answers, line by line and part by part of the input.
-use Rattle.std.proofs.Common.{◌≡◌, ◌≢◌, ◌∙◌, ◌⊎◌, inl, inr, ℕ, ◌<◌, ◌≤◌, ◌==◌, List, [], ◌∷◌, ◌++◌, append-nil, append_assoc, length, take, Bool, true, false, not, Option, Some, None, Result, Ok, Err, IfOk, OnOk, option_map, refl, sym, ap, subst}
+use Rattle.std.proofs.Common.{◌≡◌, ◌∙◌, ◌⊎◌, inl, inr, ℕ, ◌≤◌, List, [], ◌∷◌, ◌++◌, append-nil, append_assoc, length, Bool, true, false, Option, Some, None, Result, Ok, Err, IfOk, OnOk, option_map, refl, sym, ap, subst}
 use Rattle.std.specs.Prelude.{IsSomeAnd, codes, is_ok}
-use Rattle.std.specs.List.{All}
-use Rattle.std.specs.Io.KnownBytes.{Appends, Consumes, IsAtEnd}
+use Rattle.std.specs.Io.KnownBytes.{Appends}
 use Rattle.std.proofs.KnownBytes.{Appends-trans}
 use Rattle.std.proofs.lemmas.List.{append_cancel_left}
 use Rattle.std.proofs.lemmas.List.Elements.{All-append, All-cons, All-nil}
-use Rattle.std.proofs.lemmas.List.Folds.{list_all-append}
-use Rattle.std.proofs.lemmas.Bool.{ne_eqb}
 use Rattle.evl_kernel.specs.histories.Histories.{History}
 use Rattle.evl_kernel.specs.state.States.{Handler}
 use Rattle.evl_scenario.specs.Lines.{line_feed}
@@ -20,7 +17,7 @@ use Rattle.evl_scenario.specs.declared.steps.Step.{Step}
 use Rattle.lab_traces.specs.Parts.{Lacks}
 use Rattle.lab_traces.specs.Says.{whole_lines}
 use Rattle.lab_faults.specs.Steps.{as_text}
-use Rattle.lab_live.specs.Answers.{Answers, Does, TellsScenario, TellsUnwritten, Undoes, comment_text, may_call, may_change, script_of, trimmed}
+use Rattle.lab_live.specs.Answers.{Answers, Does, TellsScenario, TellsUnwritten, Undoes, comment_text, may_call, may_change, path_behind, script_of, trimmed}
 use Rattle.lab_live.specs.Helps.{help_text, word_help}
 use Rattle.lab_lines.specs.Lines.{step_of_line}
 use Rattle.lab_live.specs.Sessions.{Driven, TellsEntry, TellsFull, all_but_last}
@@ -30,7 +27,8 @@ use Rattle.lab_kinds.specs.Kinds.{kind_of}
 use Rattle.lab_kinds.specs.declared.kinds.TextKind.{TextKind}
 use Rattle.lab_streams.specs.Endings.{kinded_words, line_about}
 use Rattle.lab_lines.specs.Kinds.{IsPlain}
-use Rattle.lab_drives.specs.Lives.{AnswersAll, AnswersEach, AnswersInput, AnswersLine, Drives, DrivesGiven, DrivesText, DrivesUnlessRefused, Hears, Lives, SaysUndriven, SaysUnopened, default_text}
+use Rattle.lab_drives.specs.Writings.{AnswersLine, AnswersOther, DrawsOr, WritesFile, WritesPicture, unwritten_text, written_text}
+use Rattle.lab_drives.specs.Lives.{AnswersAll, AnswersEach, AnswersInput, Drives, DrivesGiven, DrivesText, DrivesUnlessRefused, Hears, Lives, SaysUndriven, SaysUnopened, default_text}
 use Rattle.lab_streams.specs.Readings.{most_bytes}
 use Rattle.lab_streams.specs.declared.texts.Unread.{Unread}
 use Rattle.lab_streams.specs.declared.words.Driving.{Driving}
@@ -89,7 +87,7 @@ pub line_answered : (line : List ℕ) (old new : Driven) (before after : List �
     → (trimmed line ≡ codes "ps all" → after ≡ before ++ whole_text old) → (trimmed line ≡ codes "?" → after ≡ before ++ help_text)
     → (trimmed line ≡ codes "help" → after ≡ before ++ help_text)
     → ((word : List ℕ) → trimmed line ≡ 63 ∷ 32 ∷ word → after ≡ before ++ word_help (as_text word))
-    → AnswersLine line old new a.lines
+    → AnswersOther line old new a.lines
 line_answered line old new before after a asked stays undone none comment scenario state whole sign help word_is =
     let own : (text : List ℕ) → after ≡ before ++ text → a.lines ≡ text = λ text is. append_cancel_left before a.lines text (sym a.told ∙ is) in
     record {
@@ -106,6 +104,29 @@ line_answered line old new before after a asked stays undone none comment scenar
       help = λ is. own _ (help is);
       word = λ word is. own _ (word_is word is);
     }
+
+-- ---- lines that write a file
+
+unwritten_told : (script : Script) (before after : List ℕ) → TellsUnwritten script before after → (answer : List ℕ) × TellsUnwritten script [] answer × (after ≡ before ++ answer)
+unwritten_told script before after (inl (long, told)) = (_, inl (long, refl), told)
+unwritten_told script before after (inr (none, told)) = (_, inr (none, refl), told)
+
+file_told : (path : List ℕ) (pages : ℕ) (before after : List ℕ) → WritesFile path pages before after → (answer : List ℕ) × WritesFile path pages [] answer × (after ≡ before ++ answer)
+file_told path pages before after (inl told) = (written_text path pages, inl refl, told)
+file_told path pages before after (inr told) = (unwritten_text path, inr refl, told)
+
+picture_told : (bank : List Handler) (script : Script) (path before after : List ℕ) → WritesPicture bank script path before after
+    → (answer : List ℕ) × WritesPicture bank script path [] answer × (after ≡ before ++ answer)
+picture_told bank script path before after (inl (pictured, is, file)) =
+    let (answer, writes, told) = file_told path pictured.pages before after file in (answer, inl (pictured, is, writes), told)
+picture_told bank script path before after (inr why) = let (answer, writes, told) = unwritten_told script before after why in (answer, inr writes, told)
+
+-- a line by which a picture is drawn
+pub drawn_answered : (line : List ℕ) (s : Driven) (path before after : List ℕ) → path_behind (codes "draw ") (trimmed line) ≡ Some path
+    → WritesPicture s.history.bank (script_of s) path before after → (answer : List ℕ) × AnswersLine line s s answer × (after ≡ before ++ answer)
+drawn_answered line s path before after is writes =
+    let (answer, own, told) = picture_told s.history.bank (script_of s) path before after writes in
+    (answer, subst (λ (o : Option (List ℕ)). DrawsOr o line s s answer) (sym is) (refl, own), told)
 
 -- ---- lines
 

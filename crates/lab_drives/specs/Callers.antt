@@ -1,5 +1,5 @@
 -- What `lab callers` tells of a text of callers.
-use Rattle.std.specs.Prelude.{◌≡◌, ◌⊎◌, ℕ, List, ◌++◌, codes, decimal, false, length, map, string_bytes, Option, Some, None, IsSomeAnd, unwrap_or}
+use Rattle.std.specs.Prelude.{◌≡◌, ◌⊎◌, ℕ, List, ◌++◌, codes, decimal, false, length, map, string_bytes, Option, IsSomeAnd, unwrap_or}
 use Rattle.evl_kernel.specs.state.Openings.{can_open}
 use Rattle.evl_kernel.specs.state.States.{Handler}
 use Rattle.evl_scenario.specs.Lines.{line_feed}

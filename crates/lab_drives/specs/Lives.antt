@@ -1,5 +1,5 @@
--- What `lab live` answers, line by line.
-use Rattle.std.specs.Prelude.{◌≡◌, ◌≤◌, ◌⊎◌, ℕ, List, [], ◌∷◌, ◌++◌, codes, length, true, false, Option, Some, None, IsSomeAnd, is_some, option_map, Ok, Err}
+-- What `lab live` answers to the lines of its input.
+use Rattle.std.specs.Prelude.{◌≡◌, ◌≤◌, ◌⊎◌, ℕ, List, [], ◌∷◌, ◌++◌, codes, length, true, Option, Some, None, IsSomeAnd, is_some, option_map, Ok, Err}
 use Rattle.std.specs.List.{All}
 use Rattle.evl_kernel.specs.state.States.{Handler}
 use Rattle.evl_scenario.specs.Scenarios.{Script, scenario_of}
@@ -9,13 +9,8 @@ use Rattle.lab_kinds.specs.Kinds.{kind_of}
 use Rattle.lab_lines.specs.Kinds.{IsPlain}
 use Rattle.lab_traces.specs.Parts.{Lacks}
 use Rattle.lab_traces.specs.Says.{whole_lines}
-use Rattle.lab_faults.specs.Steps.{as_text}
-use Rattle.lab_live.specs.Answers.{Does, GoesOn, TellsScenario, Undoes, comment_text, may_call, may_change, script_of, trimmed}
-use Rattle.lab_live.specs.Helps.{help_text, word_help}
-use Rattle.lab_lines.specs.Lines.{step_of_line}
 use Rattle.lab_live.specs.Sessions.{Driven, Opens}
-use Rattle.lab_live.specs.States.{state_text}
-use Rattle.lab_live.specs.Wholes.{whole_text}
+use Rattle.lab_drives.specs.Writings.{AnswersLine}
 use Rattle.lab_streams.specs.Banks.{IsBank, Refuses}
 use Rattle.lab_streams.specs.Endings.{kinded_words, line_about}
 use Rattle.lab_streams.specs.Lines.{SaysUnread}
@@ -26,23 +21,6 @@ use Rattle.lab_streams.specs.declared.texts.Unread.{Unread}
 use Rattle.lab_streams.specs.declared.words.Driving.{Driving}
 
 -- ---- lines
-
--- What a line is answered, by what stands there but for blanks at its end: the machine stays, or has one entry more, of which
--- these are the lines, or its last call was taken back; a line that may ask for a call does what it asks for, and `undo` takes the
--- last call back; and of nothing, of a comment, of the scenario so far, of how the machine stands and of help just that is told.
-pub record AnswersLine (line : List ℕ) (old new : Driven) (answer : List ℕ) : Type 0 where
-  pub goes_on : GoesOn old new [] answer
-  pub asked : may_call (trimmed line) ≡ true → Does old new (step_of_line (trimmed line)) [] answer
-  pub stays : may_change (trimmed line) ≡ false → new ≡ old
-  pub undone : trimmed line ≡ codes "undo" → Undoes old new [] answer
-  pub none : trimmed line ≡ [] → answer ≡ []
-  pub comment : (rest : List ℕ) → trimmed line ≡ 35 ∷ rest → answer ≡ comment_text (trimmed line)
-  pub scenario : trimmed line ≡ codes "scenario" → TellsScenario (script_of old) [] answer
-  pub state : trimmed line ≡ codes "ps" → answer ≡ state_text old
-  pub whole : trimmed line ≡ codes "ps all" → answer ≡ whole_text old
-  pub sign : trimmed line ≡ codes "?" → answer ≡ help_text
-  pub help : trimmed line ≡ codes "help" → answer ≡ help_text
-  pub word : (word : List ℕ) → trimmed line ≡ 63 ∷ 32 ∷ word → answer ≡ word_help (as_text word)
 
 -- lines, one after the other
 abbrev pub AnswersEach : List (List ℕ) → Driven → Driven → List ℕ → Type 0

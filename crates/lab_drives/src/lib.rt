@@ -4,6 +4,7 @@
 mod callers;
 mod lives;
 mod prompts;
+mod writings;
 
 pub use callers::drive_callers;
 pub use lives::live;

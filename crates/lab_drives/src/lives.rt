@@ -4,15 +4,17 @@ ghost use Rattle.std.specs.Io.KnownBytes.{Appends};
 ghost use Rattle.evl_plans.specs.Told.{handler_of};
 ghost use Rattle.evl_scenario.specs.Traces.{history_trace};
 ghost use Rattle.lab_traces.specs.Parts.{Lacks};
-ghost use Rattle.lab_drives.specs.Lives.{AnswersInput, AnswersLine, Drives, DrivesGiven, DrivesText, DrivesUnlessRefused, Hears, Lives};
+ghost use Rattle.lab_drives.specs.Lives.{AnswersInput, Drives, DrivesGiven, DrivesText, DrivesUnlessRefused, Hears, Lives};
+ghost use Rattle.lab_drives.specs.Writings.{AnswersLine};
 ghost use Rattle.lab_streams.specs.Outputs.{Output, Writes};
 ghost use Rattle.lab_streams.specs.Texts.{IsAllOf};
 ghost use Rattle.lab_streams.specs.Streams.{EndsEarly};
 
+use crate::writings::answer;
 use evl_plans::Planned;
 use lab_kinds::kind_of;
 use lab_lines::plain_text;
-use lab_live::{Session, answer_line};
+use lab_live::Session;
 use lab_streams::{
     AT_FAULT, Driving, Source, Stream, read_file, read_plans, refused, tell_fault_by, tell_place,
     tell_unread,
@@ -36,8 +38,8 @@ groups = [50]
 ";
 
 // Takes a byte of the input: a line feed ends the line that waits, which is answered; any other byte waits.
-fn take_byte(
-    alloc: Global,
+fn take_byte<R: Files + AllocGlobal>(
+    rt: &R,
     session: &mut Session,
     byte: u8,
     waiting: &mut Vec<u8>,
@@ -48,7 +50,7 @@ fn take_byte(
     ensures heard { OnOk result ((answers : List ℕ) × Hears (byte ∷ []) waiting.old.items waiting.new.items session.old session.new answers × (string_bytes told.new ≡ string_bytes told.old ++ answers)) }
 {
     if byte == b'\n' {
-        answer_line(alloc, session, waiting.as_slice(), told)?;
+        answer(rt, session, waiting.as_slice(), told)?;
         waiting.clear();
         return Ok(());
     }
@@ -57,8 +59,8 @@ fn take_byte(
 }
 
 // Takes bytes of the input.
-fn take_bytes(
-    alloc: Global,
+fn take_bytes<R: Files + AllocGlobal>(
+    rt: &R,
     session: &mut Session,
     bytes: &[u8],
     waiting: &mut Vec<u8>,
@@ -69,14 +71,14 @@ fn take_bytes(
     ensures heard { OnOk result ((answers : List ℕ) × Hears bytes.now waiting.old.items waiting.new.items session.old session.new answers × (string_bytes told.new ≡ string_bytes told.old ++ answers)) }
 {
     for byte in bytes {
-        take_byte(alloc, session, *byte, waiting, told)?;
+        take_byte(rt, session, *byte, waiting, told)?;
     }
     Ok(())
 }
 
 // Takes a part of the input, and prints what its lines are answered.
-fn answer_part<O: Stream>(
-    alloc: Global,
+fn answer_part<R: Files + AllocGlobal, O: Stream>(
+    rt: &R,
     session: &mut Session,
     part: &[u8],
     waiting: &mut Vec<u8>,
@@ -87,8 +89,8 @@ fn answer_part<O: Stream>(
     ensures heard { OnOk result ((answers : List ℕ) × Hears part.now waiting.old.items waiting.new.items session.old session.new answers × Appends (O.contents out.old) (O.contents out.new) answers) }
     ensures early { IfErr result (EndsEarly false (O.has_failed out.new) false) }
 {
-    let mut told = String::new(alloc);
-    take_bytes(alloc, session, part, waiting, &mut told)?;
+    let mut told = String::new(rt.alloc());
+    take_bytes(rt, session, part, waiting, &mut told)?;
     out.write_all(told.as_bytes())
 }
 
@@ -100,8 +102,8 @@ fn front(buffer: &[u8], count: usize) -> &[u8]
 }
 
 // Answers the lines of the input up to its end, and leaves what has no line feed there.
-fn answer_parts<I: Source, O: Stream>(
-    alloc: Global,
+fn answer_parts<R: Files + AllocGlobal, I: Source, O: Stream>(
+    rt: &R,
     session: &mut Session,
     input: &mut I,
     buffer: &mut [u8],
@@ -119,14 +121,14 @@ fn answer_parts<I: Source, O: Stream>(
         if count == 0 {
             return Ok(());
         }
-        answer_part(alloc, session, front(buffer, count), waiting, out)?;
+        answer_part(rt, session, front(buffer, count), waiting, out)?;
     }
     Err(input.endless())
 }
 
 // Answers the last line, which has no line feed.
-fn answer_last<O: Stream>(
-    alloc: Global,
+fn answer_last<R: Files + AllocGlobal, O: Stream>(
+    rt: &R,
     session: &mut Session,
     line: &[u8],
     out: &mut O,
@@ -134,14 +136,14 @@ fn answer_last<O: Stream>(
     ensures answers { OnOk result ((answer : List ℕ) × AnswersLine line.now session.old session.new answer × Appends (O.contents out.old) (O.contents out.new) answer) }
     ensures early { IfErr result (EndsEarly false (O.has_failed out.new) false) }
 {
-    let mut told = String::new(alloc);
-    answer_line(alloc, session, line, &mut told)?;
+    let mut told = String::new(rt.alloc());
+    answer(rt, session, line, &mut told)?;
     out.write_all(told.as_bytes())
 }
 
 // Answers the lines of the input up to its end.
-fn drive<I: Source, O: Stream>(
-    alloc: Global,
+fn drive<R: Files + AllocGlobal, I: Source, O: Stream>(
+    rt: &R,
     session: &mut Session,
     input: &mut I,
     buffer: &mut [u8],
@@ -151,9 +153,9 @@ fn drive<I: Source, O: Stream>(
     ensures answers { OnOk result ((answers : List ℕ) × AnswersInput (I.remaining input.old) session.old session.new answers × Appends (O.contents out.old) (O.contents out.new) answers) }
     ensures early { IfErr result (EndsEarly (I.has_failed input.new) (O.has_failed out.new) false) }
 {
-    let mut waiting = Vec::new(alloc);
-    match answer_parts(alloc, session, input, buffer, &mut waiting, out) {
-        Ok(()) => answer_last(alloc, session, waiting.as_slice(), out),
+    let mut waiting = Vec::new(rt.alloc());
+    match answer_parts(rt, session, input, buffer, &mut waiting, out) {
+        Ok(()) => answer_last(rt, session, waiting.as_slice(), out),
         Err(error) => Err(error),
     }
 }
@@ -170,8 +172,8 @@ fn print_trace<O: Stream>(alloc: Global, session: &Session, out: &mut O) -> io::
 }
 
 // Answers the lines of the input by way of a buffer, and answers the status.
-fn drive_buffered<I: Source, O: Stream>(
-    alloc: Global,
+fn drive_buffered<R: Files + AllocGlobal, I: Source, O: Stream>(
+    rt: &R,
     session: &mut Session,
     input: &mut I,
     out: &mut O,
@@ -180,16 +182,16 @@ fn drive_buffered<I: Source, O: Stream>(
     ensures answers { OnOk result ((answers : List ℕ) × AnswersInput (I.remaining input.old) session.old session.new answers × Appends (O.contents out.old) (O.contents out.new) answers) }
     ensures early { IfErr result (EndsEarly (I.has_failed input.new) (O.has_failed out.new) false) }
 {
-    match vec![in alloc; 0u8; PART] {
-        Ok(mut buffer) => drive(alloc, session, input, buffer.as_mut_slice(), out)?,
+    match vec![in rt.alloc(); 0u8; PART] {
+        Ok(mut buffer) => drive(rt, session, input, buffer.as_mut_slice(), out)?,
         Err(error) => return Err(error.into()),
     }
     Ok(0)
 }
 
 // Prints the trace of the scenario that comes first, and answers the lines of the input.
-fn drive_opened<I: Source, O: Stream>(
-    alloc: Global,
+fn drive_opened<R: Files + AllocGlobal, I: Source, O: Stream>(
+    rt: &R,
     session: &mut Session,
     input: &mut I,
     out: &mut O,
@@ -198,13 +200,13 @@ fn drive_opened<I: Source, O: Stream>(
     ensures drives { OnOk result ((output : Output) × Drives (I.remaining input.old) session.old output × Appends (O.contents out.old) (O.contents out.new) output.printed) }
     ensures early { IfErr result (EndsEarly (I.has_failed input.new) (O.has_failed out.new) false) }
 {
-    print_trace(alloc, session, out)?;
-    drive_buffered(alloc, session, input, out)
+    print_trace(rt.alloc(), session, out)?;
+    drive_buffered(rt, session, input, out)
 }
 
 // Opens a machine over these callbacks and drives it.
-fn drive_plans<I: Source, O: Stream, E: Stream>(
-    alloc: Global,
+fn drive_plans<R: Files + AllocGlobal, I: Source, O: Stream, E: Stream>(
+    rt: &R,
     text: &[u8],
     limit: Option<u32>,
     plans: Vec<Planned>,
@@ -216,14 +218,14 @@ fn drive_plans<I: Source, O: Stream, E: Stream>(
     ensures writes { IfOk result (Writes (DrivesText (map handler_of plans.items) limit (I.remaining input.old) text.now) (O.contents out.old) (O.contents out.new) (E.contents err.old) (E.contents err.new)) }
     ensures early { IfErr result (EndsEarly (I.has_failed input.new) (O.has_failed out.new) (E.has_failed err.new)) }
 {
-    match Session::open(alloc, text, limit, plans) {
+    match Session::open(rt.alloc(), text, limit, plans) {
         Ok(mut session) => {
-            let status = drive_opened(alloc, &mut session, input, out);
+            let status = drive_opened(rt, &mut session, input, out);
             drop(session);
             status
         }
         Err(fault) => {
-            let kind = kind_of(alloc, text)?;
+            let kind = kind_of(rt.alloc(), text)?;
             refused(tell_fault_by(err, "lab", kind, fault))
         }
     }
@@ -242,7 +244,7 @@ fn drive_text<R: Files + AllocGlobal, I: Source, O: Stream, E: Stream>(
     ensures early { IfErr result (EndsEarly (I.has_failed input.new) (O.has_failed out.new) (E.has_failed err.new)) }
 {
     match read_plans(rt, driving.bank, err) {
-        Ok(Some(plans)) => { drive_plans(rt.alloc(), text, driving.limit, plans, input, out, err) }
+        Ok(Some(plans)) => drive_plans(rt, text, driving.limit, plans, input, out, err),
         Ok(None) => Ok(AT_FAULT),
         Err(error) => Err(error),
     }

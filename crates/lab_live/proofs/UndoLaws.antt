@@ -1,10 +1,10 @@
 -- A machine whose last call was taken back.
-use Rattle.std.proofs.Common.{arith, ◌≡◌, ◌≤◌, ◌∙◌, ◌-◌, ◌==◌, false, ℕ, List, [], ◌∷◌, ◌++◌, length, length-append, map, take, append-nil, append_assoc, Some, Result, Ok, refl, sym, ap, subst}
+use Rattle.std.proofs.Common.{arith, ◌≡◌, ◌≤◌, ◌∙◌, ◌-◌, ◌==◌, false, ℕ, List, [], ◌∷◌, ◌++◌, length, length-append, map, take, append-nil, append_assoc, Result, Ok, refl, sym, ap, subst}
 use Rattle.std.proofs.lemmas.List.{length-map, take_all}
 use Rattle.evl_base.specs.declared.call.Call.{Call}
 use Rattle.evl_base.specs.declared.entry.Entry.{Entry}
 use Rattle.evl_base.specs.declared.play.Play.{Play}
-use Rattle.evl_kernel.specs.histories.Histories.{EntryStep, Extends, History, IsLegal, Run, opened_kernel}
+use Rattle.evl_kernel.specs.histories.Histories.{EntryStep, IsLegal, Run, opened_kernel}
 use Rattle.evl_kernel.specs.histories.Laws.{call_of}
 use Rattle.evl_kernel.specs.state.Openings.{opening}
 use Rattle.evl_kernel.specs.state.States.{Handler, State}

@@ -1,5 +1,5 @@
 -- What a line is answered.
-use Rattle.std.specs.Prelude.{◌≡◌, ◌≢◌, ◌⊎◌, ◌==◌, ◌||◌, ℕ, Bool, false, List, [], ◌∷◌, ◌++◌, codes, decimal, length, if◌then◌else◌, Option, Some, None}
+use Rattle.std.specs.Prelude.{◌≡◌, ◌≢◌, ◌⊎◌, ◌==◌, ◌||◌, ℕ, Bool, false, List, [], ◌∷◌, ◌++◌, codes, decimal, drop, length, take, if◌then◌else◌, Option, Some, None}
 use Rattle.std.specs.Str.{bytes_eq, is_utf8}
 use Rattle.evl_base.specs.Call.{call_text}
 use Rattle.evl_base.specs.declared.entry.Entry.{Entry}
@@ -10,6 +10,7 @@ use Rattle.evl_scenario.specs.Scenarios.{Script}
 use Rattle.evl_scenario.specs.Writings.{IsUnwritten, scenario_text, script_of_history}
 use Rattle.evl_scenario.specs.declared.steps.Step.{Step}
 use Rattle.evl_scenario.specs.declared.writing.Unwritten.TheVariants as unwritten
+use Rattle.lab_faults.specs.Steps.{as_text}
 use Rattle.lab_live.specs.Sessions.{Driven, Enters, TakesBack, TellsEntry, TellsFull, all_but_last}
 
 -- ---- the line
@@ -36,6 +37,10 @@ may_call (c ∷ rest) = c == 84 || c == 32
 -- only such a line, and one that takes the last call back, may change the machine
 abbrev pub may_change : List ℕ → Bool
 may_change line = may_call line || bytes_eq line (codes "undo")
+
+-- the path behind a word with which a line begins
+abbrev pub path_behind : List ℕ → List ℕ → Option (List ℕ)
+path_behind word line = if bytes_eq (take (length word) line) word then Some (as_text (drop (length word) line)) else None
 
 -- ---- the machine
 

@@ -78,9 +78,10 @@ notes =
     codes "? WORD tells what a call's keys take\n"
     ++ (codes "ps tells threads, who waits for what, owners, pending lines and timers; ps all ranks, counts, bits, bytes and the date too\n"
     ++ (codes "scenario, or save, prints the calls so far as a scenario\n"
+    ++ (codes "save FILE writes that scenario to FILE, draw FILE its picture\n"
     ++ (codes "undo takes the last call back\n"
     ++ (codes "a line that begins with # is answered with itself; behind a call # and what follows says nothing\n"
-    ++ codes "Ctrl-D ends\n"))))
+    ++ codes "Ctrl-D ends\n")))))
 
 -- the forms, and that
 unfoldable pub help_text : List ℕ

@@ -1,5 +1,5 @@
 //! What a line is answered.
-ghost use Rattle.std.specs.Prelude.{◌≡◌, ◌<◌, ◌+◌, ◌-◌, ◌++◌, ◌∷◌, [], List, ℕ, codes, false, length, slice_get, string_bytes, true, IfErr, OnOk, if◌then◌else◌};
+ghost use Rattle.std.specs.Prelude.{◌≡◌, ◌<◌, ◌+◌, ◌-◌, ◌++◌, ◌∷◌, [], List, ℕ, codes, false, length, option_map, slice_get, string_bytes, true, IfErr, OnOk, if◌then◌else◌};
 ghost use Rattle.std.specs.Option.{option_map_or};
 ghost use Rattle.std.specs.Str.{is_utf8};
 ghost use Rattle.lab_live.specs.Answers as answers;
@@ -21,8 +21,8 @@ use evl_scenario::{Step, Unwritten};
 use lab_lines::{Heard, Unread, read_step_line};
 use std::alloc::{AllocError, Global};
 
-// Writes why there is no scenario.
-fn write_unwritten(told: &mut String, why: Unwritten) -> Result<(), AllocError>
+/// Writes why there is no scenario.
+pub fn write_unwritten(told: &mut String, why: Unwritten) -> Result<(), AllocError>
     ensures { OnOk result ((script : Script) → IsUnwritten why script → TellsUnwritten script (string_bytes told.old) (string_bytes told.new)) }
 {
     match why {
@@ -239,6 +239,7 @@ fn answer_other(
         b"scenario" => write_own_scenario(alloc, told, session),
         b"save" => write_own_scenario(alloc, told, session),
         b"quit" => told.push_str("Ctrl-D ends\n"),
+        b"draw" => told.push_str("! 5: a file is wanted, as draw picture.svg\n"),
         [b'?', b' ', word @ ..] => write_help_of(told, text_of(word)),
         _ => answer_unread(alloc, text, told),
     }
@@ -272,6 +273,17 @@ fn answer_text(
         [b' ', ..] => answer_call(alloc, session, text, told),
         b"undo" => answer_undo(alloc, session, told),
         _ => answer_other(alloc, session, text, told),
+    }
+}
+
+/// The path behind a word with which a line begins; an empty one where it is no UTF-8. Blanks at the line's end are not
+/// of the path.
+pub fn path_behind<'a>(word: &str, line: &'a [u8]) -> Option<&'a str>
+    ensures { option_map (λ path. path.now) result ≡ answers.path_behind word.now (answers.trimmed line.now) }
+{
+    match trimmed(line).strip_prefix(word.as_bytes()) {
+        Some(path) => Some(text_of(path)),
+        None => None,
     }
 }
 

@@ -35,6 +35,7 @@ fn sample(key: &str) -> &'static str
 pub const NOTES: &str = "? WORD tells what a call's keys take
 ps tells threads, who waits for what, owners, pending lines and timers; ps all ranks, counts, bits, bytes and the date too
 scenario, or save, prints the calls so far as a scenario
+save FILE writes that scenario to FILE, draw FILE its picture
 undo takes the last call back
 a line that begins with # is answered with itself; behind a call # and what follows says nothing
 Ctrl-D ends

@@ -8,6 +8,6 @@ mod session;
 mod states;
 mod wholes;
 
-pub use answers::answer_line;
+pub use answers::{answer_line, path_behind, write_unwritten};
 pub use helps::{write_call_of, write_forms};
 pub use session::Session;

@@ -265,6 +265,13 @@ impl Session {
         self.machine.kernel()
     }
 
+    /// The callbacks.
+    pub fn plans(&self) -> &[Planned]
+        ensures { map handler_of result.now ≡ self.now.history.bank }
+    {
+        self.bank.as_slice()
+    }
+
     /// How many threads the board has.
     pub fn threads(&self) -> u16
         ensures { result ≡ self.now.board.threads }

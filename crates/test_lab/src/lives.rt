@@ -2,7 +2,7 @@
 use crate::banks::trace_of_program;
 use evl_base::STEP_WORDS;
 use evl_scenario::Fault;
-use lab_live::{Session, answer_line, write_forms};
+use lab_live::{Session, answer_line, path_behind, write_forms};
 use lab_reports::program_plans;
 use std::alloc::{AllocError, Global};
 
@@ -200,6 +200,54 @@ const HELP: [(&str, &str); 4] = [
 #[test]
 fn help_tells_what_keys_take(rt: HostRuntime) {
     assert!(rt; is_driven(rt.alloc(), Asked::Lines(&HELP)));
+}
+
+// What beginners type, and what they are answered.
+const BEGINNERS: [(&str, &str); 12] = [
+    ("undo", "undone: T0 put sem=0\n"),
+    ("undo", "! 1: nothing was asked so far\n"),
+    ("quit", "Ctrl-D ends\n"),
+    ("draw", "! 5: a file is wanted, as draw picture.svg\n"),
+    (
+        "lock",
+        "! 1: a thread and its call are wanted, as T0 put sem=0\n",
+    ),
+    (
+        "T0 lock mutex=0",
+        "! 4: there is no call \"lock\"; did you mean \"claim\", or \"try_lock_mutex\" of lab callers?\n",
+    ),
+    (
+        "T0 unlock",
+        "! 4: there is no call \"unlock\"; did you mean \"release\", or \"try_unlock_mutex\" of lab callers?\n",
+    ),
+    (
+        "T0 wait sem=0",
+        "! 4: there is no call \"wait\"; did you mean \"begin_get\"?\n",
+    ),
+    (
+        "T0 signal sem=0",
+        "! 4: there is no call \"signal\"; did you mean \"put\"?\n",
+    ),
+    ("T99 put sem=0", "1 T99 put sem=0 -> Unknown\n"),
+    ("T0 put sem=9", "2 T0 put sem=9 -> Unknown\n"),
+    ("T0 put sem=0   # my comment", "3 T0 put sem=0 -> done\n"),
+];
+
+#[test]
+fn beginners_are_answered(rt: HostRuntime) {
+    assert!(rt; is_driven(rt.alloc(), Asked::Lines(&BEGINNERS)));
+}
+
+// Whether just this stands behind a word of a line.
+fn is_behind(word: &str, line: &str, wanted: Option<&str>) -> bool {
+    path_behind(word, line.as_bytes()) == wanted
+}
+
+#[test]
+fn a_path_stands_behind_its_word(rt: HostRuntime) {
+    assert!(rt; is_behind("draw ", "draw a b.svg \r", Some("a b.svg")));
+    assert!(rt; is_behind("draw ", "draw \r", None));
+    assert!(rt; is_behind("save ", "draw a.svg", None));
 }
 
 // A thread that waits, and how all stands then.

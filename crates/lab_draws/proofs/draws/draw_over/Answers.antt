@@ -1,4 +1,4 @@
-use Rattle.std.proofs.Common.{ℕ, IfOk, length, map, subst, sym}
+use Rattle.std.proofs.Common.{ℕ, IfOk, map, subst, sym}
 use Rattle.std.proofs.lemmas.List.{length-map}
 use Rattle.evl_plans.specs.Told.{handler_of}
 use Rattle.lab_drawing.specs.Callbacks.{missing_callback}

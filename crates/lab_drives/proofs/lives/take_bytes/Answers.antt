@@ -4,10 +4,10 @@ use Rattle.lab_drives.proofs.LiveLemmas.{heard_more, heard_none}
 use Rattle.lab_drives.proofs.lives.take_bytes.Goals as goal
 
 pub loop-byte-init : goal.loop-byte-init
-loop-byte-init c = record { waits = c.requires; heard = ([], heard_none _ _, sym (append-nil _)) }
+loop-byte-init g c = record { waits = c.requires; heard = ([], heard_none _ _, sym (append-nil _)) }
 
 pub loop-byte-preserved : goal.loop-byte-preserved
-loop-byte-preserved c =
+loop-byte-preserved g c =
     let had = c.loop-byte.invariant.heard in
     let more = c.in_ok-take_byte.ensures.heard in
     record {
