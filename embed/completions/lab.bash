@@ -6,17 +6,17 @@ _lab() {
         return
     fi
     case ${COMP_WORDS[COMP_CWORD - 1]} in
-        --limit | --most | --outcome | --state | --upto | --page) return ;;
+        --limit | --most | --outcome | --state | --order | --upto | --page) return ;;
         --against | --record) mapfile -t COMPREPLY < <(compgen -d -- "$word"); return ;;
     esac
     case $part in
-        check) words="--bank --help" ;;
-        play) words="--bank --limit --json --against --all --record --force --help" ;;
+        check) words="--bank --json --help" ;;
+        play) words="--bank --limit --json --states --against --all --record --force --help" ;;
         convert) words="--lines --toml --help" files='*.@(toml|trace|txt)' ;;
         live) words="--bank --limit --prompt --help" ;;
         callers) words="--bank --limit --help" ;;
-        orders) words="--bank --most --outcome --state --json --help" ;;
-        help) mapfile -t COMPREPLY < <(compgen -W "$("${COMP_WORDS[0]}" help 2>/dev/null | cut -d' ' -f2)" -- "$word"); return ;;
+        orders) words="--bank --most --outcome --state --first --order --json --help" ;;
+        help) mapfile -t COMPREPLY < <(compgen -W "--json $("${COMP_WORDS[0]}" help 2>/dev/null | cut -d' ' -f2)" -- "$word"); return ;;
         draw) words="--bank --svg --html --perfetto --csv --lanes --down --across --upto --page --help" files='*.@(toml|trace)' ;;
         *) words=--help ;;
     esac

@@ -67,6 +67,7 @@ uint32_t evlsim_abi(void);
 #include <evlsim/calls.h>
 #include <evlsim/kernel.h>
 #include <evlsim/play.h>
+#include <evlsim/orders.h>
 #include <evlsim/texts.h>
 
 #endif

@@ -34,12 +34,14 @@ constexpr bool operator!=(evlsim_refusal one, evlsim_refusal other) noexcept { r
 
 namespace evlsim {
 
-/* A text that is refused, a board, a plan or a number, with its status, and the step at fault or 0. */
+/* A text that is refused, a board, a plan or a number, with its status, the step at fault or 0, and words, if there are
+   some. */
 struct refused : std::runtime_error {
   evlsim_status status;
   std::uint32_t step;
-  explicit refused(evlsim_status why, std::uint32_t number = 0)
-      : std::runtime_error(evlsim_status_text(why) + (number == 0 ? std::string() : " " + std::to_string(number))),
+  explicit refused(evlsim_status why, std::uint32_t number = 0, const std::string &words = std::string())
+      : std::runtime_error(evlsim_status_text(why) + (number == 0 ? std::string() : " " + std::to_string(number)) +
+                           (words.empty() ? std::string() : ": " + words)),
         status(why),
         step(number) {}
 };
@@ -48,9 +50,9 @@ struct refused : std::runtime_error {
 using bank = std::vector<evlsim_plan>;
 
 /* Throws a status that is not EVLSIM_OK. */
-inline void require_ok(evlsim_status status, std::uint32_t step = 0) {
+inline void require_ok(evlsim_status status, std::uint32_t step = 0, const std::string &words = std::string()) {
   if (status == EVLSIM_NO_MEMORY) throw std::bad_alloc();
-  if (status != EVLSIM_OK) throw refused(status, step);
+  if (status != EVLSIM_OK) throw refused(status, step, words);
 }
 
 /* The trace of a scenario's text from a byte on, as evlsim_play writes it, or evlsim_play_over if there is a bank.
@@ -113,6 +115,56 @@ inline std::string draw(std::string_view text, std::uint8_t form = EVLSIM_SVG, s
     bool is_whole = drawn.length <= picture.size();
     picture.resize(drawn.length);
     if (is_whole) return picture;
+  }
+}
+
+/* What evlsim_orders writes, with its numbers. */
+struct ordered : evlsim_ordered {
+  std::string text{};
+  explicit ordered(const evlsim_ordered &told) : evlsim_ordered(told) {}
+  /* 1: what is asked holds, or nothing is; 0: something is against it; -1: longer orders were cut off. */
+  int holds() const { return evlsim_holds(this); }
+};
+
+/* Every order in which the callers of a text may come, over the bank, if there is one, or the program's callbacks: the
+   report, or the scenario of an outcome, from 1; `most` as of evlsim_orders. Throws refused and std::bad_alloc. */
+inline ordered orders(std::string_view text, std::size_t most = 0, std::size_t outcome = 0,
+                      const std::optional<bank> &plans = std::nullopt) {
+  std::string told(1 << 20, '\0');
+  auto bytes = reinterpret_cast<const std::uint8_t *>(text.data());
+  for (;;) {
+    evlsim_ordered numbers{};
+    auto out = reinterpret_cast<std::uint8_t *>(told.data());
+    evlsim_status status =
+        plans ? evlsim_orders_over(plans->data(), plans->size(), most, outcome, bytes, text.size(), 0, out, told.size(),
+                                   &numbers)
+              : evlsim_orders(most, outcome, bytes, text.size(), 0, out, told.size(), &numbers);
+    bool is_whole = numbers.length <= told.size();
+    told.resize(numbers.length);
+    if (!is_whole) continue;
+    require_ok(status, numbers.step, told);
+    ordered found(numbers);
+    found.text = std::move(told);
+    return found;
+  }
+}
+
+/* What evlsim_callers writes. Throws refused and std::bad_alloc. */
+inline std::string callers(std::string_view text, std::uint32_t limit = 0,
+                           const std::optional<bank> &plans = std::nullopt) {
+  std::string told(65536, '\0');
+  auto bytes = reinterpret_cast<const std::uint8_t *>(text.data());
+  for (;;) {
+    evlsim_played played{0, 0};
+    auto out = reinterpret_cast<std::uint8_t *>(told.data());
+    evlsim_status status = plans ? evlsim_callers_over(plans->data(), plans->size(), bytes, text.size(), limit, 0, out,
+                                                       told.size(), &played)
+                                 : evlsim_callers(bytes, text.size(), limit, 0, out, told.size(), &played);
+    bool is_whole = played.length <= told.size();
+    told.resize(played.length);
+    if (!is_whole) continue;
+    require_ok(status, played.step, told);
+    return told;
   }
 }
 

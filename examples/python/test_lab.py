@@ -1,11 +1,13 @@
-"""What the program lab does, from Python: faults and pictures, by the library, orders and a machine's callers, by the
-program, as values. Run as test_play.py is; where the program isn't there, nothing is tried."""
+"""What the program lab does, from Python, by the library: faults, pictures, orders and a machine's callers as values. Run as
+test_play.py is. Where EVLSIM_LAB names the program, or it is on the path, the library is compared with it."""
 import glob
 import os
 import re
+import shutil
+import subprocess
+import tempfile
 
 import evlsim
-from evlsim import _lab
 
 TOP = os.path.dirname(os.path.dirname(os.path.dirname(os.path.abspath(__file__))))
 if not os.path.isdir(f"{TOP}/scenarios"):
@@ -70,23 +72,30 @@ def test_pictures():
     refused(lambda: evlsim.draw(text, "png"), evlsim.BadQuestion, "'svg', 'lanes'")
 
 
+LAB = os.environ.get("EVLSIM_LAB") or shutil.which("lab")
+
+
+def by_the_program(data, *words):
+    """What the program prints and says of a text, and its status."""
+    with tempfile.TemporaryDirectory(prefix="evlsim-") as folder:
+        with open(f"{folder}/text.toml", "wb") as file:
+            file.write(data)
+        done = subprocess.run([LAB, *words, "text.toml"], capture_output=True, cwd=folder)
+    said = [it for it in done.stderr.decode().splitlines() if not it.startswith("lab: UNPROVED")]
+    return done.returncode, done.stdout.decode(), "\n".join(said)
+
+
 def checked_by_the_program(data):
-    """What lab check prints of a text, as str(evlsim.check(..)) has it."""
-    printed = _lab.run(["check", "text.toml"], {"text.toml": data}).out
-    lines = [it[len("text.toml:") :].lstrip() for it in printed.splitlines()]
+    """What lab check prints of a text, as str(evlsim.check(..)) has it: the library judges no answer that is expected."""
+    printed = by_the_program(data, "check")[1]
+    lines = [it[len("text.toml:") :].lstrip() for it in printed.splitlines() if " is expected, " not in it]
     return [it.replace("at the end: warning: ", "warning: at the end: ") for it in lines]
 
 
-def in_toml(data):
-    """A text as the library's check takes it: one of lines, as a trace is, as lab convert prints it, or None."""
-    if not data.startswith(b"board "):
-        return data
-    converted = _lab.run(["convert", "text"], {"text": data})
-    return converted.out.encode() if converted.status == 0 else None
-
-
 def is_refusal(told, why):
-    """Whether the program refuses a picture as the library does; of orders, callers, a bank and lines it says more."""
+    """Whether the program refuses a picture as the library does; of orders, callers, a bank and lines it says more, and behind
+    it the first fault."""
+    told = told.split("\n", 1)[0]
     says_more = told.endswith(OTHER_KINDS) or re.match(r"lab:\d+:\d+: ", told)
     return told == f"lab: {why}" or bool(says_more and ", and as a scenario it has " in why)
 
@@ -95,21 +104,49 @@ def test_same_as_the_program():
     paths = glob.glob(f"{TOP}/scenarios/**/*.t*", recursive=True)
     paths += glob.glob(f"{TOP}/examples/faulty/**/*.t*", recursive=True) + glob.glob(f"{TOP}/callers/*.t*")
     assert len(paths) > 20
-    for path in sorted(paths)[::3]:
+    for path in sorted(paths)[::3] if LAB else ():
         with open(path, "rb") as file:
             data = file.read()
-        wanted, text = checked_by_the_program(data), in_toml(data)
-        if text is None:
-            assert wanted and path.endswith(".told"), path
-        else:
-            assert [str(it) for it in evlsim.check(text)] == wanted, path
+        assert [str(it) for it in evlsim.check(data)] == checked_by_the_program(data), path
         for form in ("svg", "lanes", "csv", "perfetto"):
-            told = _lab.run(["draw", f"--{form}", "text.toml"], {"text.toml": data})
-            if told.status == 0:
-                assert evlsim.draw(data, form) == told.out, path
+            status, out, told = by_the_program(data, "draw", f"--{form}")
+            if status == 0:
+                assert evlsim.draw(data, form) == out, path
             else:
                 why = refused(lambda: evlsim.draw(data, form), evlsim.BadText, "")
-                assert is_refusal(told.err, str(why)), path
+                assert is_refusal(told, str(why)), path
+
+
+def test_lines():
+    lines = "board threads=2 sems=[0]\nT0 put sem=0\nT1 try_get sem=0 -> done\n"
+    trace = evlsim.play(lines)
+    assert trace.splitlines()[1:] == ["1 T0 put sem=0 -> done", "2 T1 try_get sem=0 -> done"] and evlsim.check(lines) == []
+    assert trace._repr_svg_() == evlsim.draw(lines) and evlsim.play(trace) == trace
+    (fault,) = evlsim.check("board threads=1 sems=[0]\nT0 put semm=0\n")
+    assert (fault.line, fault.byte) == (2, 8) and 'did you mean "sem"?' in fault.message
+    why = refused(lambda: evlsim.play("board threads=1\nT0 putt sem=0\n"), evlsim.BadStep, "line 2")
+    assert why.step == 2
+    found = evlsim.orders("board threads=3 sems=[1]\nsetup T0 peek sem=0\nT1 try_get sem=0\nT2 try_get sem=0\n")
+    assert found.total == 2 and found.holds and found.verdict == ""
+
+
+def test_states():
+    found = evlsim.orders(text_of("examples/orders/asked/inversion_by_a_semaphore.toml"))
+    never, waits, picked = found.states
+    assert not found.holds and found.verdict == "state 1 is against what is asked" and found.against == ()
+    assert (never.number, never.key, never.text) == (1, "never_state", "T2 picked and T3 waits for sem 0")
+    assert (never.holds, waits.holds, picked.holds) == (False, True, True) and never.order == (1, 2, 3, 3)
+    assert [it.who for it in never.trace().entries][-4:] == [1, 2, 3, 3]
+    assert never._repr_svg_() == evlsim.draw(never) == evlsim.draw(never.scenario)
+    asked = BOARD + "[ask]\nsometimes = ['sem 0 count = 2']\nalways = ['sem 0 count = 0']\n"
+    more = "".join(f"[[step]]\ndo = 'put'\nwho = {who}\nsem = 0\n" for who in (0, 1))
+    twice, each = evlsim.orders(asked + more).states
+    assert (twice.holds, twice.order, each.holds, each.order) == (True, (0, 1), False, (0,))
+    cut = evlsim.orders(asked + more, most=1).states
+    assert [(it.holds, it.order) for it in cut] == [(None, ()), (None, ())]
+    assert cut[0]._repr_svg_() is None and refused(cut[0].trace, evlsim.BadQuestion, "state 1 has no moment")
+    once = evlsim.orders(asked + more[: len(more) // 2]).states[0]
+    assert (once.holds, once.scenario) == (False, "")
 
 
 def test_orders():
@@ -128,8 +165,28 @@ def test_orders():
     assert cut.is_cut_off and cut.holds is None
     why = refused(lambda: evlsim.orders(BOARD + '[[step]]\ndo = "puts"\nwho = 0\n'), evlsim.BadStep, "bad step 1")
     assert why.step == 1
-    refused(lambda: evlsim.orders("threads = 1"), evlsim.BadBoard, "bad board")
+    refused(lambda: evlsim.orders("threads = 1"), evlsim.BadBoard, "bad board: 1:1: there is no key")
+    refused(lambda: evlsim.orders(BOARD + "[ask]\nnever = ['T1 -> x']\n"), evlsim.Refused, "[ask]: text 1 of never isn't a caller")
+    ask = "[ask]\nnever = ['T0 -> Agian']\n[[step]]\ndo = 'try_get'\nwho = 0\nsem = 0\n"
+    refused(lambda: evlsim.orders(BOARD + ask), evlsim.Refused, 'did you mean "Again"?')
+    refused(lambda: evlsim.orders(text_of("examples/orders/asked/four_philosophers.toml"), seconds=0), TimeoutError, "after 0 s")
     refused(lambda: evlsim.orders(BOARD, bank=[3]), evlsim.BadPlan, "plan 0")
+
+
+def test_orders_as_the_program_tells_them():
+    for path in sorted(glob.glob(f"{TOP}/examples/orders/**/*.toml", recursive=True))[::2] if LAB else ():
+        with open(path, "rb") as file:
+            data = file.read()
+        if b"try_lock_" in data or b"staxes" in data:
+            continue  # orders of atomic steps are the program's alone
+        status, out, told = by_the_program(data, "orders", "--most", "2000")
+        if status == 2:
+            refused(lambda: evlsim.orders(data, most=2000), evlsim.Refused, told.split(": ", 1)[1])
+            continue
+        found = evlsim.orders(data, most=2000)
+        assert found.holds is {0: True, 1: False, 5: None}[status], path
+        assert told == (f"lab: text.toml: {found.verdict}" if found.verdict else ""), path
+        assert out.startswith(f"# {found.total} order") and out.count("\n# outcome ") == len(found.outcomes), path
 
 
 def test_orders_over_a_bank():
@@ -155,29 +212,8 @@ def test_callers():
     refused(lambda: evlsim.callers(BOARD + '[[step]]\ndo = "take"\nwho = 9\n'), evlsim.BadStep, "no such thread")
 
 
-def test_without_the_program():
-    had = os.environ.get("EVLSIM_LAB")
-    os.environ["EVLSIM_LAB"] = "/nowhere/lab"
-    try:
-        assert evlsim.check(BOARD) == [] and evlsim.play(BOARD)._repr_svg_() == evlsim.draw(BOARD)
-        for asked in (evlsim.orders, evlsim.callers):
-            refused(lambda asked=asked: asked(BOARD), evlsim.NoLab, "there is no program /nowhere/lab")
-    finally:
-        os.environ.pop("EVLSIM_LAB")
-        if had:
-            os.environ["EVLSIM_LAB"] = had
-
-
-def is_there():
-    try:
-        return evlsim.orders(BOARD).total == 1
-    except evlsim.NoLab as why:
-        print(f"nothing is tried: {why}")
-        return False
-
-
 if __name__ == "__main__":
-    for name, test in sorted(globals().items()) if is_there() else ():
+    for name, test in sorted(globals().items()):
         if name.startswith("test_"):
             test()
             print(name, "passed")

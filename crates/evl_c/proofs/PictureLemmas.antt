@@ -17,7 +17,8 @@ use Rattle.lab_drawing.specs.declared.frames.Shows.TheVariants.{Words}
 use Rattle.lab_drawing.specs.declared.marks.Mark.{Mark}
 use Rattle.lab_drawing.specs.declared.moments.Moment.{Moment}
 use Rattle.lab_reports.specs.Events.{events_text}
-use Rattle.evl_c.specs.Pictures.{AreLinesOf, AreMomentsOf, DrawsPage, DrawsPlayed, Ends, IsPicture, Origin, Outcome, callers, events_of, goes_for, moments_at, of_fault, origin_of, outcome_of, page_at, picture, picture_text, rows_of, scenario, table_of, trace}
+use Rattle.evl_c.specs.Given.{IsUnreadAs}
+use Rattle.evl_c.specs.Pictures.{AreLinesOf, AreMomentsOf, DrawsGiven, DrawsPage, DrawsPlayed, Ends, IsPicture, Origin, Outcome, callers, events_of, goes_for, moments_at, of_fault, origin_of, outcome_of, page_at, picture, picture_text, rows_of, scenario, table_of, trace}
 use Rattle.evl_c.specs.declared.pictures.Form.{Form}
 use Rattle.evl_c.specs.declared.pictures.Picture.{Picture}
 use Rattle.evl_c.specs.declared.pictures.Source.{Source}
@@ -108,3 +109,11 @@ unplayed bank page form text line made Board h = rw h refl
 unplayed bank page form text line made (Step n) h = rw h refl
 unplayed bank page form text line made Memory h = tt
 unplayed bank page form text line made Write h = tt
+
+-- a fault of a text of lines
+pub undrawn : (bank : List Handler) (page : ℕ) (form : Form) (text : List ℕ) (line : ℕ) (e : Fault) → IsUnreadAs text e → IfSome (of_fault line e) (DrawsGiven bank page form text line)
+undrawn bank page form text line Text h = inr (Text, h, refl)
+undrawn bank page form text line Board h = inr (Board, h, refl)
+undrawn bank page form text line (Step n) h = inr (Step n, h, refl)
+undrawn bank page form text line Memory h = tt
+undrawn bank page form text line Write h = tt

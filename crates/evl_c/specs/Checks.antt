@@ -1,11 +1,14 @@
 -- What C is told of the faults of a text: what `lab check` prints.
-use Rattle.std.specs.Prelude.{◌≡◌, ℕ, Bool, true, false, List, [], ◌++◌, None}
+use Rattle.std.specs.Prelude.{◌≡◌, ◌⊎◌, ℕ, Bool, true, false, List, [], ◌++◌, codes, decimal, string_bytes, Option, Some, None, IsSomeAnd}
 use Rattle.evl_kernel.specs.state.States.{Handler}
 use Rattle.evl_scenario.specs.Scenarios.{scenario_of}
 use Rattle.lab_kinds.specs.Kinds.{kind_of}
 use Rattle.lab_kinds.specs.Reports.{Reports}
 use Rattle.lab_kinds.specs.declared.kinds.TextKind.{TextKind}
 use Rattle.lab_kinds.specs.declared.kinds.TextKind.TheVariants.{Scenario}
+use Rattle.lab_lines.specs.Kinds.{IsPlain, IsUnread}
+use Rattle.lab_lines.specs.declared.texts.LinesFault.{LinesFault}
+use Rattle.lab_lines.specs.declared.texts.LinesFault.TheVariants as fault
 use Rattle.lab_warnings.specs.Warnings.{warnings_of}
 use Rattle.evl_c.specs.Texts.{TellsText}
 use Rattle.evl_c.specs.declared.checks.Checked.{Checked}
@@ -26,8 +29,27 @@ pub record Checks (bank : List Handler) (kind : TextKind) (name text before afte
   pub reports : Reports kind name text before reported at_fault
   pub warned : after ≡ reported ++ warnings_unless at_fault (kind_warnings bank kind name text)
 
+-- the line, the byte, and what is wanted there
+abbrev pub place_line : List ℕ → ℕ → ℕ → List ℕ → List ℕ
+place_line name line column words =
+    name ++ (codes ":" ++ (decimal line ++ (codes ":" ++ (decimal column ++ (codes ": " ++ (words ++ codes "\n"))))))
+
+-- why a text of lines can't be read; of want of memory there is no line
+abbrev pub place_text : List ℕ → LinesFault → Option (List ℕ)
+place_text name fault.Text = Some (place_line name 1 1 (codes "a text in UTF-8 is wanted"))
+place_text name (fault.Line line unread) = Some (place_line name line unread.column (string_bytes unread.words))
+place_text name fault.Board = Some (place_line name 1 1 (codes "a line with the board is wanted, as board threads=2 sems=[0]"))
+place_text name fault.TooLong = Some (place_line name 1 1 (codes "a scenario of at most 1048576 bytes is wanted"))
+place_text name fault.Memory = None
+
+-- what stands for a text is checked; of a text of lines that can't be read its first fault is told
+abbrev pub ChecksText : List Handler → List ℕ → List ℕ → List ℕ → List ℕ → Bool → Type 0
+ChecksText bank name text before after at_fault =
+    ((plain : List ℕ) × IsPlain text plain × Checks bank (kind_of plain) name plain before after at_fault)
+    ⊎ ((e : LinesFault) × IsUnread text e × IsSomeAnd (place_text name e) (λ line. after ≡ before ++ line) × (at_fault ≡ true))
+
 -- those lines stand in the buffer, and C is told their length and whether the text is at fault
 pub record TellsChecked (bank : List Handler) (name text : List ℕ) (start : ℕ) (old new : List ℕ) (told : Checked) : Type 0 where
   pub printed : List ℕ
-  pub checks : Checks bank (kind_of text) name text [] printed told.is_at_fault
+  pub checks : ChecksText bank name text [] printed told.is_at_fault
   pub tells : TellsText printed start old new told.length

@@ -25,6 +25,8 @@ use Rattle.lab_drawing.specs.declared.marks.Mark.{Mark}
 use Rattle.lab_drawing.specs.declared.moments.Moment.{Moment}
 use Rattle.lab_moments.specs.Moments.{moment_shown, shown_of}
 use Rattle.lab_reports.specs.Events.{events_text}
+use Rattle.lab_lines.specs.Kinds.{IsPlain}
+use Rattle.evl_c.specs.Given.{IsUnreadAs}
 use Rattle.evl_c.specs.declared.pictures.Form.{Form}
 use Rattle.evl_c.specs.declared.pictures.Form.TheVariants.{Svg, Rows, Table, Events}
 use Rattle.evl_c.specs.declared.pictures.Picture.{Picture}
@@ -177,10 +179,15 @@ module _ (bank : List Handler) where
       DrawsPlayed text line (Ok made) outcome = DrawsTrace (scenario text) (text_in made) outcome
       DrawsPlayed text line (Err e) outcome = outcome ≡ neither line e
 
+      -- of what stands for a text; or it is a text of lines that can't be read
+      abbrev pub DrawsGiven : List ℕ → ℕ → Outcome → Type 0
+      DrawsGiven text line outcome =
+          ((plain : List ℕ) × IsPlain text plain × DrawsPlayed (text_in plain) line (trace_of bank None (text_in plain)) outcome)
+          ⊎ ((e : Fault) × IsUnreadAs text e × (outcome ≡ neither line e))
+
       -- a trace that was read, or else a text as a scenario
       abbrev pub DrawsWhole : Origin → List ℕ → List ℕ → Outcome → Type 0
-      DrawsWhole origin read text outcome =
-          DrawsTrace origin read outcome ⊎ ((line : ℕ) × IsMisread read line × DrawsPlayed text line (trace_of bank None text) outcome)
+      DrawsWhole origin read text outcome = DrawsTrace origin read outcome ⊎ ((line : ℕ) × IsMisread read line × DrawsGiven text line outcome)
 
       -- the lines of callers up to where their machine is closed, or else the whole text as a trace
       abbrev pub DrawsText : List ℕ → Outcome → Type 0

@@ -1,8 +1,10 @@
 -- How a play for C ends.
 use Rattle.std.specs.Prelude.{◌≡◌, ℕ, List, length, Option, Some, None, if◌then◌else◌, nat_eq, Result, Ok, Err}
+use Rattle.evl_kernel.specs.state.States.{Handler}
 use Rattle.evl_scenario.specs.declared.faults.Fault.{Fault}
 use Rattle.evl_scenario.specs.declared.faults.Fault.TheVariants.{Text, Board, Step, Memory, Write}
 use Rattle.evl_plans.specs.Traces.{Refuses}
+use Rattle.evl_c.specs.Given.{IsTraceOf}
 use Rattle.evl_c.specs.Windows.{window}
 
 -- the limit that a number hands in: at 0 the text's own stays
@@ -44,3 +46,12 @@ pub record Plays (trace : Result (List ℕ) Fault) (start : ℕ) (old new : List
   pub count_is : count ≡ length_of end
   pub step_is : step ≡ step_of end
   pub status_is : status ≡ status_of end
+
+-- so did one of what stands for a text
+abbrev pub PlaysText : List Handler → Option ℕ → List ℕ → ℕ → List ℕ → List ℕ → ℕ → ℕ → ℕ → Type 0
+PlaysText bank limit text start old new count step status =
+    (trace : Result (List ℕ) Fault) × IsTraceOf bank limit text trace × Plays trace start old new count step status
+
+-- which has no trace, for this fault
+abbrev pub RefusesText : List Handler → Option ℕ → List ℕ → Fault → Type 0
+RefusesText bank limit text e = (trace : Result (List ℕ) Fault) × IsTraceOf bank limit text trace × Refuses trace e

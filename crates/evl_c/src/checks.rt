@@ -1,9 +1,10 @@
 //! The faults of a text for C, or its warnings: what `lab check` prints.
-ghost use Rattle.std.specs.Prelude.{◌≡◌, ◌≢◌, ◌↔◌, ◌++◌, false, is_some, map, string_bytes, true, IfOk, IfSome, OnErr, OnOk};
+ghost use Rattle.std.specs.Prelude.{◌≡◌, ◌≢◌, ◌↔◌, ◌++◌, false, is_some, map, string_bytes, true, IfOk, IfSome, IsSomeAnd, OnErr, OnOk};
 ghost use Rattle.std.specs.Str.{is_utf8};
 ghost use Rattle.evl_bank.specs.Bank.{program_bank};
 ghost use Rattle.evl_plans.specs.Told as callbacks;
-ghost use Rattle.evl_c.specs.Checks.{Checks, TellsChecked, kind_warnings};
+ghost use Rattle.lab_kinds.specs.Kinds.{kind_of};
+ghost use Rattle.evl_c.specs.Checks.{Checks, ChecksText, TellsChecked, kind_warnings, place_line, place_text};
 ghost use Rattle.evl_c.specs.Forms.{are_plans, handler_of};
 ghost use Rattle.evl_c.specs.Statuses.{is_among, of_check, of_check_over};
 
@@ -12,8 +13,14 @@ use crate::plans::program_plans;
 use crate::windows::put_window;
 use evl_plans::Planned;
 use lab_kinds::{TextKind, kind_of, report_kind};
+use lab_lines::{LinesFault, plain_text};
 use lab_warnings::warnings;
 use std::alloc::{AllocError, Global};
+
+// What is wanted of a text of lines.
+const NO_BOARD: &str = "a line with the board is wanted, as board threads=2 sems=[0]";
+
+const TOO_LONG: &str = "a scenario of at most 1048576 bytes is wanted";
 
 /// What a check told (embed/include/evlsim/abi.h: `evlsim_checked`).
 #[repr(C)]
@@ -63,6 +70,68 @@ fn tell_faults(
     Ok(false)
 }
 
+// Tells a fault at a line and a byte.
+fn put_at(
+    told: &mut String,
+    name: &str,
+    line: usize,
+    column: usize,
+    words: &str,
+) -> Result<(), AllocError>
+    ensures { OnOk result (string_bytes told.new ≡ string_bytes told.old ++ place_line name.now line column words.now) }
+{
+    write!(told, "{name}:{line}:{column}: {words}\n")?;
+    Ok(())
+}
+
+// Tells why a text of lines can't be read.
+fn put_place(told: &mut String, name: &str, fault: &LinesFault) -> Result<(), AllocError>
+    ensures { OnOk result (IsSomeAnd (place_text name.now fault.now) (λ line. string_bytes told.new ≡ string_bytes told.old ++ line)) }
+{
+    match fault {
+        LinesFault::Text => put_at(told, name, 1, 1, "a text in UTF-8 is wanted"),
+        LinesFault::Line(line, unread) => {
+            put_at(told, name, *line, unread.column, unread.words.as_str())
+        }
+        LinesFault::Board => put_at(told, name, 1, 1, NO_BOARD),
+        LinesFault::TooLong => put_at(told, name, 1, 1, TOO_LONG),
+        LinesFault::Memory => Err(AllocError),
+    }
+}
+
+// Tells the faults of a text, or its warnings where it has none, and whether it has a fault.
+fn tell_plain(
+    alloc: Global,
+    plans: &[Planned],
+    name: &str,
+    text: &[u8],
+    told: &mut String,
+) -> Result<bool, AllocError>
+    ensures { IfOk result (Checks (map callbacks.handler_of plans.now) (kind_of text.now) name.now text.now (string_bytes told.old) (string_bytes told.new)) }
+{
+    let kind = kind_of(alloc, text)?;
+    tell_faults(alloc, plans, kind, name, text, told)
+}
+
+// The same of what stands for a text; of a text of lines that can't be read its first fault.
+fn tell_given(
+    alloc: Global,
+    plans: &[Planned],
+    name: &str,
+    given: Vec<u8>,
+    told: &mut String,
+) -> Result<bool, AllocError>
+    ensures { IfOk result (ChecksText (map callbacks.handler_of plans.now) name.now given.items (string_bytes told.old) (string_bytes told.new)) }
+{
+    match plain_text(alloc, given) {
+        Ok(plain) => tell_plain(alloc, plans, name, plain.as_slice(), told),
+        Err(fault) => {
+            put_place(told, name, &fault)?;
+            Ok(true)
+        }
+    }
+}
+
 // Checks a text over these callbacks, and puts its lines into the buffer.
 fn check_text(
     alloc: Global,
@@ -76,9 +145,9 @@ fn check_text(
     ensures told { OnOk result (TellsChecked (map callbacks.handler_of plans.now) name.now text.now start out.old out.new checked.new) }
     ensures refused { OnErr result ((out.new ≡ out.old) × (checked.new ≡ checked.old)) }
 {
-    let kind = kind_of(alloc, text)?;
+    let given = Vec::from_slice(alloc, text)?;
     let mut told = String::new(alloc);
-    let is_at_fault = tell_faults(alloc, plans, kind, name, text, &mut told)?;
+    let is_at_fault = tell_given(alloc, plans, name, given, &mut told)?;
     let bytes = told.as_bytes();
     put_window(bytes, start, out);
     *checked = Checked {

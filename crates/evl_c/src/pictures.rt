@@ -7,8 +7,9 @@ ghost use Rattle.evl_shell.specs.Runs as runs;
 ghost use Rattle.lab_drawing.specs.Pictures.{going_text, shown_with};
 ghost use Rattle.lab_drawing.specs.declared.frames.Shows.TheVariants.{Words};
 ghost use Rattle.evl_c.specs.Pictures as pictures;
-ghost use Rattle.evl_c.specs.Pictures.{AreMomentsOf, DrawsBytes, DrawsLines, DrawsMarks, DrawsPage, DrawsPlayed, DrawsSvg, DrawsText, DrawsTrace, DrawsWhole, Ends, IsPicture, failed, goes_for, of_fault, origin_of, text_in};
+ghost use Rattle.evl_c.specs.Pictures.{AreMomentsOf, DrawsBytes, DrawsGiven, DrawsLines, DrawsMarks, DrawsPage, DrawsPlayed, DrawsSvg, DrawsText, DrawsTrace, DrawsWhole, Ends, IsPicture, failed, goes_for, of_fault, origin_of, text_in};
 
+use crate::given::plain_of;
 use evl_plans::{Planned, trace_plans};
 use evl_scenario::Fault;
 use lab_drawing::{
@@ -337,6 +338,17 @@ fn draw_scenario(
     }
 }
 
+// The same of what stands for a text.
+fn draw_given(alloc: Global, asked: Asked<'_>, text: &str, line: usize) -> Result<Picture, Undrawn>
+    requires few { length asked.plans.now ≤ 64 }
+    ensures { Ends (DrawsGiven (map handler_of asked.entry.plans.now) asked.entry.page asked.entry.form text.now line) result }
+{
+    match plain_of(alloc, text.as_bytes()) {
+        Ok(plain) => draw_scenario(alloc, asked, text_in(plain.as_slice()), line),
+        Err(fault) => Err(unplayed(line, fault)),
+    }
+}
+
 // The picture of the lines that a text has, or of the text as a scenario.
 fn draw_whole(
     alloc: Global,
@@ -351,7 +363,7 @@ fn draw_whole(
     match read_lines(alloc, read) {
         Ok(lines) => draw_lines(alloc, asked, lines.as_slice(), source),
         Err(Misread::Memory) => Err(Undrawn::Memory),
-        Err(Misread::Line(line)) => draw_scenario(alloc, asked, text, line),
+        Err(Misread::Line(line)) => draw_given(alloc, asked, text, line),
     }
 }
 

@@ -5,9 +5,11 @@ ghost use Rattle.evl_shell.specs.Runs.{trace_of};
 ghost use Rattle.evl_c.specs.Forms.{are_plans, handler_of};
 ghost use Rattle.evl_plans.specs.Traces.{Refuses};
 ghost use Rattle.evl_c.specs.Plays as plays;
-ghost use Rattle.evl_c.specs.Plays.{Plays, limit_given};
+ghost use Rattle.evl_c.specs.Given.{IsTraceOf};
+ghost use Rattle.evl_c.specs.Plays.{PlaysText, RefusesText, limit_given};
 
 use crate::forms::{PlanForm, are_plans, read_plans};
+use crate::given::plain_of;
 use crate::plans::program_plans;
 use crate::windows::put_window;
 use evl_plans::trace_plans;
@@ -41,8 +43,25 @@ fn trace_text(
     }
 }
 
-// The limit that a number hands in.
-fn limit_given(limit: u32) -> Option<u32>
+// The trace of what stands for a text.
+fn trace_given(
+    alloc: Global,
+    plans: &[PlanForm],
+    text: &[u8],
+    limit: Option<u32>,
+) -> Result<Vec<u8>, Fault>
+    requires plans { are_plans plans.now ≡ true }
+    ensures traced { IfOk result (λ trace. IsTraceOf (map handler_of plans.now) limit text.now (Ok trace.items)) }
+    ensures refused { IfErr result (λ e. RefusesText (map handler_of plans.now) limit text.now e) }
+{
+    match plain_of(alloc, text) {
+        Ok(plain) => trace_text(alloc, plans, plain.as_slice(), limit),
+        Err(fault) => Err(fault),
+    }
+}
+
+/// The limit that a number hands in.
+pub fn limit_given(limit: u32) -> Option<u32>
     ensures { result ≡ limit_given limit }
 {
     if limit == 0 { None } else { Some(limit) }
@@ -82,9 +101,9 @@ fn play_over(
     played: &mut Played,
 ) -> u32
     requires plans { are_plans plans.now ≡ true }
-    ensures { Plays (trace_of (map handler_of plans.now) (limit_given limit) text.now) start out.old out.new played.new.length played.new.step result }
+    ensures { PlaysText (map handler_of plans.now) (limit_given limit) text.now start out.old out.new played.new.length played.new.step result }
 {
-    match trace_text(alloc, plans, text, limit_given(limit)) {
+    match trace_given(alloc, plans, text, limit_given(limit)) {
         Ok(trace) => {
             let bytes = trace.as_slice();
             put_window(bytes, start, out);
@@ -104,10 +123,10 @@ fn play_over(
     }
 }
 
-/// Plays a scenario's text over the program's callbacks, and puts its trace, from the byte `start` on, into the buffer,
-/// as much as there is room for. `limit` (1 to 1,000,000) replaces the text's; at 0 that stays.
+/// Plays a scenario's text, in TOML or as lines, over the program's callbacks, and puts its trace, from the byte `start`
+/// on, into the buffer, as much as there is room for. `limit` (1 to 1,000,000) replaces the text's; at 0 that stays.
 ///
-/// 0: done. 1: bad text. 2: bad board. 3: bad step. 4: no memory. But for 0 the buffer is as before.
+/// 0: done. 1: bad text. 2: bad board. 3: bad step, or line of lines. 4: no memory. But for 0 the buffer is as before.
 #[unsafe(no_mangle)]
 pub extern "C" fn evlsim_c_play(
     alloc: Global,
@@ -117,7 +136,7 @@ pub extern "C" fn evlsim_c_play(
     out: &mut [u8],
     played: &mut Played,
 ) -> u32
-    ensures { Plays (trace_of program_bank (limit_given limit) text.now) start out.old out.new played.new.length played.new.step result }
+    ensures { PlaysText program_bank (limit_given limit) text.now start out.old out.new played.new.length played.new.step result }
 {
     play_over(alloc, &program_plans(), text, limit, start, out, played)
 }
@@ -134,7 +153,7 @@ pub extern "C" fn evlsim_c_play_over(
     out: &mut [u8],
     played: &mut Played,
 ) -> u32
-    ensures played { are_plans plans.now ≡ true → Plays (trace_of (map handler_of plans.now) (limit_given limit) text.now) start out.old out.new played.new.length played.new.step result }
+    ensures played { are_plans plans.now ≡ true → PlaysText (map handler_of plans.now) (limit_given limit) text.now start out.old out.new played.new.length played.new.step result }
     ensures refused { (result ≡ 5) ↔ (are_plans plans.now ≡ false) }
     ensures untouched { result ≡ 5 → (out.new ≡ out.old) × (played.new.length ≡ 0) × (played.new.step ≡ 0) }
 {

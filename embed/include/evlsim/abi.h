@@ -38,7 +38,8 @@ enum evlsim_status_number {
   EVLSIM_STATUS_NULL,
   EVLSIM_STATUS_BAD_NUMBER,
   EVLSIM_STATUS_TOO_LONG,
-  EVLSIM_STATUS_WRONG_ABI
+  EVLSIM_STATUS_WRONG_ABI,
+  EVLSIM_STATUS_BAD_ASK
 };
 static const evlsim_status EVLSIM_OK = {EVLSIM_STATUS_OK};
 static const evlsim_status EVLSIM_BAD_TEXT = {EVLSIM_STATUS_BAD_TEXT};   /* not UTF-8, not TOML, or above 1 MiB */
@@ -48,8 +49,9 @@ static const evlsim_status EVLSIM_NO_MEMORY = {EVLSIM_STATUS_NO_MEMORY}; /* mall
 static const evlsim_status EVLSIM_BAD_PLAN = {EVLSIM_STATUS_BAD_PLAN};   /* a number of a plan, or above 64 plans */
 static const evlsim_status EVLSIM_NULL = {EVLSIM_STATUS_NULL};           /* a null pointer, or no kernel */
 static const evlsim_status EVLSIM_BAD_NUMBER = {EVLSIM_STATUS_BAD_NUMBER}; /* a number is out of its range */
-static const evlsim_status EVLSIM_TOO_LONG = {EVLSIM_STATUS_TOO_LONG};   /* a scenario above 1,048,576 bytes */
+static const evlsim_status EVLSIM_TOO_LONG = {EVLSIM_STATUS_TOO_LONG};   /* a scenario above 1 MiB; too many orders */
 static const evlsim_status EVLSIM_WRONG_ABI = {EVLSIM_STATUS_WRONG_ABI}; /* header and library differ */
+static const evlsim_status EVLSIM_BAD_ASK = {EVLSIM_STATUS_BAD_ASK};     /* [ask] cannot be read or answered */
 
 /* The kind of an answer. Use the number in a switch only; evlsim_is_done, evlsim_has and so on compare. */
 typedef struct evlsim_kind {
@@ -150,7 +152,7 @@ typedef struct evlsim_plan {
 /* What came of a play. */
 typedef struct evlsim_played {
   size_t length; /* how many bytes the whole trace has; 0 if there is none */
-  uint32_t step; /* the first step that cannot be read, from 1; 0 if no step is at fault */
+  uint32_t step; /* the first step (of a text of lines: line) that cannot be read, from 1; 0 if none is at fault */
 } evlsim_played;
 
 /* What came of a check. */
@@ -174,6 +176,25 @@ typedef struct evlsim_drawn {
   size_t line;   /* the first line that is none of a trace, from 1, of a text that is no scenario either; else 0 */
   uint32_t step; /* the first step that cannot be read, from 1; 0 if no step is at fault */
 } evlsim_drawn;
+
+/* What came of all orders. */
+typedef struct evlsim_ordered {
+  size_t length;    /* how many bytes the whole text has that is told */
+  uint64_t total;   /* how many orders there are; UINT64_MAX: that many or more */
+  size_t outcomes;  /* in how many ways they end */
+  size_t against;   /* the number of the first outcome that is against what is asked, from 1; 0: none is */
+  size_t state;     /* the same of the questions about moments (never_state, sometimes, always) */
+  size_t steps;     /* the orders are those of fewer steps */
+  size_t never;     /* how many answers [ask] has at `never` */
+  size_t states;    /* how many questions about moments it has */
+  uint32_t step;    /* the first step that cannot be read, from 1; 0 if no step is at fault */
+  int32_t wanted;   /* how many outcomes there are to be; -1 if [ask] does not say so */
+  uint8_t verdict;  /* 0: what is asked holds, or nothing is; 1: something is against it; 5: not answered (evlsim_holds) */
+  bool always_ends; /* what else [ask] has */
+  bool ends_waits;
+  bool as_picked;
+  bool is_whole;    /* whether no longer orders were cut off */
+} evlsim_ordered;
 
 /* A kernel, or none. Its fields belong to the library. */
 typedef struct evlsim_kernel {
@@ -293,6 +314,11 @@ uint32_t evlsim_c_draw(uint8_t form, uint32_t page, const uint8_t *text, size_t 
 uint32_t evlsim_c_draw_over(const evlsim_plan *plans, size_t plan_count, uint8_t form, uint32_t page,
                             const uint8_t *text, size_t text_length, size_t start, uint8_t *out, size_t out_length,
                             evlsim_drawn *drawn);
+uint32_t evlsim_c_orders(const evlsim_plan *plans, size_t plan_count, size_t most, size_t outcome,
+                         const uint8_t *text, size_t text_length, size_t start, uint8_t *out, size_t out_length,
+                         evlsim_ordered *ordered);
+uint32_t evlsim_c_callers(const evlsim_plan *plans, size_t plan_count, const uint8_t *text, size_t text_length,
+                          uint32_t limit, size_t start, uint8_t *out, size_t out_length, evlsim_played *played);
 /* Reads *kernel: an open kernel is freed first. */
 uint32_t evlsim_c_open(const evlsim_board *board, const evlsim_plan *plans, size_t plan_count, uint32_t limit,
                        evlsim_kernel *kernel);
@@ -331,6 +357,7 @@ static inline const char *evlsim_status_text(evlsim_status status) {
     case EVLSIM_STATUS_BAD_NUMBER: return "bad number";
     case EVLSIM_STATUS_TOO_LONG: return "too long";
     case EVLSIM_STATUS_WRONG_ABI: return "header and library don't fit";
+    case EVLSIM_STATUS_BAD_ASK: return "what is asked cannot be";
     default: return "no status";
   }
 }

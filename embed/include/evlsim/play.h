@@ -1,5 +1,6 @@
 /*
- * Part of evlsim.h: plays a scenario's text (docs/use/SCENARIOS.md), as the program evl does.
+ * Part of evlsim.h: plays a scenario's text (docs/use/SCENARIOS.md), as the program evl does, also one of lines, as a
+ * trace is (docs/use/LAB.md).
  */
 #ifndef EVLSIM_PLAY_H
 #define EVLSIM_PLAY_H
@@ -24,7 +25,9 @@ extern "C" {
  *                  always has the same trace, and each call plays the whole scenario again. A start after the end
  *                  writes nothing.
  * EVLSIM_BAD_TEXT, EVLSIM_BAD_BOARD, EVLSIM_BAD_STEP
- *                  the text is refused and has no trace. A limit above 1,000,000 is EVLSIM_BAD_BOARD.
+ *                  the text is refused and has no trace, for the step played->step if one is at fault. A line of a text
+ *                  of lines that cannot be read is EVLSIM_BAD_STEP, and played->step its number. A limit above 1,000,000
+ *                  is EVLSIM_BAD_BOARD.
  * EVLSIM_NO_MEMORY the play was given up. It needs memory for the whole trace.
  * EVLSIM_NULL      played is null, or text or out with a length that is not 0. *played is not written.
  * EVLSIM_WRONG_ABI header and library differ. *played is not written.

@@ -22,10 +22,10 @@ static inline size_t evlsim_length_of(const char *text) {
 }
 
 /*
- * Copies what `lab check NAME` prints of this text in TOML, from the byte `start` on, into `out`, as many bytes as there
- * are and as fit (evlsim_written): a line "NAME:LINE:BYTE: .." for each fault of a scenario, of a text for orders, of
- * callers, or of a bank; if a scenario has none, a line for each warning of one run of it over the program's callbacks.
- * No lines: it has neither. The rest of `out` stays; no 0 is added. A text of lines is at fault as TOML.
+ * Copies what `lab check NAME` prints of this text, from the byte `start` on, into `out`, as many bytes as there are and
+ * as fit (evlsim_written): a line "NAME:LINE:BYTE: .." for each fault of a scenario, of a text for orders, of callers, or
+ * of a bank, or for the first line of a text of lines that cannot be read; if a scenario has none, a line for each warning
+ * of one run of it over the program's callbacks. No lines: it has neither. The rest of `out` stays; no 0 is added.
  *
  * name: stands before the place of each fault; a C string in UTF-8. It is not opened.
  * text: may be null if text_length is 0.
@@ -86,7 +86,7 @@ EVLSIM_CHECKED static inline evlsim_status evlsim_check_over(const evlsim_plan *
  *                   If it has more than start + out_length bytes, a further call gets the rest; each call draws again.
  * EVLSIM_BAD_TEXT, EVLSIM_BAD_BOARD, EVLSIM_BAD_STEP
  *                   the text is no trace, since its line drawn->line is none of one, and as a scenario it is refused so,
- *                   at the step drawn->step, if one is at fault. Line 0: the text is not UTF-8.
+ *                   at the step (of a text of lines: the line) drawn->step, if one is at fault. Line 0: it is not UTF-8.
  * EVLSIM_BAD_NUMBER there is no such form, the page is 0, or it is above drawn->pages.
  * EVLSIM_NO_MEMORY  malloc or realloc returned null.
  * EVLSIM_NULL       drawn is null, or text or out with a length that is not 0. *drawn is not written.

@@ -17,20 +17,19 @@ from . import _library as _lib
 from ._answers import Answer, Clock, Deadline, Line, Next, Play, Timer
 from ._errors import BadBoard, BadPlan, BadQuestion, BadStep, BadText, CallRefused, KernelClosed, Refused
 from ._kernel import PROGRAM_BANK, Plan
-from ._lab import NoLab
 from ._library import IS_PROVED, REFUSALS, WORDS
 from ._machine import Kernel
 from ._pictures import Picture, draw
 from ._play import play
-from ._reports import Callers, Finding, Orders, Outcome, Step, callers, check, orders
+from ._reports import Callers, Finding, Orders, Outcome, State, Step, callers, check, orders
 from ._traces import Entry, Trace
 
 __version__ = _lib.VERSION.partition(",")[0]
 __all__ = [
     "Answer", "BadBoard", "BadPlan", "BadQuestion", "BadStep", "BadText", "CallRefused", "Callers", "Clock", "Deadline",
-    "Entry", "Finding", "IS_PROVED", "Kernel", "KernelClosed", "Line", "Next", "NoLab", "Orders", "Outcome",
-    "PROGRAM_BANK", "Picture", "Plan", "Play", "REFUSALS", "Refused", "Step", "Timer", "Trace", "WORDS", "callers",
-    "check", "draw", "orders", "play", "version",
+    "Entry", "Finding", "IS_PROVED", "Kernel", "KernelClosed", "Line", "Next", "Orders", "Outcome",
+    "PROGRAM_BANK", "Picture", "Plan", "Play", "REFUSALS", "Refused", "State", "Step", "Timer", "Trace", "WORDS",
+    "callers", "check", "draw", "orders", "play", "version",
 ]  # fmt: skip
 
 

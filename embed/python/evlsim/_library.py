@@ -41,6 +41,18 @@ class Checked(ctypes.Structure):
     _fields_ = _fields((ctypes.c_size_t, "length"), (ctypes.c_bool, "is_at_fault"))
 
 
+class Ordered(ctypes.Structure):
+    _fields_ = _fields(
+        (ctypes.c_size_t, "length"),
+        (ctypes.c_uint64, "total"),
+        (ctypes.c_size_t, "outcomes against state steps never states"),
+        (ctypes.c_uint32, "step"),
+        (ctypes.c_int32, "wanted"),
+        (ctypes.c_uint8, "verdict"),
+        (ctypes.c_bool, "always_ends ends_waits as_picked is_whole"),
+    )
+
+
 class Drawn(ctypes.Structure):
     _fields_ = _fields((ctypes.c_size_t, "length pages line"), (ctypes.c_uint32, "step"))
 
@@ -104,8 +116,8 @@ def _open(kind: Type[ctypes.CDLL]) -> ctypes.CDLL:
         raise ImportError(f"{why} ({told})") from None
     if abi != ABI:
         raise ImportError(f"{name} has the ABI number {abi}, and this module wants {ABI}: install both of one version")
-    if not hasattr(library, "evlsim_c_draw_over"):
-        raise ImportError(f"{name} is older than this module, and draws nothing: install both of one version")
+    if not hasattr(library, "evlsim_c_orders"):
+        raise ImportError(f"{name} is older than this module, and has no orders: install both of one version")
     return library
 
 
@@ -137,15 +149,18 @@ REFUSALS = ("-", *_texts(LIBRARY.evlsim_c_refusal_text, 1))
 PART = 1 << 16
 
 
-def whole_text(function: Callable[..., int], length: Callable[[], int], start: int) -> Tuple[int, bytes]:
-    """A text that the library tells in parts, from a byte on, and the status at which it ended."""
-    parts, size, at = [], PART, start
+def whole_text(
+    function: Callable[..., int], length: Callable[[], int], start: int, first: int = PART
+) -> Tuple[int, bytes]:
+    """A text that the library tells in parts, from a byte on, the first of this size, and the status at which it ended;
+    of a refusal the words, if there are some."""
+    parts, size, at = [], first, start
     while True:
         part = ctypes.create_string_buffer(size)
         status = function(ctypes.c_size_t(at), part, ctypes.c_size_t(size))
-        if status:
-            return status, b""
         parts.append(part.raw[: max(0, min(size, length() - at))])
+        if status:
+            return status, parts[-1]
         at += size
         if at >= length():
             return 0, b"".join(parts)

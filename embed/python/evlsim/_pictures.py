@@ -7,7 +7,7 @@ from typing import Any, Iterable, Literal, Optional, Tuple
 from . import _library as lib
 from ._errors import BadPlan, BadQuestion, BadText, Refused, one_of, whole
 from ._kernel import Plan, read_bank
-from ._lab import text_bytes
+from ._texts import text_bytes
 
 FORMS = ("svg", "lanes", "csv", "perfetto")
 Form = Literal["svg", "lanes", "csv", "perfetto"]

@@ -1,21 +1,25 @@
-"""What is told of a text, as values: its faults, by the library; by the program lab the orders of its callers, and a
-machine's callers."""
+"""What the library tells of a text, as values: its faults, the orders of its callers, and a machine's callers."""
 
 import ctypes
 import re
-from typing import Any, Dict, Iterable, List, NamedTuple, Optional, Tuple, Union
+import threading
+from typing import Any, Callable, Dict, Iterable, List, NamedTuple, Optional, Tuple
 
-from . import _lab
 from . import _library as lib
 from ._answers import Answer, Play
-from ._errors import BadBoard, BadPlan, BadQuestion, whole
+from ._errors import BadBoard, BadPlan, BadQuestion, BadStep, BadText, Refused, whole
 from ._kernel import Plan, read_bank
 from ._pictures import shown
 from ._play import play
+from ._texts import Text, text_bytes
 from ._traces import Entry, Trace, keys_text, read_answer, read_call, read_play, read_trace
 
-Text = Union[str, bytes, bytearray]
+NAME = "text.toml"
 CUT_OFF = "\n# cut off"
+# how great a buffer is handed in for a report, since a further call would go through all orders again
+REPORT = 1 << 22
+STATE = re.compile(r"# state (\d+): (\w+): (.*): ((?:not )?at (?:a|no|each) moment)( that was gone through)?")
+HOLDING = {("never_state", "at no moment"), ("sometimes", "at a moment"), ("always", "at each moment")}
 FOUND = re.compile(r"(?:(\d+):(\d+): )?(?:step (\d+): )?(at the end: )?(warning: )?(.*)")
 
 
@@ -40,7 +44,7 @@ def check(text: Text, bank: Optional[Iterable[Plan]] = None) -> List[Finding]:
     >>> for found in check('[board]\\nthreads = 1\\n[[step]]\\ndo = "arrive"\\nwho = 0\\nlien = 5\\n'): print(found)
     6:1: step 1: arrive has no key "lien"; did you mean "line"? (keys: line)
     """
-    data, name = _lab.text_bytes(text), _lab.TEXT.encode()
+    data, name = text_bytes(text), NAME.encode()
     plans, forms = read_bank(bank)
     checked = lib.Checked()
 
@@ -56,7 +60,7 @@ def check(text: Text, bank: Optional[Iterable[Plan]] = None) -> List[Finding]:
     found = []
     for line in told.decode(errors="replace").splitlines():
         name_of, _, rest = line.partition(":")
-        if name_of == _lab.TEXT and rest:
+        if name_of == NAME and rest:
             found.append(_finding(rest if rest[:1].isdigit() else rest.lstrip()))
     return found
 
@@ -67,6 +71,21 @@ def _finding(text: str) -> Finding:
     line, byte, step, ends, warning, message = parts.groups()
     numbers = [None if it is None else int(it) for it in (line, byte, step)]
     return Finding(numbers[0], numbers[1], numbers[2], warning is not None, (ends or "") + message)
+
+
+def _refused(status: int, step: int, words: str, text: Text) -> Exception:
+    """Why a text isn't gone through, or played."""
+    if status == 4:
+        return MemoryError()
+    if status == 5:
+        return BadPlan("a plan has a number that it may not have")
+    faults = [] if words or status > 3 else [it for it in check(text) if not it.is_warning]
+    why = words or (str(faults[0]) if faults else "")
+    kind = {1: "bad text", 2: "bad board", 3: f"bad step {step}" if step else ""}.get(status, "")
+    message = ": ".join(it for it in (kind, why) if it) or "there are more orders than can be counted"
+    if status == 3:
+        return BadStep(message, step)
+    return {1: BadText, 2: BadBoard}.get(status, Refused)(message)
 
 
 class Outcome(NamedTuple):
@@ -97,10 +116,36 @@ class Outcome(NamedTuple):
         return f"<outcome {self.number}: {_count(self.orders, 'order')}{stuck}>"
 
 
+class State(NamedTuple):
+    """What came of a question about moments: its number, key and text, and whether it holds (None where that isn't known,
+    since longer orders were cut off). Where a moment decides it, a shortest order that leads there, and that order as a
+    scenario, over the bank; else () and "". A notebook shows its picture."""
+
+    number: int
+    key: str
+    text: str
+    holds: Optional[bool]
+    order: Tuple[int, ...]
+    scenario: str
+    bank: Optional[Tuple[Plan, ...]]
+
+    def trace(self) -> Trace:
+        """The trace of the order that leads to the moment."""
+        if not self.scenario:
+            raise BadQuestion(f"state {self.number} has no moment: {self.key} {self.text}")
+        return play(self.scenario, bank=self.bank)
+
+    def _drawn(self) -> Any:
+        return self.trace()._drawn()
+
+    def _repr_svg_(self) -> Optional[str]:
+        return shown(self) if self.scenario else None
+
+
 class Orders(NamedTuple):
     """Every order in which the callers of a text may come: the `total`, each way in which they end, what was
     asked (as `lab orders` says it, or ""), whether that holds (None where it isn't known, since longer orders were cut
-    off), the outcomes that are against it, and whether longer orders were cut off."""
+    off), the outcomes that are against it, whether longer orders were cut off, and each question about moments."""
 
     total: int
     outcomes: Tuple[Outcome, ...]
@@ -108,6 +153,7 @@ class Orders(NamedTuple):
     holds: Optional[bool]
     against: Tuple[Outcome, ...]
     is_cut_off: bool
+    states: Tuple[State, ...]
 
     def __repr__(self) -> str:
         told = f": {self.verdict}" if self.verdict else ""
@@ -122,27 +168,91 @@ def orders(
     text: Text, bank: Optional[Iterable[Plan]] = None, most: Optional[int] = None, seconds: Optional[float] = None
 ) -> Orders:
     """Goes through every order in which the callers of a text may come (docs/use/ORDERS.md). `most` is how many moments
-    of one number of steps there may be; after so many `seconds` TimeoutError is raised.
+    of one number of steps there may be; after so many `seconds` TimeoutError is raised, and the work goes on to its end
+    in a thread of its own.
 
     >>> steps = "".join(f'[[step]]\\ndo = "try_get"\\nwho = {who}\\nsem = 0\\n' for who in (1, 2))
     >>> found = orders("[board]\\nthreads = 3\\nsems = [1]\\n" + steps)
     >>> found.total, [it.answers for it in found.outcomes]
     (2, [{1: (<done>,), 2: (<Again>,)}, {1: (<Again>,), 2: (<done>,)}])
     """
-    words, files, plans = _lab.over(bank)
-    if most is not None:
-        words += ["--most", str(whole(BadQuestion, "most", most, 1, (1 << 63) - 1))]
-    told = _lab.run(["orders", *words, _lab.TEXT], {**files, _lab.TEXT: _lab.text_bytes(text)}, seconds=seconds)
-    if told.status == 2:
-        _lab.refuse(told)
-    head, *parts = re.split(r"^(?=# outcome \d+: )", told.out, flags=re.M)
-    found = tuple(_outcome(part, plans) for part in parts)
-    verdict = "\n".join(re.findall(rf"^(?:lab: )?{re.escape(_lab.TEXT)}: (.*)$", told.err, flags=re.M))
-    numbers = {int(it) for it in re.findall(r"outcome (\d+) is against", told.err)}
-    against = tuple(it for it in found if it.number in numbers)
+    data = text_bytes(text)
+    plans, forms = read_bank(bank)
+    limit = 0 if most is None else whole(BadQuestion, "most", most, 1, (1 << 63) - 1)
+    ordered = lib.Ordered()
+
+    def tell(at: ctypes.c_size_t, part: object, size: ctypes.c_size_t) -> int:
+        head = (forms, ctypes.c_size_t(len(plans)), ctypes.c_size_t(limit), ctypes.c_size_t(0))
+        rest = (data, ctypes.c_size_t(len(data)), at, part, size, ctypes.byref(ordered))
+        return int(lib.PLAYING.evlsim_c_orders(*head, *rest))
+
+    status, told = _in_time(lambda: lib.whole_text(tell, lambda: int(ordered.length), 0, REPORT), seconds)
+    if status:
+        raise _refused(status, int(ordered.step), told.decode(), text)
+    over = None if bank is None else plans
+    head, *parts = re.split(r"^(?=# outcome \d+: )", told.decode(), flags=re.M)
+    found = tuple(_outcome(part, over) for part in parts)
+    states = tuple(_state(part, over) for part in re.split(r"^(?=# state \d+: )", head, flags=re.M)[1:])
     count = re.match(r"# (\d+) order", head)
-    holds = {0: True, 1: False}.get(told.status)
-    return Orders(int(count[1]) if count else 0, found, verdict, holds, against, CUT_OFF in f"\n{told.out}")
+    total = int(count[1]) if count else 0
+    against = tuple(it for it in found if it.number == ordered.against)
+    holds = {0: True, 1: False}.get(ordered.verdict)
+    return Orders(total, found, _verdict(ordered, total), holds, against, not ordered.is_whole, states)
+
+
+def _verdict(ordered: lib.Ordered, total: int) -> str:
+    """What came of what is asked, as `lab orders` says it."""
+    if ordered.against:
+        return f"outcome {ordered.against} is against what is asked"
+    if ordered.state:
+        return f"state {ordered.state} is against what is asked"
+    if ordered.verdict == 1:
+        return f"outcomes: {ordered.outcomes}, and not {ordered.wanted}"
+    if ordered.verdict:
+        return f"not answered: cut off at orders of {ordered.steps} steps"
+    counts = ordered.wanted >= 0
+    if not (ordered.never or ordered.always_ends or ordered.ends_waits or ordered.states or counts):
+        return ""
+    ends = ("always_ends, " if ordered.always_ends else "") + ("ends_waits, " if ordered.ends_waits else "")
+    states = f", {_count(ordered.states, 'state')}" if ordered.states else ""
+    picked = " as threads are picked" if ordered.as_picked else ""
+    return f"{ends}{ordered.never} never{states}{', outcomes' if counts else ''}: hold in all {total} orders{picked}"
+
+
+def _in_time(work: Callable[[], Tuple[int, bytes]], seconds: Optional[float]) -> Tuple[int, bytes]:
+    """What comes of the work. It is done in a thread of its own, so that Ctrl-C is heard."""
+    done: List[Tuple[int, bytes]] = []
+    failed: List[BaseException] = []
+
+    def run() -> None:
+        try:
+            done.append(work())
+        except BaseException as why:  # told in the thread that asked
+            failed.append(why)
+
+    thread = threading.Thread(target=run, daemon=True)
+    thread.start()
+    thread.join(seconds)
+    if failed:
+        raise failed[0]
+    if not done:
+        raise TimeoutError(f"the orders weren't gone through after {seconds} s")
+    return done[0]
+
+
+def _order(line: str) -> Tuple[int, ...]:
+    return tuple(int(it[1:]) for it in line[len("# order:") :].split())
+
+
+def _state(part: str, bank: Optional[Tuple[Plan, ...]]) -> State:
+    first, *lines = part.splitlines()
+    head = STATE.fullmatch(first)
+    assert head is not None
+    number, key, text, found, cut_off = head.groups()
+    holds = None if cut_off else (key, found) in HOLDING
+    if not lines:
+        return State(int(number), key, text, holds, (), "", bank)
+    return State(int(number), key, text, holds, _order(lines[0]), "\n".join(lines[1:]).strip("\n") + "\n", bank)
 
 
 def _outcome(part: str, bank: Optional[Tuple[Plan, ...]]) -> Outcome:
@@ -162,7 +272,7 @@ def _outcome(part: str, bank: Optional[Tuple[Plan, ...]]) -> Outcome:
         elif line.startswith("# stuck: "):
             stuck.append(line[9:])
         elif line.startswith("# order:"):
-            order = tuple(int(it[1:]) for it in line[8:].split())
+            order = _order(line)
         elif re.match(r"# T\d+ -> ", line):
             who, *told = line[2:].split(" -> ")
             answers[int(who[1:])] = tuple(read_answer(it) for it in told)
@@ -244,10 +354,16 @@ def callers(text: Text, bank: Optional[Iterable[Plan]] = None, limit: int = 0) -
     >>> print(told.steps[0])
     T0 try_lock_stax stax=0 as=p -> p | stax 0: in-band, 1 holder
     """
-    words, files, _ = _lab.over(bank)
-    if whole(BadBoard, "limit", limit, 0, 1000000):
-        words += ["--limit", str(limit)]
-    told = _lab.run(["callers", *words, _lab.TEXT], {**files, _lab.TEXT: _lab.text_bytes(text)})
-    if told.status:
-        _lab.refuse(told)
-    return Callers(told.out)
+    data = text_bytes(text)
+    plans, forms = read_bank(bank)
+    most = whole(BadBoard, "limit", limit, 0, 1000000)
+    played = lib.Played()
+
+    def tell(at: ctypes.c_size_t, part: object, size: ctypes.c_size_t) -> int:
+        head = (forms, ctypes.c_size_t(len(plans)), data, ctypes.c_size_t(len(data)))
+        return int(lib.PLAYING.evlsim_c_callers(*head, ctypes.c_uint32(most), at, part, size, ctypes.byref(played)))
+
+    status, told = lib.whole_text(tell, lambda: int(played.length), 0)
+    if status:
+        raise _refused(status, int(played.step), told.decode(), text)
+    return Callers(told.decode())

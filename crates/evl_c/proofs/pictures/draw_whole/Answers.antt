@@ -1,7 +1,6 @@
-use Rattle.std.proofs.Common.{None, inl, inr, map, refl}
+use Rattle.std.proofs.Common.{inl, inr, map, refl}
 use Rattle.evl_plans.specs.Told.{handler_of}
-use Rattle.evl_shell.specs.Runs.{trace_of}
-use Rattle.evl_c.specs.Pictures.{DrawsLines, DrawsPlayed, DrawsWhole, origin_of}
+use Rattle.evl_c.specs.Pictures.{DrawsGiven, DrawsLines, DrawsWhole, origin_of}
 use Rattle.evl_c.proofs.PictureLemmas.{ends_as, line_of_misread, lines_are}
 use Rattle.evl_c.proofs.pictures.draw_whole.Goals as goal
 
@@ -26,5 +25,5 @@ returns-in-Err-Line c =
     let read = c.args.read.now in
     let text = c.args.text.now in
     let misread = line_of_misread read line (rw c.in-Err-Line.field-0-is at c.in-Err-Line.ensures.refused) in
-    ends_as (DrawsPlayed bank page form text line (trace_of bank None text)) (DrawsWhole bank page form (origin_of c.args.source) read text) c.draw_scenario.result
-    (λ outcome h. inr (line, misread, h)) c.draw_scenario.ensures
+    ends_as (DrawsGiven bank page form text line) (DrawsWhole bank page form (origin_of c.args.source) read text) c.draw_given.result
+    (λ outcome h. inr (line, misread, h)) c.draw_given.ensures

@@ -1,0 +1,26 @@
+-- What stands for a text of C's: for a text of lines its scenario, for any other text itself.
+use Rattle.std.specs.Prelude.{◌≡◌, ◌⊎◌, ◌-◌, ◌^◌, min, ℕ, List, Option, Result, Err}
+use Rattle.evl_kernel.specs.state.States.{Handler}
+use Rattle.evl_scenario.specs.declared.faults.Fault.{Fault}
+use Rattle.evl_scenario.specs.declared.faults.Fault.TheVariants as fault
+use Rattle.evl_shell.specs.Runs.{trace_of}
+use Rattle.lab_lines.specs.Kinds.{IsPlain, IsUnread}
+use Rattle.lab_lines.specs.declared.texts.LinesFault.{LinesFault}
+use Rattle.lab_lines.specs.declared.texts.LinesFault.TheVariants as lines
+
+-- the fault of a scenario by which C is told why a text of lines can't be read: a line as a step
+abbrev pub fault_of : LinesFault → Fault
+fault_of lines.Text = fault.Text
+fault_of (lines.Line line unread) = fault.Step (min line (2 ^ 32 - 1))
+fault_of lines.Board = fault.Board
+fault_of lines.TooLong = fault.Text
+fault_of lines.Memory = fault.Memory
+
+-- a text of lines can't be read, of which C is told by this fault
+abbrev pub IsUnreadAs : List ℕ → Fault → Type 0
+IsUnreadAs text e = (why : LinesFault) × IsUnread text why × (e ≡ fault_of why)
+
+-- the trace of what stands for a text, or such a fault
+abbrev pub IsTraceOf : List Handler → Option ℕ → List ℕ → Result (List ℕ) Fault → Type 0
+IsTraceOf bank limit text trace =
+    ((plain : List ℕ) × IsPlain text plain × (trace ≡ trace_of bank limit plain)) ⊎ ((e : Fault) × IsUnreadAs text e × (trace ≡ Err e))
