@@ -6,7 +6,7 @@ import base64, gzip, hashlib, html, json, os, re, shutil, subprocess, sys
 
 HERE = os.path.dirname(os.path.abspath(__file__))
 # Each after those that it imports: the one file has them one after another.
-MODULES = ('now', 'program', 'text', 'reads', 'asks', 'kept', 'complete', 'parts', 'editor', 'picture', 'steps',
+MODULES = ('now', 'program', 'text', 'reads', 'states', 'asks', 'kept', 'complete', 'parts', 'editor', 'picture', 'steps',
            'orders', 'console', 'exercise', 'mine', 'qr', 'share', 'page')
 # A line of a trace in a lesson: a click goes to its step.
 STEP = r'<button class="at" data-step="\1">\g<0></button>'

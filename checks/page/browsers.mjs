@@ -56,13 +56,16 @@ export class Chromium extends Browser {
       '--remote-debugging-pipe', 'about:blank'], ['ignore', 'ignore', 'ignore', 'pipe', 'pipe']);
     it.last = 0;
     it.waits = new Map();
-    let rest = Buffer.alloc(0);
+    let parts = [];
     it.process.stdio[4].on('data', part => {
-      rest = Buffer.concat([rest, part]);
+      parts.push(part);
+      if (!part.includes(0)) return;
+      let rest = Buffer.concat(parts);
       for (let end = rest.indexOf(0); end >= 0; end = rest.indexOf(0)) {
         it.heard(JSON.parse(rest.subarray(0, end).toString()));
         rest = rest.subarray(end + 1);
       }
+      parts = [rest];
     });
     const { targetInfos } = await it.send('Target.getTargets');
     const { targetId } = targetInfos.find(target => target.type === 'page');
@@ -148,14 +151,21 @@ export class Firefox extends Browser {
     it.socket = await it.reached(port);
     it.last = 0;
     it.waits = new Map();
-    let rest = Buffer.alloc(0);
+    // Before each message is its length and a colon; its parts are put together once all are there.
+    let parts = [], had = 0, wanted = 0;
     it.socket.on('data', part => {
-      rest = Buffer.concat([rest, part]);
-      for (;;) {
-        const colon = rest.indexOf(58), size = colon < 0 ? 0 : Number(rest.subarray(0, colon).toString());
-        if (colon < 0 || rest.length < colon + 1 + size) return;
-        it.heard(JSON.parse(rest.subarray(colon + 1, colon + 1 + size).toString()));
-        rest = rest.subarray(colon + 1 + size);
+      parts.push(part);
+      had += part.length;
+      while (had && had >= wanted) {
+        const rest = Buffer.concat(parts), colon = rest.indexOf(58);
+        parts = [rest];
+        if (colon < 0) return;
+        wanted = colon + 1 + Number(rest.subarray(0, colon).toString());
+        if (had < wanted) return;
+        it.heard(JSON.parse(rest.subarray(colon + 1, wanted).toString()));
+        parts = [rest.subarray(wanted)];
+        had -= wanted;
+        wanted = 0;
       }
     });
     await it.send('WebDriver:NewSession', { capabilities: { alwaysMatch: { unhandledPromptBehavior: 'accept' } } });

@@ -29,7 +29,7 @@ async function attempt(name, what, does, page) {
 }
 async function try_browser(Kind) {
   const browser = await Kind.open(), { name } = browser, stored_here = JSON.parse(part('stored.json')).length;
-  const page = new Page(browser, pathToFileURL(file).href, stored_here, shots === '-' ? '' : shots);
+  const page = new Page(browser, pathToFileURL(file).href, stored_here, shots === '-' ? '' : shots, top);
   try {
     await page.open();
     for (const [what, does] of Object.entries(WAYS)) await attempt(name, what, () => does(page), page);

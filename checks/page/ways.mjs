@@ -11,8 +11,8 @@ import { dice } from './runs.mjs';
 
 /** Words for what is on the page. */
 export class Page {
-  constructor(browser, url, stored, shots) {
-    Object.assign(this, { browser, url, stored, shots });
+  constructor(browser, url, stored, shots, top = '.') {
+    Object.assign(this, { browser, url, stored, shots, top });
   }
   async open(url = this.url) {
     await this.browser.go('about:blank');
@@ -159,9 +159,9 @@ async function tables(page) {
   };
   await page.lesson('4. A callback that wakes');
   await at(5);
-  assert.match(await row(5, 'T1'), /^T1 oob fifo 50 f50 blocked .*begin_get sem=0/);
+  assert.match(await row(5, 'T1'), /^T1 oob fifo 50 f50 blocked .*sem 0/);
   await at(6);
-  assert.match(await row(6, 'T1'), /^T1 oob fifo 50 f50 picked .*served: begin_get sem=0/);
+  assert.match(await row(6, 'T1'), /^T1 oob fifo 50 f50 picked .*served: sem 0/);
   assert.match(await row(6, 'sem 0'), /^sem 0 0/);
   assert.equal(await page.see('plays'), 'line 8 oob: callback 1, do = [{ post_sem = 0 }]');
   await at(9);
@@ -176,7 +176,8 @@ async function tables(page) {
   }
   await at(3);
   assert.match(await row(3, 'T1'), /f30 ↑/);
-  assert.match(await row(3, 'mutex 0'), /owner T1, 1 waiting/);
+  assert.match(await row(3, 'mutex 0'), /owner T1, T\d waiting/);
+  assert.match(await row(3, 'ready list'), /^ready list T1\b/);
 }
 async function edits(page) {
   const { browser } = page;
@@ -318,7 +319,14 @@ async function drives(page) {
   await browser.key('ArrowUp');
   assert.equal(await page.value('line'), 'T0 putt');
   await browser.click('#undo');
-  assert.doesNotMatch(await page.see('said'), /> ps/);
+  await browser.until(`document.getElementById('said').textContent.includes('undone: T0 pick')`);
+  assert.equal(await browser.evaluate(`document.getElementById('undo').disabled`), true);
+  await browser.evaluate(`document.getElementById('line').value = ''`);
+  await browser.evaluate(`document.getElementById('line').focus()`);
+  await browser.type('T0 pick');
+  await browser.key('Escape');
+  await browser.key('Enter');
+  await browser.until(`!document.getElementById('undo').disabled`);
   await browser.evaluate(`document.getElementById('line').value = ''`);
   await browser.evaluate(`document.getElementById('line').focus()`);
   await browser.type('T0 set_p');
@@ -337,9 +345,12 @@ async function orders(page) {
   const { browser } = page;
   await page.lesson('Two locks');
   await browser.until(`document.getElementById('verdict').textContent.startsWith('No: ')`);
-  assert.equal(await browser.evaluate(`document.querySelectorAll('#outcomes tbody tr').length`), 2);
+  assert.equal(await browser.evaluate(`document.querySelectorAll('#outcomes tbody tr:not(.picture)').length`), 2);
   assert.match(await page.see('asked'), /always_ends = true/);
   await page.shot('orders');
+  await browser.click('#pictures');
+  await browser.until(`[...document.querySelectorAll('#outcomes img')].filter(it => it.complete && it.naturalWidth > 200).length === 2`);
+  await page.shot('pictures');
   await browser.click('[data-open="1"]');
   await browser.until(`document.getElementById('viewed-title').textContent.startsWith('Outcome 2 (20 orders)')`);
   await browser.until(`document.getElementById('at').textContent.endsWith('of 14')`);
@@ -349,6 +360,85 @@ async function orders(page) {
   await page.played(turn);
   assert.equal(await page.see('kind'), 'scenario');
 }
+/** Orders of atomic steps are a table; what lab check, which does not know them, says of them is not told. */
+async function atomic(page) {
+  const { browser } = page, steps = name => fs.readFileSync(path.join(page.top, 'examples/orders/steps', `${name}.toml`), 'utf8');
+  await page.lesson('Two locks');
+  await page.put(steps('stax_2'));
+  assert.equal(await page.see('verdict'), 'No: outcome 4 contradicts what is asked.');
+  assert.equal(await page.see('faults'), 'no fault');
+  const rows = `[...document.querySelectorAll('#outcomes tbody tr')].map(it => it.innerText.replace(/\\s+/g, ' '))`;
+  const told = await browser.evaluate(rows);
+  assert.match(told[3], /^4 ✗.* 2 stax 0: oob, held by 0 T0: Raced, NotOwner T1: pass, done T0 look, T1 look, T1 exchange, T1 leave/);
+  assert.deepEqual([told.length, await browser.evaluate(`document.querySelectorAll('#outcomes [data-open]').length`)], [5, 0]);
+  await page.put(steps('set_up_put'));
+  assert.match(await page.see('verdict'), /^The orders were not explored: bad step 1: what is set up is attach/);
+  assert.doesNotMatch(await page.see('faults'), /staxes/);
+  await browser.click('#back-to');
+  await browser.until(`document.getElementById('verdict').textContent.startsWith('No: ')`);
+}
+/** What is asked of moments is told beside the outcomes, and the order that leads to one opens at its last step. */
+async function moments(page) {
+  const { browser } = page, asked = name => fs.readFileSync(path.join(page.top, 'examples/orders/asked', `${name}.toml`), 'utf8');
+  await page.lesson('Two locks');
+  await page.put(asked('inversion_by_a_semaphore'));
+  assert.match(await page.see('verdict'), /^No: state 1 is against what is asked/);
+  const rows = await browser.evaluate(`[...document.querySelectorAll('#moments tbody tr')].map(it => it.innerText.replace(/\\s+/g, ' '))`);
+  assert.match(rows[0], /^1 ✗.* never_state T2 picked and T3 waits for sem 0 at a moment T1 T2 T3 T3$/);
+  assert.equal(rows.length, 3);
+  await page.shot('moments');
+  await browser.click('#moments [data-open="0"]');
+  await browser.until(`document.getElementById('viewed-title').textContent.startsWith('State 1 (T2 picked')`);
+  await browser.until(`/^step (\\d+) of \\1$/.test(document.getElementById('at').textContent)`);
+  await browser.until(`document.getElementById('state').textContent.includes('sem 0')`);
+  await page.put(asked('no_finish').replace('ends_waits = true\n', ''));
+  assert.match(await page.see('verdict'), /check that it is what you mean: .*no finish after its last wait/);
+  await browser.click('#back-to');
+  await browser.until(`document.getElementById('verdict').textContent.startsWith('No: ')`);
+}
+/** A step may say what it is answered: that is offered, and where it is not so the step is told. */
+async function expects(page) {
+  const { browser } = page, text = '[board]\nthreads = 2\nsems = [0, 3]\n[[step]]\ndo = "peek"\nwho = 0\n';
+  const type_at_end = async says => {
+    await browser.evaluate(`(() => { const it = document.getElementById('text'); it.focus();
+      it.setSelectionRange(it.value.length, it.value.length); })()`);
+    await browser.type(says);
+  };
+  await page.lesson('1. An interrupt');
+  await page.put(text);
+  await type_at_end('sem = ');
+  await browser.key(' ', 'Control');
+  assert.equal(await page.see('offers'), '01');
+  await browser.key('Escape');
+  await browser.type('1');
+  await browser.key('Enter');
+  await browser.type('expect = "co');
+  assert.equal(await page.see('offers'), '"count 0"');
+  await browser.key('Enter');
+  await browser.until(`document.getElementById('faults').textContent.includes('count 0 is expected, count 3 is answered')`);
+  assert.match(await page.see('lines'), /1 T0 peek sem=1 -> count 3/);
+  await page.put(await page.value('text').then(it => it.replace('count 0', 'count 3')));
+  assert.match(await page.see('faults'), /^no fault, no warning$/);
+  await page.put('board threads=2 sems=[3]\nT0 peek sem=0');
+  await type_at_end(' -> co');
+  assert.equal(await page.see('offers'), 'count 0');
+  await browser.key('Escape');
+  await browser.click('#back-to');
+}
+/** All texts are searched by their words; the list has those alone. */
+async function seeks(page) {
+  const { browser } = page, count = () => browser.evaluate(`document.querySelectorAll('#texts button[data-key]:not([hidden])').length`);
+  if (!await browser.evaluate('document.body.classList.contains("listed")')) await browser.click('#lessons-button');
+  const whole = await count();
+  await browser.click('#seek');
+  await browser.type('ceiling mutex');
+  assert.match(await page.see('sought'), /^\d+ of \d+ texts$/);
+  assert.ok(await count() < whole && await count() > 0);
+  await browser.evaluate(`(() => { const it = document.getElementById('seek'); it.value = '';
+    it.dispatchEvent(new Event('input')); })()`);
+  assert.equal(await count(), whole);
+  await browser.click('#lessons-button');
+}
 /** Orders without end are stopped, by a click, and the page is answered meanwhile. */
 async function stops(page) {
   const { browser } = page, callers = [1, 2, 3, 4, 5, 6, 7];
@@ -357,6 +447,7 @@ async function stops(page) {
   await browser.evaluate(`(() => { const it = document.getElementById('text');
     it.value = ${JSON.stringify(text)}; it.dispatchEvent(new Event('input')); })()`);
   await browser.until(`!document.getElementById('orders-stop').disabled`);
+  await page.tab('orders');
   await sleep(700);
   assert.match(await page.see('verdict'), /Going through all orders/);
   await browser.click('#orders-stop');
@@ -404,8 +495,8 @@ async function callers(page) {
   await browser.click('#lines [data-step="5"]');
   await browser.until(`document.getElementById('state').textContent.includes('After step 5')`);
   assert.match(await row('T0'), /^T0 oob fifo 10 f10 picked m0$/);
-  assert.match(await row('T1'), /^T1 oob fifo 10 f10 blocked claim mutex=0 owner=0 $/);
-  assert.match(await row('mutex 0 in the kernel'), /owner T0, 1 waiting/);
+  assert.match(await row('T1'), /^T1 oob fifo 10 f10 blocked mutex 0 $/);
+  assert.match(await row('mutex 0 in the kernel'), /owner T0, T1 waiting/);
   await page.lesson('Core held');
   for (const [step, says] of [[3, 'taken by T0'], [9, 'free']]) {
     await browser.click(`#lines [data-step="${step}"]`);
@@ -496,7 +587,7 @@ async function handlers(page) {
   await page.put('[[callback]]\naccepts = 2\ndo = [{ post_sem = 1 }]\n', 'bank');
   assert.match(await page.see('lines'), /peek sem=1 -> count 1/);
   assert.match(await page.see('lines'), /count 1 none/);
-  assert.match(await page.see('note'), /no strips/);
+  assert.equal(await page.see('note'), '');
   await page.put('[[callback]]\ndo = [{ post_semm = 1 }]\n', 'bank');
   assert.match(await page.see('faults'), /^fault handlers, line 2 .*write post_sem$/);
   await browser.click('.fix');
@@ -748,5 +839,5 @@ async function owns(page) {
   await page.lesson('5. A timer');
 }
 
-export const WAYS = { opens, walks, goes, tables, edits, completes, lines, drives, orders, stops, stops_play, callers, pages,
+export const WAYS = { opens, walks, goes, tables, edits, completes, expects, seeks, lines, drives, orders, atomic, moments, stops, stops_play, callers, pages,
   long_texts, handlers, exercises, owns, shares, codes, keyboard, widths, keeps, compares };

@@ -4,9 +4,33 @@ import { $, escaped } from './now.js';
 import { put_text } from './kept.js';
 import { CALLERS_WORDS, is_lines } from './text.js';
 
-/** @type {Map<string, any>} */
+/** The program's list of calls, and the refusals that each can be answered. @type {Map<string, import('./reads.js').Call>} */
 let known_calls = new Map();
-export const offer_calls = (/** @type {Map<string, any>} */ list) => { known_calls = list; };
+/** @type {string[]} */
+let known_refusals = [];
+/** @param {{ calls: Map<string, import('./reads.js').Call>, refusals: string[] }} list */
+export function offer_calls({ calls, refusals }) {
+  known_calls = calls;
+  known_refusals = refusals;
+}
+/** The keys that name what a board has, and its keys that say how many. @type {Record<string, string>} */
+const OF_BOARD = { sem: 'sems', flags: 'flags', xbuf: 'xbufs', mutex: 'mutexes', who: 'threads', thread: 'threads', owner: 'threads' };
+const MOST_NUMBERS = 12;
+/** How many of each the board of a text has, as far as it says so on one line. @param {string} text @param {string} key */
+function count_on(text, key) {
+  const of = OF_BOARD[key], said = text.match(new RegExp(`^\\s*${of}\\s*=\\s*(\\d+|\\[.*\\])|^\\s*board\\b.*\\b${of}=(\\d+|\\[.*?\\](?=\\s|$))`, 'm'));
+  const value = said?.[1] || said?.[2] || '', items = value.replace(/^\[|\]$/g, '').replace(/\[[^\]]*\]/g, 'pair');
+  return !of ? 0 : /^\d+$/.test(value) ? Number(value) : items.trim() ? items.split(',').filter(it => it.trim()).length : 0;
+}
+/** The numbers that a key can have on a board. @param {string} text @param {string} key */
+const numbers_on = (text, key) => [...Array(Math.min(count_on(text, key), MOST_NUMBERS)).keys()].map(String);
+/** The threads of a board, as a line begins with them; three where it says nothing of them. @param {string} text */
+const threads_on = text => {
+  const numbers = numbers_on(text, 'who');
+  return (numbers.length ? numbers : ['0', '1', '2']).map(n => `T${n} `);
+};
+/** How the call of a word can be answered, in quotes. @param {string} word */
+const answers_to = word => [...known_calls.get(word)?.answers || [], ...known_refusals].map(it => `"${it}"`);
 
 const BOARD = ['threads', 'sems', 'flags', 'xbufs', 'mutexes', 'groups'], HEADS = ['[board]', '[[step]]'];
 const BANK_HEADS = ['[[callback]]'];
@@ -21,28 +45,40 @@ const ACTIONS = ['every', 'post_sem', 'post_flags', 'bits', 'post_oob', 'propaga
 const step_of = text => ({ word: text.match(/\bdo\s*=\s*"(\w+)"/)?.[1] || '',
   has: new Set([...text.matchAll(/(\w+)\s*=/g)].map(it => it[1])) });
 /** @param {string} word @param {Set<string>} has @param {string} sign */
-const keys_left = (word, has, sign) => {
+const keys_left = (word, has, sign, more = /** @type {string[]} */ ([])) => {
   const call = known_calls.get(word), keys = call ? [...call.keys.keys()] : CALLERS_WORDS[word] || [];
-  return ['do', 'who', ...keys].filter(key => !has.has(key)).map(key => key + sign);
+  return ['do', 'who', ...keys, ...call ? more : []].filter(key => !has.has(key)).map(key => key + sign);
 };
+/** What a key of a call may be, by its kind, or by what the board has. @param {string} key @param {string} word @param {string} text */
+function values_at(key, word, text) {
+  const values = known_calls.get(word)?.keys.get(key)?.values || [], all = values.length ? values : numbers_on(text, key);
+  return all.length ? all : undefined;
+}
 /** What a key may be; a pass has a name that a step gave it. @param {string} key @param {string} word */
 function values_of(key, word, name, kind, text) {
   if (name === 'board' || name === 'ask' || name === 'callback') return VALUES[key];
   const words = [...known_calls.keys(), ...kind === 'orders' ? [] : Object.keys(CALLERS_WORDS)];
   if (key === 'do') return words.map(it => `"${it}"`);
-  if (key !== 'pass') return known_calls.get(word)?.keys.get(key)?.values;
+  if (key === 'expect') return kind === 'play' ? answers_to(word) : undefined;
+  if (key !== 'pass') return values_at(key, word, text);
   return [...new Set([...text.matchAll(/\bas\s*=\s*("[\w-]+")/g)].map(it => it[1]))];
+}
+/** How a step can be expected to be answered, behind an arrow. @param {string} call */
+function offered_answers(call) {
+  const word = call.split(' ')[1], typed = call.match(/ -> (\S*)$/)?.[1] || '';
+  const words = answers_to(word).map(it => it.replace(/"/g, ''));
+  return words.length > known_refusals.length ? { size: typed.length, words } : null;
 }
 /** What may come in a line of a text of lines, before the place. @param {string} line @param {string} text */
 function offered_in_lines(line, text) {
   if (/(^|\s)#/.test(line)) return null;
   const call = line.replace(/^\s*(setup\s+)?((\d+|-)\s+)?/, ''), last = line.match(/\S*$/)?.[0] || '';
-  const threads = Math.min(Number(text.match(/^\s*board\b.*\bthreads=(\d+)/m)?.[1] || 3), 12);
   const keys = ['limit', ...BOARD].filter(key => !line.includes(` ${key}=`)).map(key => key + '=');
   if (/^\s*board\s/.test(line)) return { size: last.length, words: keys };
-  if (/\s/.test(call)) return offered_line(call, call.length);
+  if (/ -> \S*$/.test(call)) return offered_answers(call);
+  if (/\s/.test(call)) return offered_line(call, call.length, text);
   const heads = line.trim() === call ? ['board ', 'limit ', 'setup '] : [];
-  return { size: call.length, words: [...[...Array(threads).keys()].map(n => `T${n} `), ...heads] };
+  return { size: call.length, words: [...threads_on(text), ...heads] };
 }
 /**
  * What may come at a place of a text: how many characters before it are replaced, and the words.
@@ -72,20 +108,20 @@ export function offered(text, at, kind) {
   has.delete(key[1]);
   const words = name === 'callback' ? (inline ? ACTIONS.map(it => it + sign) : less(CALLBACK))
     : name === 'board' ? less(kind === 'callers' ? [...BOARD, 'staxes'] : BOARD) : name === 'ask' ? less(ASK)
-    : kind === 'bank' ? heads : inline || name === 'step' || name === 'setup' ? keys_left(word, has, sign)
+    : kind === 'bank' ? heads : inline || name === 'step' || name === 'setup' ? keys_left(word, has, sign, kind === 'play' ? ['expect'] : [])
     : ['limit = ', ...HEADS, ...text.trim() === line.trim() ? ['board threads='] : []];
   return { size: key[1].length, words };
 }
-/** What may come in a line of the console. @param {string} line @param {number} at */
-export function offered_line(line, at) {
+/** What may come in a line of the console, over the board of a text. @param {string} line @param {number} at */
+export function offered_line(line, at, text = '') {
   const parts = line.slice(0, at).split(' '), last = parts[parts.length - 1];
   const of = known_calls.get(parts[1]), after = parts[0] === '?' ? '' : ' ';
-  if (parts.length === 1) return { size: last.length, words: ['T0 ', 'T1 ', 'T2 ', 'ps', 'ps all', 'scenario', '? '] };
+  if (parts.length === 1) return { size: last.length, words: [...threads_on(text), 'ps', 'ps all', 'undo', 'scenario', '? '] };
   if (parts.length === 2) return { size: last.length, words: [...known_calls.keys()].map(it => it + after) };
   const value = last.match(/^(\w+)=(.*)$/), has = new Set(parts.slice(2, -1).map(it => it.split('=')[0]));
   if (!of) return null;
   if (!value) return { size: last.length, words: keys_left(parts[1], has, '=').slice(2) };
-  const values = of.keys.get(value[1])?.values.map((/** @type {string} */ it) => it.replace(/"/g, ''));
+  const values = values_at(value[1], parts[1], text)?.map(it => it.replace(/"/g, ''));
   return values ? { size: value[2].length, words: values } : null;
 }
 

@@ -4,6 +4,7 @@ import { gone_through, played } from './asks.js';
 import { copied, link_of, save_file } from './kept.js';
 import { show_line } from './editor.js';
 import { verdict_of } from './orders.js';
+import { why_of } from './reads.js';
 import { ask_of, is_lines, kind_of, lost_line, with_ask, HOLE, HOLE_LINE } from './text.js';
 
 /** @param {string} out */
@@ -36,7 +37,7 @@ async function judged(it, text, bank) {
   const asking = { kind: 'orders', text: with_ask(text, it.ask || ''), bank };
   if (it.check === 'ask') return verdict_of(await gone_through(asking, it.ask));
   const mine = await played({ kind: kind_of(text), text, bank });
-  if (mine.status) return ['bad', 'It cannot be played: ' + mine.err.trim().replace('scenario.toml: ', '')];
+  if (mine.status) return ['bad', 'It cannot be played: ' + why_of(mine.err)];
   if (it.check === 'lines') return lines_there(bare_lines(mine.out), it.lines);
   const own = it.bank_solution || it.bank || '';
   const right = await played({ kind: kind_of(it.solution), text: it.solution, bank: own });

@@ -1,43 +1,26 @@
 // Every order in which the callers may come: a verdict, what was asked, a table of outcomes, each opened by a click.
-import { $, now, escaped } from './now.js';
-import { gone_through, stop_orders, ORDERS_SECONDS } from './asks.js';
+import { $, all, now, escaped } from './now.js';
+import { drawn, gone_through, stop_orders, ORDERS_SECONDS } from './asks.js';
+import { why_of } from './reads.js';
 import { ask_of } from './text.js';
 
-const MOST_OUTCOMES = 200;
+const MOST_OUTCOMES = 200, MOST_PICTURES = 24;
 let turn = 0;
 /** @type {any} */
 let shown = null;
 
-/** What the program does not report of a question that may be wrong. @param {any} it */
-function doubts(it) {
-  const found = [], answers = new Map();
-  for (const line of it.outcomes.flatMap(o => o.answers)) {
-    const [who, ...all] = line.split(' -> ');
-    all.forEach((answer, i) => {
-      const call = `${who}'s call ${i + 1}`;
-      answers.set(call, (answers.get(call) || new Set()).add(answer));
-    });
-  }
-  for (const [call, all] of answers)
-    if ([...all].every(answer => /^(Invalid|Unknown|Range|Busy|WrongStage)\b/.test(answer)))
-      found.push(`${call} is refused in every order: ${[...all].join(', ')}.`);
-  const open = /always_ends\s*=\s*true/.test(it.asks)
-    && it.outcomes.find(o => o.ends.some(end => /^T\d+ waits for/.test(end)));
-  if (open) found.push(`Outcome ${open.number}: a thread waits after its last step, which always_ends allows.`);
-  return found;
-}
 /** How it ended, and in which words. @param {any} it */
 export function verdict_of(it) {
-  const why = (it.err.trim().split('\n').pop() || '').replace(/^lab: /, '').replace('scenario.toml: ', '');
-  const doubt = it.asks ? doubts(it)[0] : '';
+  const why = why_of(it.err);
+  const doubt = it.asks ? it.doubts[0] : '';
   if (it.status === -2) return ['unknown', `Not answered: ${why}. Fewer callers or fewer steps have fewer orders.`];
   if (it.against.length) return ['bad', `No: outcome ${it.against.join(', ')} contradicts what is asked.`];
   if (it.status === 1) return ['bad', `No: ${why}.`];
   if (it.cut) return ['unknown', `Not answered: cut off; nothing is known about longer orders (${it.orders} ended).`];
   if (it.status) return ['bad', `The orders were not explored: ${why}`];
-  if (!it.asks) return ['none', `Nothing is asked. There are ${it.orders} orders.`];
-  const well = `holds in all ${it.orders} orders`;
-  return doubt ? ['unknown', `What is asked ${well}, but check that it is what you mean: ${doubt}`]
+  if (!it.asks) return ['none', `Nothing is asked. There ${it.orders === '1' ? 'is' : 'are'} ${count_text(it.orders, 'order')}.`];
+  const well = `holds in ${it.orders === '1' ? 'the one order' : `all ${it.orders} orders`}`;
+  return doubt ? ['unknown', `What is asked ${well}, but check that it is what you mean: ${doubt}.`]
     : ['good', `Yes: what is asked ${well}.`];
 }
 /** @param {number} mine @param {import('./asks.js').Text} text */
@@ -70,10 +53,40 @@ function outcome_row(o, i, it, sum) {
   const stuck = o.stuck.map(says => `<b class="refused">stuck: ${escaped(says)}</b>`);
   const ends = [...stuck, ...o.ends.map(escaped)].join('<br>');
   const answers = o.answers.map(a => escaped(a.replace(' -> ', ': ').replace(/ -> /g, ', '))).join('<br>');
-  return `<tr class="${bad ? 'bad' : ''}"><th scope="row">${o.number}${sign} <button data-open="${i}" `
-    + `aria-label="Open outcome ${o.number}">Open</button></th><td class="n">${o.count}`
+  const opens = o.text ? ` <button data-open="${i}" aria-label="Open outcome ${o.number}">Open</button>` : '';
+  return `<tr class="${bad ? 'bad' : ''}"><th scope="row">${o.number}${sign}${opens}</th><td class="n">${o.count}`
     + `<i style="width:${(60 * o.count / sum).toFixed(0)}px"></i></td><td>${ends}</td><td>${answers}</td>`
-    + `<td>${escaped(o.order)}</td></tr>`;
+    + `<td>${escaped(o.order)}</td></tr>`
+    + (o.text ? `<tr class="picture" hidden><td colspan="5" data-picture="${i}"></td></tr>` : '');
+}
+/** @param {string | number} n @param {string} what */
+const count_text = (n, what) => `${n} ${what}${String(n) === '1' ? '' : 's'}`;
+/** A question about moments, with what was found. @param {any} s @param {number} i */
+function state_row(s, i) {
+  const sign = s.against ? ' ✗<span class="heard"> against what is asked</span>' : '';
+  const opens = s.text ? ` <button data-open="${i}" aria-label="Open state ${s.number}">Open</button>` : '';
+  return `<tr class="${s.against ? 'bad' : ''}"><th scope="row">${s.number}${sign}${opens}</th><td>${escaped(s.key)}</td>`
+    + `<td><code>${escaped(s.asks)}</code></td><td>${escaped(s.found)}</td><td>${escaped(s.order)}</td></tr>`;
+}
+/** @param {any[]} states */
+const states_table = states => !states.length ? '' : '<table id="moments"><caption>What is asked of each moment; the first '
+  + `order that leads there opens.</caption><thead><tr>${['state', 'asked', 'of a moment', 'found', 'order'].map(h =>
+    `<th scope="col">${h}</th>`).join('')}</tr></thead><tbody>${states.map(state_row).join('')}</tbody></table>`;
+/** A picture of its own, which nothing of the page reaches. @param {string} svg @param {string} says */
+export const image_of = (svg, says) =>
+  `<img src="data:image/svg+xml,${encodeURIComponent(svg)}" alt="${escaped(says)}" loading="lazy">`;
+/** Draws the first order of each outcome below its row, one after the other; a click opens it. */
+export async function show_pictures() {
+  const it = shown, bank = $('bank').value;
+  $('pictures').hidden = true;
+  for (const cell of all('#outcomes [data-picture]').slice(0, MOST_PICTURES)) {
+    const o = all_parts(it)[Number(cell.dataset.picture)], text = { kind: 'play', text: o.text, bank };
+    const svg = await drawn(text, Promise.resolve({ out: '' }));
+    if (it !== shown) return;
+    cell.parentElement.hidden = false;
+    cell.innerHTML = svg.out ? `<button data-open="${cell.dataset.picture}">`
+      + `${image_of(svg.out, `Picture of outcome ${o.number}`)}</button>` : escaped(why_of(svg.err));
+  }
 }
 /** @param {any} it */
 function show_orders(it) {
@@ -84,17 +97,27 @@ function show_orders(it) {
   $('asked').innerHTML = it.asks
     ? `<b>Asked</b> ${it.asks.split('\n').slice(1).map(line => `<code>${escaped(line)}</code>`).join(' ')}`
     : 'To ask, add a table <code>[ask]</code>, as <code>always_ends = true</code>.';
-  $('doubts').innerHTML = doubts(it).map(doubt => `<li>${escaped(doubt)}</li>`).join('');
+  $('doubts').innerHTML = it.doubts.map(doubt => `<li>${escaped(doubt)}</li>`).join('');
   const heads = ['outcome', 'orders', 'ends', 'answers of each caller', 'first order'];
-  const rows = it.outcomes.slice(0, MOST_OUTCOMES).map((o, i) => outcome_row(o, i, it, sum));
+  const rows = it.outcomes.slice(0, MOST_OUTCOMES).map((o, i) => outcome_row(o, it.states.length + i, it, sum));
+  $('pictures').hidden = !it.outcomes.some((/** @type {any} */ o) => o.text);
   const rest = it.outcomes.length - rows.length, head = heads.map(h => `<th scope="col">${h}</th>`).join('');
-  $('outcomes').innerHTML = !rows.length ? '' : `<table><caption>${it.orders} orders, ${it.outcomes.length} outcomes, `
-    + `${(it.ms / 1000).toFixed(2)} s. The first order of each outcome opens as trace and picture.</caption>`
+  $('outcomes').innerHTML = states_table(it.states) + (!rows.length ? '' : `<table><caption>${count_text(it.orders, 'order')}, ${count_text(it.outcomes.length, 'outcome')}, `
+    + `${(it.ms / 1000).toFixed(2)} s. ${it.outcomes.some(o => o.text) ? 'The first order of each outcome opens as trace and picture.' : ''}</caption>`
     + `<thead><tr>${head}</tr></thead><tbody>${rows.join('')}</tbody></table>`
-    + (rest > 0 ? `<p>and ${rest} more outcomes</p>` : '');
+    + (rest > 0 ? `<p>and ${rest} more outcomes</p>` : ''));
 }
-/** @param {any} it */
-export const view_of = it =>
-  ({ text: it.text, title: `Outcome ${it.number} (${it.count} orders), in the order ${it.order}` });
+/** What opens as trace and picture: what was found of moments, and outcomes. @param {any} it */
+const all_parts = it => [...it.states, ...it.outcomes];
+/** Of a moment its last step is looked at. @param {any} it */
+const view_of = it => it.asks
+  ? { text: it.text, title: `State ${it.number} (${it.asks}), in the order ${it.order || 'of no step'}`, step: Infinity }
+  : { text: it.text, title: `Outcome ${it.number} (${it.count} orders), in the order ${it.order}`, step: 0 };
+/** What is against what is asked, or else the first outcome. @param {any} it */
+export function first_view(it) {
+  const bad = it.outcomes.find((/** @type {any} */ o) => it.against.includes(o.number))
+    || it.states.find((/** @type {any} */ s) => s.against && s.text) || it.outcomes[0];
+  return bad?.text ? view_of(bad) : null;
+}
 /** @param {number} i */
-export const outcome_shown = i => view_of(shown.outcomes[i]);
+export const part_shown = i => view_of(all_parts(shown)[i]);

@@ -2,20 +2,20 @@
 import { $, all, now, on, text_now, NARROW } from './now.js';
 import { begin_program, calls, checked, converted, run, stop_orders, stop_runs } from './asks.js';
 import { close_offers, offer_calls, offer_key, take_offer } from './complete.js';
-import { begin_console, console_key, offer_in_line, say, scenario_of_console, undo_line } from './console.js';
+import { begin_console, console_key, offer_in_line, say, scenario_of_console } from './console.js';
 import { find, go_to, indent, offer_in_bank, offer_in_text, open_side, paint, paint_all } from './editor.js';
 import { put_fix, refit_text, show_faults } from './editor.js';
 import { check_exercise, exercise_asked, exercise_lesson, exercise_made, make_exercise } from './exercise.js';
 import { make_hole, read_exercise, save_exercise, show_task, show_wanted } from './exercise.js';
 import { add_mine, mine_of, rename, show_mine } from './mine.js';
 import { handed, keep_texts, kept, put_text, save_file, undo_key } from './kept.js';
-import { go_orders, outcome_shown, view_of } from './orders.js';
+import { first_view, go_orders, part_shown, show_pictures } from './orders.js';
 import { draw_all, mark_picture, refit, zoom_by } from './picture.js';
 import { json_of, part_of, RUN_SECONDS } from './program.js';
 import { FILE } from './reads.js';
 import { code_place_changed, copy_code_link, name_of, share, show_code } from './share.js';
 import { draw_again, fill_trace, know_bank, play_text, show_none, show_state, turn_by, walk } from './steps.js';
-import { is_lines, kind_of, steps_of, KINDS } from './text.js';
+import { has_callers, has_words, is_lines, kind_of, steps_of, KINDS } from './text.js';
 
 const LISTED = 1400, WAIT = 40;
 /** @type {number | undefined} */
@@ -65,7 +65,7 @@ async function play() {
     now.told = await checked(text_now());
     show_none(now.kind === 'empty' ? 'The text is empty.' : 'These are handlers: they belong in their own tab.');
   } else {
-    const shown = play_text(mine, now.shown), [told, answer] = await Promise.all([checked(text_now()), shown]);
+    const shown = play_text(mine), [told, answer] = await Promise.all([checked(text_now()), shown]);
     if (mine !== now.turn) return;
     now.told = answer.status && !told.some(it => it.fault) ? told.concat(answer.told) : told;
   }
@@ -85,11 +85,13 @@ async function play_orders(mine) {
   show_none('An outcome is shown here after all orders have been explored.');
   const answer = await go_orders(mine, text_now());
   if (mine !== now.turn || !answer) return;
-  if (!now.told.length) now.told = answer.told;
-  const at = Math.max(0, answer.outcomes.findIndex(o => answer.against.includes(o.number)));
-  if (!answer.outcomes[at]) return show_none('There is no outcome to show.');
-  now.viewed = view_of(answer.outcomes[at]);
-  await play_text(mine);
+  // What is explored was read: lab check takes a text of atomic steps for one of whole calls.
+  if ([0, 1, 5].includes(answer.status)) now.told = now.told.filter(it => !it.fault);
+  else if (!now.told.length || has_callers($('text').value)) now.told = answer.told;
+  now.viewed = first_view(answer);
+  if (!now.viewed) return show_none(answer.outcomes.length ? 'Outcomes of atomic steps have no trace: their orders are in the table.'
+    : 'There is no outcome to show.');
+  await play_text(mine, now.viewed.step);
 }
 function changed_text() {
   now.steps = steps_of($('text').value);
@@ -283,7 +285,7 @@ function view(view) {
   now.turn++;
   begin_console();
   open_tab('walk');
-  return play_text(now.turn);
+  return play_text(now.turn, view.step);
 }
 /** Control and blank ask what may come here. @param {any} event @param {(asked: boolean) => void} does */
 function asks_offer(event, does) {
@@ -337,8 +339,10 @@ function wire_views() {
     refit();
   });
   on('outcomes', 'click', event => {
-    if (event.target.dataset.open) view(outcome_shown(Number(event.target.dataset.open)));
+    const opens = event.target.closest('[data-open]');
+    if (opens) view(part_shown(Number(opens.dataset.open)));
   });
+  on('pictures', 'click', show_pictures);
   on('orders-stop', 'click', () => stop_orders('stopped by you'));
   on('busy-stop', 'click', () => stop_runs('stopped by you'));
   on('viewed-back', 'click', () => open_tab('orders'));
@@ -352,7 +356,7 @@ function wire_views() {
     $('line').value = '';
     if (line) say(line);
   });
-  on('undo', 'click', undo_line);
+  on('undo', 'click', () => say('undo'));
   on('to-text', 'click', async () => {
     const text = await scenario_of_console();
     if (!text.trim()) return;
@@ -420,14 +424,14 @@ function wire_head() {
 }
 /** @param {any[]} lessons */
 function list_lessons(lessons) {
-  let group = '', section = $('list');
+  let group = '', section = $('texts');
   section.innerHTML = '<section id="mine"></section>';
   for (const it of lessons) {
     if (it.group !== group) {
       group = it.group;
       section = document.createElement('section');
       section.innerHTML = `<h2>${group}</h2>`;
-      $('list').append(section);
+      $('texts').append(section);
     }
     const button = document.createElement('button');
     button.textContent = it.title;
@@ -436,6 +440,13 @@ function list_lessons(lessons) {
     section.append(button);
   }
 }
+/** Hides the lessons that have not all of the words that are sought. @param {any[]} lessons */
+function seek(lessons) {
+  const asked = $('seek').value.trim(), found = new Set(lessons.filter(it => has_words(it, asked)).map(it => it.key));
+  for (const button of all('#texts section:not(#mine) button')) button.hidden = !found.has(button.dataset.key);
+  for (const section of all('#texts section:not(#mine)')) section.hidden = !section.querySelector('button:not([hidden])');
+  $('sought').textContent = asked && `${found.size} of ${lessons.length} texts`;
+}
 async function start() {
   begin_program(await part_of('lab.wasm'));
   const given = await json_of('lessons.json');
@@ -443,6 +454,7 @@ async function start() {
   const lessons = given.map((/** @type {any} */ it) =>
     it.exercise ? exercise_lesson(it.exercise) : { key: `${it.group} ${it.title}`, ...it });
   list_lessons(lessons);
+  on('seek', 'input', () => seek(lessons));
   wire_texts();
   wire_views();
   wire_head();

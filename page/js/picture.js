@@ -3,7 +3,7 @@
 // a drawing of its own, which is made only once it is seen. Of one that goes down: a row of lanes for each line of the
 // trace, beside which the trace stands. Its key is beside both.
 import { $, all, now, escaped } from './now.js';
-import { rank_text } from './reads.js';
+import { rank_text } from './states.js';
 
 const PITCH = 30, LEFT = 104, ABOVE = 50, BELOW = 34, EACH = 5, LEAST = .85;
 /** @typedef {{ first: number, low: number, top: number, parts: (() => string)[], box?: any }} Band */

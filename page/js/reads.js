@@ -1,38 +1,48 @@
-// What the program printed, read: faults with their places, lines of a trace, outcomes of orders, forms of calls.
+// What the program printed, read: what was found in texts, lines of a trace, outcomes of orders, the list of calls.
+import { HOLE } from './text.js';
 
 export const FILE = 'scenario.toml', BANK = 'handlers.toml';
 /** @typedef {{ fault: boolean, bank?: boolean, line?: number, column: number, says: string, where: string }} Told */
 
+/** A place in a text: bytes are counted there, characters here. @param {string[]} lines */
+function place_in(lines, /** @type {number} */ line, /** @type {number} */ byte) {
+  const whole = new TextEncoder().encode(lines[line - 1] || '');
+  return { line: line - 1, column: new TextDecoder().decode(whole.slice(0, byte - 1)).length };
+}
 /**
- * What `lab check` reports, each with its place in the text or in its handlers; columns are counted in bytes there, in
- * characters here.
- * @param {string} out @param {string} text @param {{ from: number, to: number }[]} steps
+ * What `lab check --json` found in a text and in its handlers, each with its place: a fault, a warning at its step, or a
+ * step that is answered otherwise than the text expects.
+ * @param {string} out @param {string} text @param {{ from: number, to: number }[]} steps @returns {Told[]}
  */
-export function read_faults(out, text, steps, handlers = '') {
-  const lines = text.split('\n'), bank_lines = handlers.split('\n');
-  const encoder = new TextEncoder(), decoder = new TextDecoder();
-  /** @param {string} name */
-  const table = name => lines.findIndex(line => new RegExp(`^\\s*\\[\\s*${name}\\s*\\]`).test(line));
-  return out.split('\n').filter(Boolean).map(/** @returns {Told} */ line => {
-    const bank = line.includes(BANK + ':');
-    const says = line.replace(/^lab: /, '').replace(FILE + ':', '').replace(BANK + ':', '').trim();
-    const place = says.match(/^(\d+):(\d+): (.*)$/);
-    if (place) {
-      const line = +place[1] - 1, whole = encoder.encode((bank ? bank_lines : lines)[line] || '');
-      const before = whole.slice(0, +place[2] - 1);
-      const where = `${bank ? 'handlers, ' : ''}line ${place[1]}`;
-      return { fault: true, bank, line, column: decoder.decode(before).length, says: place[3], where };
-    }
-    const step = bank ? null : says.match(/^step (\d+): warning: (.*)$/) || says.match(/^bad step (\d+):? ?(.*)$/);
-    if (step) {
-      const warns = says.includes(': warning: '), line = steps[+step[1] - 1]?.from;
-      const why = step[2] || 'it cannot be read: its word, or one of its keys';
-      return { fault: !warns, line, column: 0, says: why, where: `step ${step[1]}` };
-    }
-    const at = says.startsWith('[ask]') ? table('ask') : says === 'bad board' ? table('board') : -1;
-    const where = bank ? 'in the handlers' : at < 0 ? '' : `line ${at + 1}`;
-    return { fault: !/warning/.test(says), line: at < 0 ? undefined : at, column: 0, says, where };
+export function read_notices(out, text, steps, handlers = '') {
+  const lines = { [FILE]: text.split('\n'), [BANK]: handlers.split('\n') };
+  return out.split('\n').filter(Boolean).map(line => {
+    const it = JSON.parse(line), bank = it.file === BANK, own = bank ? 'handlers, ' : '';
+    const at = it.line ? place_in(lines[it.file], it.line, it.byte || 1)
+      : { line: bank ? undefined : steps[it.step - 1]?.from, column: 0 };
+    const where = it.line ? `${own}line ${it.line}` : it.step ? `step ${it.step}` : bank ? 'in the handlers' : '';
+    const hole = at.line !== undefined && lines[it.file][at.line]?.includes(HOLE), says = hole ? `a hole (${HOLE}) to fill` : it.says;
+    return { fault: it.kind !== 'warning', ...bank ? { bank } : {}, ...at, says, where };
   });
+}
+/** What a part of the program says of a text that it refuses, line by line, without the way to all its faults. */
+const lines_of_err = (/** @type {string} */ err) =>
+  err.split('\n').filter(line => line && !/^lab check .* tells every fault$/.test(line));
+/**
+ * Why a part of the program refuses a text: what it says, and the place where it says one.
+ * @param {string} err @param {string} text @returns {Told[]}
+ */
+export function read_refused(err, text) {
+  return lines_of_err(err).map(line => {
+    const says = line.replace(/^lab: /, '').replace(`${FILE}:`, '').trim(), place = says.match(/^(\d+):(\d+): (.*)$/);
+    if (!place) return { fault: true, column: 0, says, where: '' };
+    return { fault: true, ...place_in(text.split('\n'), +place[1], +place[2]), says: place[3], where: `line ${place[1]}` };
+  });
+}
+/** The same in one line, which has no place where another says it. @param {string} err */
+export function why_of(err) {
+  const lines = lines_of_err(err).map(line => line.replace(/^lab: /, '').replace(`${FILE}: `, ''));
+  return (lines.filter(line => !line.startsWith(`${FILE}:`)).pop() || lines.pop() || '').replace(/^\S+:\d+:\d+: /, '').trim();
 }
 
 /**
@@ -53,85 +63,62 @@ export function read_trace(out) {
   });
 }
 
-/** A rank as a policy writes it: real-time, quota or weak. @param {number} n */
-export const rank_text = n => n >= 512 ? 'f' + (n - 512) : n >= 256 ? 'q' + (n - 256) : 'w' + n;
-/** A rank, with an arrow where it isn't the one that the policy gives. @param {string} policy @param {number} rank */
-function rank_of(policy, rank) {
-  const parts = policy.split(' '), own = parts[0] === 'rr' ? +parts[1] : +parts[parts.length - 1];
-  return rank_text(rank) + (rank % 256 === own ? '' : ' ↑');
-}
-/** @typedef {{ name: string, stage: string, policy: string, rank: string, is: string, wait: string }} Thread */
-const THREAD = /^(T\d+) (oob|inband)((?: (?!rank|picked)\w+)*)(?: rank (\d+))?( picked)?(?:, ([^:]*)(?:: (.*))?)?$/;
-const ROW = /^(oob|inband|date|(?:sem|flags|xbuf|mutex|timer) \d+),? (.*)$/;
 /**
- * A thread of `ps all`: it has a policy and a rank while it is attached, and a call while it has an unfinished wait.
- * @param {string[]} it @returns {Thread}
+ * A part of what `lab orders` printed, without its first line: its notes, by what they begin with, and its scenario, which
+ * orders of atomic steps have none of.
+ * @param {string[]} rest
  */
-function thread_of([, name, stage, policy, rank, picked, how = '', call = '']) {
-  const wait = call.replace(/ until=none/, '');
-  const is = how === 'waits' ? 'blocked' : !rank ? '–' : picked ? 'picked' : stage === 'oob' ? 'ready' : 'in-band';
-  return { name, stage: stage === 'oob' ? 'oob' : 'in-band', policy: policy.trim() || '–',
-    rank: rank ? rank_of(policy.trim(), +rank) : '–', is, wait: how && how !== 'waits' ? `${how}: ${wait}` : wait };
+function read_part(rest) {
+  const end = rest.findIndex(line => !line.startsWith('# '));
+  const notes = rest.slice(0, end < 0 ? rest.length : end).map(line => line.slice(2));
+  const text = rest.slice(notes.length), till = text.findIndex(line => line.startsWith('# '));
+  const by = (/** @type {string} */ key) => notes.filter(it => it.startsWith(key)).map(it => it.slice(key.length));
+  const scenario = text.slice(0, till < 0 ? undefined : till).join('\n');
+  return { notes, by, order: by('order: ')[0] || '', text: scenario.trim() && scenario + '\n' };
+}
+/** Whether what was found at moments is against what is asked of them; of orders that are cut off some is not known. */
+const AGAINST = { never_state: 'at a moment', sometimes: 'at no moment', always: 'not at each moment' };
+/** @param {string} part @param {boolean} cut */
+function read_state(part, cut) {
+  const [first, ...rest] = part.trimEnd().split('\n'), it = read_part(rest);
+  const [, number, key, asks, found] = first.match(/^# state (\d+): (\w+): (.*): (.*)$/) || [];
+  const is = found === AGAINST[key], open = cut && (key === 'sometimes' ? is : !is && found !== 'at a moment');
+  return { number, key, asks, found: open ? 'not known: cut off' : found, against: is && !open, order: it.order,
+    text: it.text };
+}
+/** @param {string} part */
+function read_outcome(part) {
+  const [first, ...rest] = part.trimEnd().split('\n'), [, number, count] = first.match(/^# outcome (\d+): (\d+)/) || [];
+  const { notes, by, order, text } = read_part(rest), answers = notes.filter(it => /^T\d+ ->/.test(it));
+  return { number, count, answers, stuck: by('stuck: '), order,
+    ends: notes.filter(it => !/^(T\d+ ->|stuck: |order: )/.test(it)), text };
 }
 /**
- * What a driven machine answers to `ps all`: each thread, and a row for each element, stage and timer and for the date.
- * Mutexes are reported only while they have an owner: a trace's first line says how many there are.
- * @param {string} told @param {string} head
+ * What `lab orders` printed: how many orders, what may not be meant so, what was found of each question about moments,
+ * and each outcome with its notes and its scenario.
+ * @param {string} out
  */
-export function read_state(told, head) {
-  /** @type {Thread[]} */
-  const threads = [], rows = new Map(), mutexes = +(head.match(/ mutexes=(\d+)/)?.[1] || 0);
-  for (let n = 0; n < mutexes; n++) rows.set(`mutex ${n}`, 'no owner');
-  for (const line of told.split('\n')) {
-    const thread = line.match(THREAD), row = line.match(ROW);
-    if (thread) threads.push(thread_of(thread));
-    else if (row) {
-      const [, of, says] = row, waiting = says.match(/^count -(\d+)$/);
-      rows.set({ oob: 'out-of-band', inband: 'in-band' }[of] || of,
-        waiting ? `0, ${waiting[1]} waiting` : of === 'date' ? says + ' ns' : says.replace(/^(count|bits) /, ''));
-    }
-  }
-  return { threads, rows };
-}
-
-/** What `lab orders` printed: how many orders, and each outcome with its notes and its scenario. @param {string} out */
 export function read_orders(out) {
-  const [head, ...parts] = out.split(/^(?=# outcome \d+:)/m), found = head.match(/^# (\d+) orders?, \d+ outcomes?/m);
-  const outcomes = parts.map(part => {
-    const lines = part.trimEnd().split('\n'), [, number, count] = lines[0].match(/^# outcome (\d+): (\d+)/) || [];
-    const rest = lines.slice(1), end = rest.findIndex(line => !line.startsWith('# '));
-    const notes = rest.slice(0, end < 0 ? rest.length : end).map(line => line.slice(2));
-    const by = (/** @type {string} */ key) => notes.filter(it => it.startsWith(key)).map(it => it.slice(key.length));
-    const answers = notes.filter(it => /^T\d+ ->/.test(it));
-    const text = rest.slice(notes.length), till = text.findIndex(line => line.startsWith('# '));
-    return { number, count, answers, stuck: by('stuck: '), order: by('order: ')[0] || '',
-      ends: notes.filter(it => !/^(T\d+ ->|stuck: |order: )/.test(it)),
-      text: text.slice(0, till < 0 ? undefined : till).join('\n') + '\n' };
-  });
-  return { orders: found ? found[1] : '', cut: /^# cut off.*$/m.exec(out)?.[0] || '', outcomes };
+  const [head, ...parts] = out.split(/^(?=# (?:outcome|state) \d+:)/m), found = head.match(/^# (\d+) orders?, \d+ outcomes?/m);
+  const cut = /^# cut off.*$/m.exec(out)?.[0] || '', of = (/** @type {string} */ key) => parts.filter(it => it.startsWith(`# ${key} `));
+  return { orders: found ? found[1] : '', cut, doubts: [...head.matchAll(/^# warning: (.*)$/gm)].map(it => it[1]),
+    states: of('state').map(it => read_state(it, Boolean(cut))), outcomes: of('outcome').map(read_outcome) };
 }
 
-/** What may stand for a word of a form. @type {Record<string, string>} */
-const SAMPLES = { PRIO: '10', SLICE: '500', GROUP: '0', MASK: '3' };
+/** @typedef {{ kind: string, most: number | null, must: boolean, values: string[] }} Key */
+/** @typedef {{ keys: Map<string, Key>, answers: string[] }} Call */
 /**
- * The calls of `lab help`, each with its keys: whether each must be there, and which values are offered.
- * @param {string[]} told  the answer of `lab help WORD` for each
+ * The calls of `lab help --json`, each with its keys (whether each must be there, and which values a text can have
+ * there) and its answers, with a sample in place of a number; and the refusals that any call can be answered.
+ * @param {string} out @returns {{ calls: Map<string, Call>, refusals: string[] }}
  */
-export function read_calls(told) {
-  /** @type {Map<string, { form: string, keys: Map<string, { wanted: string, must: boolean, values: string[] }> }>} */
-  const calls = new Map();
-  for (const it of told) {
-    const [form, ...rest] = it.trimEnd().split('\n'), word = form.split(' ')[1], keys = new Map();
-    if (!word) continue;
-    for (const line of rest) {
-      const [, name, wanted] = line.match(/^ +(\w+): (.*)$/) || [];
-      if (!name) continue;
-      const sample = wanted.replace(/[A-Z]{2,}/g, word => SAMPLES[word] || word);
-      const values = sample.match(/"[^"]*"/g) || [];
-      if (wanted.startsWith('true or false')) values.push('true', 'false');
-      keys.set(name, { wanted, must: !form.includes(`[${name}=`), values });
-    }
-    calls.set(word, { form, keys });
+export function read_calls(out) {
+  const calls = new Map(), lines = out.split('\n').filter(Boolean).map(line => JSON.parse(line));
+  for (const it of lines.filter(it => it.word)) {
+    const keys = new Map(it.keys.map((/** @type {any} */ key) => [key.key,
+      { kind: key.kind, most: key.most, must: key.default === null, values: key.values.map((/** @type {any} */ v) => JSON.stringify(v)) }]));
+    const answers = it.answers.map((/** @type {string} */ one) => one.replace(/\bN\b/, '0').replace(/\bHEX\b/, '00'));
+    calls.set(it.word, { keys, answers });
   }
-  return calls;
+  return { calls, refusals: lines.find(it => it.refusals)?.refusals || [] };
 }

@@ -1,9 +1,11 @@
 // The trace and how the machine is after each step, walked step by step.
 import { $, all, now, escaped, text_now, NARROW } from './now.js';
-import { callers_at, drawn, machine_of, played, state_at } from './asks.js';
+import { callers_at, drawn, machine_of, played } from './asks.js';
 import { paint_step, show_line } from './editor.js';
 import { fit_lanes, mark_picture, read_lanes, show_key, show_picture } from './picture.js';
 import { Parts } from './parts.js';
+import { why_of } from './reads.js';
+import { state_table } from './states.js';
 import { actions_of, HOLE, passes_at, plays_at } from './text.js';
 
 const MOST_THREADS = 12, MARKS = 2000;
@@ -19,6 +21,8 @@ let places = new Map();
 let marks_before = [];
 /** The rows of lanes beside the trace, where time goes down. */
 let lanes = read_lanes('');
+/** Whether the machine of the trace that is shown is still on its way. */
+let is_made_later = false;
 /** The row of lanes of a line, where the page of the picture has it. @param {number} i */
 function lanes_at(i) {
   const row = lanes.rows[marks_before[i] - (shown_picture.page - 1) * MARKS] || { y: 0, parts: '' };
@@ -84,12 +88,14 @@ export function show_none(why) {
   put_picture('');
   show_state(0);
 }
-/** How a machine is after a step: asked once. @param {any} machine @param {number} step */
+/** How a machine is after a step, as a table; of callers it is asked once. @param {any} machine @param {number} step */
 async function known_at(machine, step) {
-  const ask = machine.kind === 'callers' ? callers_at : state_at;
-  const known = machine.states.get(step) || ask(machine, step);
-  machine.states.set(step, known);
-  return known;
+  const head = machine.entries[0]?.line || '';
+  if (machine.kind !== 'callers') return state_table(machine.states[Math.min(step, machine.states.length - 1)], head);
+  const known = machine.known.get(step) || callers_at(machine, step);
+  machine.known.set(step, known);
+  const state = await known;
+  return state && state_table(state, head);
 }
 /** Of many threads only those that are attached or wait. @param {any} at */
 function table_of(at) {
@@ -172,6 +178,7 @@ export async function show_state(step) {
   if (pages.length && !pages.includes(shown_picture.page)) turn_page(pages[0]);
   if (now.steps[step - 1] && !now.viewed) show_line(now.steps[step - 1].from);
   const machine = now.machine || now.callers, table = now.callers ? callers_table : table_of;
+  if (!machine && is_made_later) return;
   if (!machine) return show_table(locks_at(step), locks_at(Math.max(0, step - 1)), step);
   const known = await known_at(machine, step), at = table(known, step);
   const before = step ? table(await known_at(machine, step - 1), step - 1) : at;
@@ -215,40 +222,48 @@ function put_picture(picture) {
 }
 /** @param {string} by */
 export const turn_by = by => turn_page(shown_picture.page + Number(by));
-/** Plays and draws a scenario: the text's own, or that of an outcome. @param {number} mine */
-export async function play_text(mine, step = 0) {
+/** Shows a trace with its picture; the machine behind its steps may come later. */
+function show_played(it, answer, svg, title) {
+  const callers = it.kind === 'callers' ? { ...it, entries: answer.entries, known: new Map() } : null;
+  Object.assign(now, { machine: null, callers, played: now.lesson?.key });
+  $('stale').hidden = true;
+  const pages = Number(svg.err.match(/page 1 of (\d+)/)?.[1] || 1);
+  shown_picture = { it, out: answer.out, title, page: 1, pages };
+  lanes = read_lanes('');
+  if (now.entries !== answer.entries) show_trace(answer.entries);
+  put_picture(svg.out);
+  is_made_later = !callers;
+}
+/**
+ * Plays and draws a scenario, the text's own or that of an outcome, and goes to a step, or stays at the one that is looked
+ * at by then. @param {number} mine @param {number} [step]
+ */
+export async function play_text(mine, step) {
   // All is asked at once: one worker plays and makes the machine, another draws; the trace is shown when it is there.
   const it = text_now(), trace = played(it), picture = drawn(it, trace, way_now());
   const made = it.kind === 'callers' ? null : machine_of(it), answer = await trace;
   // Lanes and their lines come together.
   if (mine === now.turn && answer.out && !lanes.wide) show_trace(answer.entries);
-  const [svg, machine] = await Promise.all([picture, made]);
+  const svg = await picture;
   if (mine !== now.turn) return answer;
   const title = now.viewed ? now.viewed.title : now.lesson?.title || 'the text';
-  if (answer.out) {
-    const more = { entries: answer.entries, states: new Map() };
-    const callers = it.kind === 'callers' ? { ...it, ...more } : null;
-    Object.assign(now, { machine: machine && Object.assign(machine, more), callers, played: now.lesson?.key });
-    $('stale').hidden = true;
-    const pages = Number(svg.err.match(/page 1 of (\d+)/)?.[1] || 1);
-    shown_picture = { it, out: answer.out, title, page: 1, pages };
-    lanes = read_lanes('');
-    if (now.entries !== answer.entries) show_trace(answer.entries);
-    put_picture(svg.out);
-  } else {
-    const told = answer.err.trim().replace(/^lab: /, '').replace(/scenario\.toml:(\d+:\d+:)? /, '');
-    const why = told.replace(/; did you mean .*/, '') || 'there is nothing to play';
+  if (answer.out) show_played(it, answer, svg, title);
+  else {
+    const why = why_of(answer.err).replace(/; did you mean .*/, '') || 'there is nothing to play';
     show_stale(it.text.includes(HOLE) ? `The text has a hole (${HOLE}). The text is played when it is filled.`
       : answer.status === -2 ? `It was not played: ${why}.`
       : `It cannot be played: ${why}. The faults are listed below the text.`);
   }
-  const bare = it.bank.trim() && it.kind !== 'callers', undrawn = answer.out && !svg.out;
-  $('note').textContent = undrawn ? `not drawn: ${svg.err.trim().replace(/^lab: /, '')}`
-    : bare ? 'no strips over handlers of your own' : '';
+  const undrawn = answer.out && !svg.out;
+  $('note').textContent = undrawn ? `not drawn: ${why_of(svg.err)}` : '';
   $('viewed').hidden = !now.viewed;
   $('viewed-title').textContent = now.viewed ? title : '';
   const memory = (Math.max(answer.memory, svg.memory) / 1048576).toFixed(1);
   $('times').textContent = `play ${answer.ms.toFixed(1)} ms, draw ${svg.ms.toFixed(1)} ms, memory ${memory} MiB`;
-  if (answer.out) await show_state(Math.min(step, now.count));
+  const machine = await made;
+  if (mine !== now.turn || !answer.out) return answer;
+  is_made_later = false;
+  now.machine = machine && Object.assign(machine, { entries: answer.entries, known: new Map() });
+  await show_state(Math.min(step ?? now.shown, now.count));
   return answer;
 }

@@ -32,6 +32,10 @@ export function is_lines(text) {
 }
 /** A line of a text of lines with no comment. @param {string} line */
 const said_of = line => line.replace(/(^|\s)#.*/, '').trim();
+const CALLERS_WORD = new RegExp(`\\bdo\\s*=\\s*["'](${Object.keys(CALLERS_WORDS).join('|')})["']`);
+/** Whether a text has staxes, or words that a machine's callers alone have: its orders are of atomic steps. @param {string} text */
+export const has_callers = text => text.split('\n').map(line => bare_of(line).trim())
+  .some(line => /^staxes\s*=/.test(line) || CALLERS_WORD.test(line));
 /** @param {string} text */
 export function kind_of(text) {
   if (is_lines(text)) return text.split('\n').some(line => /^setup\s+[^=]/.test(said_of(line))) ? 'orders' : 'play';
@@ -41,8 +45,7 @@ export function kind_of(text) {
   const scenario = has(/^\[\s*board\s*\]|^\[\[\s*(step|setup)\s*\]\]|^(step|setup|board)\b\s*[=.]/m);
   if (!scenario && has(/^\[\[\s*callback\s*\]\]|^callback\s*=/m)) return 'bank';
   if (has(/^\[\s*ask\s*\]|^ask\s*[=.]|^\[\[\s*setup\s*\]\]|^setup\s*=/m)) return 'orders';
-  const word = new RegExp(`\\bdo\\s*=\\s*["'](${Object.keys(CALLERS_WORDS).join('|')})["']`);
-  return has(/^staxes\s*=/m) || has(word) ? 'callers' : 'play';
+  return has_callers(whole) ? 'callers' : 'play';
 }
 
 /** The line of each step of a text of lines: what is set up comes first. @param {string} text */
@@ -135,6 +138,11 @@ export function passes_at(entries, step) {
   return holders;
 }
 
+/** Whether a lesson has all of some words, in its title, its text, or what is said of it. @param {any} it @param {string} asked */
+export function has_words(it, asked) {
+  const all = [it.title, it.text, it.story, it.exercise?.question].join('\n').toLowerCase();
+  return asked.toLowerCase().split(/\s+/).every(word => all.includes(word));
+}
 export const HOLE = '____', HOLE_LINE = '# your steps here';
 /**
  * The first line of an exercise that a text has lost, or null: all but its holes has to be there, in order.

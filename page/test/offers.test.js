@@ -5,18 +5,20 @@ import { offer_calls, offered, offered_line } from '../js/complete.js';
 import { lines_there, same_trace } from '../js/exercise.js';
 import { read_calls } from '../js/reads.js';
 
-offer_calls(read_calls(['T0 put sem=0\n  sem: a number is wanted\n',
-  'T0 stall stage=oob\n  stage: "inband" or "oob" is wanted\n']));
+offer_calls(read_calls('{"word": "put", "keys": [{"key": "sem", "default": null, "kind": "number", "most": 65535, "values": []}], '
+  + '"answers": ["done"]}\n{"word": "stall", "keys": [{"key": "stage", "default": null, "kind": "stage", "most": null, '
+  + '"values": ["inband", "oob"]}], "answers": ["done"]}\n{"refusals": ["Unknown", "Busy"]}\n'));
 /** What is offered at the bar of a text. */
 const at = (text, kind = 'play') => offered(text.replace('|', ''), text.indexOf('|'), kind);
 
 test('words, keys and values of a step', () => {
   assert.deepEqual(at('[[step]]\ndo = |', 'orders'), { size: 0, words: ['"put"', '"stall"'] });
   assert.deepEqual(at('[[step]]\ndo = "pu|', 'orders'), { size: 3, words: ['"put"', '"stall"'] });
-  assert.deepEqual(at('[[step]]\ndo = "put"\n|')?.words, ['who = ', 'sem = ']);
-  assert.deepEqual(at('[[step]]\ndo = "put"\nwho = 0\ns|\n[[step]]\nsem = 0\n')?.words, ['sem = ']);
+  assert.deepEqual(at('[[step]]\ndo = "put"\n|')?.words, ['who = ', 'sem = ', 'expect = ']);
+  assert.deepEqual(at('[[step]]\ndo = "put"\n|', 'orders')?.words, ['who = ', 'sem = ']);
+  assert.deepEqual(at('[[step]]\ndo = "put"\nwho = 0\ns|\n[[step]]\nsem = 0\n')?.words, ['sem = ', 'expect = ']);
   assert.deepEqual(at('[[step]]\ndo = "stall"\nstage = |')?.words, ['"inband"', '"oob"']);
-  assert.deepEqual(at('step = [\n  { do = "stall", who = 0, s|')?.words, ['stage = ']);
+  assert.deepEqual(at('step = [\n  { do = "stall", who = 0, s|')?.words, ['stage = ', 'expect = ']);
 });
 test('words, keys and passes of callers', () => {
   assert.ok(at('[[step]]\ndo = "|')?.words.includes('"try_lock_stax"'));
@@ -53,6 +55,14 @@ test('lines of a text of lines', () => {
   assert.ok(at('board threads=2 s|')?.words.includes('sems=') && !at('board threads=2 s|')?.words.includes('threads='));
   assert.equal(at('board threads=2\nT0 put # |'), null);
   assert.ok(at('b|')?.words.includes('board threads='));
+});
+test('numbers of what the board has, and answers that can be expected', () => {
+  const board = '[board]\nthreads = 2\nsems = [0, 4]\nxbufs = [[8, 8], [1, 1]]\n[[step]]\n';
+  assert.deepEqual(at(board + 'do = "put"\nsem = |'), { size: 0, words: ['0', '1'] });
+  assert.deepEqual(at(board + 'do = "put"\nexpect = |')?.words, ['"done"', '"Unknown"', '"Busy"']);
+  assert.deepEqual(at('board threads=2 sems=[0, 0, 0]\nT1 put sem=|'), { size: 0, words: ['0', '1', '2'] });
+  assert.deepEqual(at('board threads=2 sems=[0]\nT1 put sem=0 -> U|'), { size: 1, words: ['done', 'Unknown', 'Busy'] });
+  assert.deepEqual(offered_line('T0 put sem=', 11, board)?.words, ['0', '1']);
 });
 test('lines of the console', () => {
   assert.ok(offered_line('T0', 2)?.words.includes('T0 '));

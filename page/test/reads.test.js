@@ -1,7 +1,7 @@
 // node --test test/: what the program printed, read.
 import assert from 'node:assert/strict';
 import test from 'node:test';
-import { read_calls, read_faults, read_orders, read_state, read_trace } from '../js/reads.js';
+import { read_calls, read_notices, read_orders, read_refused, read_trace, why_of } from '../js/reads.js';
 
 test('a trace has entries, plays and other lines', () => {
   const it = read_trace('board threads=1\n1 T0 put sem=0 -> done\n  line 5 oob count 1 none\n- T0 now -> HistoryFull\n'
@@ -11,33 +11,35 @@ test('a trace has entries, plays and other lines', () => {
   const { who, call, keys, answer } = it[1];
   assert.deepEqual([who, call, keys, answer, it[4].lock], ['T0', 'put', 'sem=0', 'done', 'core: free']);
 });
-test('faults have their places, in characters', () => {
+/** A line of `check --json`. @param {any} it */
+const notice = it => JSON.stringify({ file: 'scenario.toml', kind: 'fault', line: null, byte: null, step: null, says: 'x', ...it });
+test('what is found has its place, in characters, or that of its step', () => {
   const text = '# é\n[board]\nü = 1\n[[step]]\ndo = "x"\n', steps = [{ from: 3, to: 4 }];
-  const told = read_faults('scenario.toml:3:1: no key "ü"\nscenario.toml:1:5: late\n'
-    + 'scenario.toml: step 1: warning: T0 waits until the end\nlab: scenario.toml: bad board\n'
-    + 'handlers.toml: callback 0: a table is wanted\nbad step 1\n', text, steps);
+  const told = read_notices([{ line: 3, byte: 1 }, { line: 1, byte: 5 }, { kind: 'warning', step: 1 }, { kind: 'warning' },
+    { kind: 'unexpected', line: 5, step: 1 }, { file: 'handlers.toml', kind: 'unread', says: 'no file' }].map(notice).join('\n'), text, steps);
   assert.deepEqual(told.map(it => [it.fault, it.line, it.column, it.where]), [
-    [true, 2, 0, 'line 3'], [true, 0, 3, 'line 1'], [false, 3, 0, 'step 1'],
-    [true, 1, 0, 'line 2'], [true, undefined, 0, 'in the handlers'], [true, 3, 0, 'step 1']]);
+    [true, 2, 0, 'line 3'], [true, 0, 3, 'line 1'], [false, 3, 0, 'step 1'], [false, undefined, 0, ''],
+    [true, 4, 0, 'line 5'], [true, undefined, 0, 'in the handlers']]);
 });
-test('faults of handlers have their places in the handlers', () => {
-  const told = read_faults('handlers.toml:2:8: no key\n', '', [], '# a\ndo = "é" x\n');
+test('a hole is no fault of the one who fills it', () => {
+  const [told] = read_notices(notice({ line: 2, byte: 6, says: 'there is no call "____"' }), '[[step]]\ndo = "____"\n', []);
+  assert.deepEqual([told.says, told.where], ['a hole (____) to fill', 'line 2']);
+});
+test('what is found in handlers has its place in the handlers', () => {
+  const told = read_notices(notice({ file: 'handlers.toml', line: 2, byte: 8, says: 'no key' }), '', [], '# a\ndo = "é" x\n');
   assert.deepEqual(told, [{ fault: true, bank: true, line: 1, column: 7, says: 'no key', where: 'handlers, line 2' }]);
 });
-test('a state has its threads and a row for each element', () => {
-  const told = ['date 7', 'T0 inband', 'T1 oob fifo 10 rank 532 picked',
-    'T2 oob rr 20 500 rank 532, waits: begin_get sem=0 until=none', 'T3 inband weak 0 rank 0, served: finish',
-    'T4 oob quota 0 7 rank 263, timed out: a until=5', 'sem 0 count -1', 'sem 1 count 3', 'flags 0 bits 5',
-    'xbuf 0 in 2 bytes, out 0 bytes', 'mutex 1 owner T1, 1 waiting', 'oob stalled, pending 3 5',
-    'inband, nothing pending', 'timer 0 next 50 interval 0'];
-  const { threads, rows } = read_state(told.join('\n') + '\n', 'board threads=5 mutexes=2 groups=1');
-  assert.deepEqual(threads.map(it => Object.values(it).join('|')), ['T0|in-band|–|–|–|',
-    'T1|oob|fifo 10|f20 ↑|picked|', 'T2|oob|rr 20 500|f20|blocked|begin_get sem=0',
-    'T3|in-band|weak 0|w0|in-band|served: finish',
-    'T4|oob|quota 0 7|q7|ready|timed out: a until=5']);
-  assert.deepEqual([...rows], [['mutex 0', 'no owner'], ['mutex 1', 'owner T1, 1 waiting'], ['date', '7 ns'],
-    ['sem 0', '0, 1 waiting'], ['sem 1', '3'], ['flags 0', '5'], ['xbuf 0', 'in 2 bytes, out 0 bytes'],
-    ['out-of-band', 'stalled, pending 3 5'], ['in-band', 'nothing pending'], ['timer 0', 'next 50 interval 0']]);
+test('why a part refuses a text has a place, or none', () => {
+  const told = read_refused('scenario.toml:2:2: no key "b"\nlab: scenario.toml: bad board\n', 'a\nüb\n');
+  assert.deepEqual(told.map(it => [it.line, it.column, it.says]), [[1, 1, 'no key "b"'], [undefined, 0, 'bad board']]);
+});
+test('why a part refuses a text is one line, without the way to all faults', () => {
+  const behind = 'scenario.toml:3:1: no key "b"\nlab check scenario.toml tells every fault\n';
+  assert.equal(why_of('scenario.toml: bad step 1\n' + behind), 'bad step 1');
+  assert.equal(why_of('lab: 9 moments\nscenario.toml: line 4: never is a list\n'), 'line 4: never is a list');
+  assert.equal(why_of('scenario.toml:1:8: put has no key "c"\n'), 'put has no key "c"');
+  assert.equal(read_refused('scenario.toml: bad board\n' + behind, '').length, 2);
+  assert.equal(why_of(''), '');
 });
 test('outcomes have their notes and their scenario', () => {
   const it = read_orders('# 2 orders, 1 outcome\n# outcome 1: 2 orders\n# stuck: T1 waits for sem 1\n# T1 -> begun\n'
@@ -47,11 +49,36 @@ test('outcomes have their notes and their scenario', () => {
   assert.deepEqual([o.number, o.count, o.stuck, o.answers, o.ends, o.order, o.text], ['1', '2', ['T1 waits for sem 1'],
     ['T1 -> begun'], ['sem 0: -1'], 'T1', 'limit = 1\n\n[board]\nthreads = 1\n']);
 });
-test('the list of calls has keys and values', () => {
-  const calls = read_calls(['T0 attach policy=fifo 10 stage=oob\n  policy: "fifo PRIO" is wanted\n'
-    + '  stage: "inband" or "oob" is wanted\n', 'T0 finish [keep=false]\n  keep: true or false is wanted\n']);
-  assert.deepEqual(calls.get('attach')?.keys.get('stage')?.values, ['"inband"', '"oob"']);
-  assert.deepEqual(calls.get('attach')?.keys.get('policy')?.values, ['"fifo 10"']);
-  assert.deepEqual(calls.get('finish')?.keys.get('keep'),
-    { wanted: 'true or false is wanted', must: false, values: ['true', 'false'] });
+test('outcomes of atomic steps have no scenario', () => {
+  const { outcomes } = read_orders('# 18 orders, 5 outcomes, 35 moments\n# outcome 1: 6 orders\n# T0 -> pass -> done\n# T1 -> Again -> NotOwner\n'
+    + '# stax 0: inband, held by 0\n# order: T0 look, T0 exchange, T1 look, T0 leave, T1 refused\n# outcome 2: 12 orders\n# order: T1 look\n');
+  assert.deepEqual(outcomes.map(o => [o.number, o.count, o.ends, o.order, o.text]), [
+    ['1', '6', ['stax 0: inband, held by 0'], 'T0 look, T0 exchange, T1 look, T0 leave, T1 refused', ''], ['2', '12', [], 'T1 look', '']]);
+});
+test('questions about moments have what was found, and the order that leads there', () => {
+  const scenario = 'limit = 1\n\n[board]\nthreads = 1\n', cut = '# cut off: there are longer orders\n';
+  const out = '# 2 orders, 1 outcome, 4 moments\n# warning: T1 has no finish after its last wait\n'
+    + `# state 1: never_state: T1 picked and sem 0 count = 2: at a moment\n# order: T1 T2\n${scenario}`
+    + '# state 2: sometimes: T1 ready: at no moment\n# state 3: always: not T1 waits: at each moment\n'
+    + `# outcome 1: 2 orders\n# T1 -> done\n# order: T1 T2\n${scenario}`;
+  const it = read_orders(out);
+  assert.deepEqual(it.doubts, ['T1 has no finish after its last wait']);
+  assert.deepEqual(it.states.map(s => [s.number, s.key, s.asks, s.found, s.against, s.order, s.text]), [
+    ['1', 'never_state', 'T1 picked and sem 0 count = 2', 'at a moment', true, 'T1 T2', scenario],
+    ['2', 'sometimes', 'T1 ready', 'at no moment', true, '', ''],
+    ['3', 'always', 'not T1 waits', 'at each moment', false, '', '']]);
+  assert.deepEqual(it.outcomes.map(o => [o.number, o.text]), [['1', scenario]]);
+  assert.deepEqual(read_orders(out + cut).states.map(s => [s.found, s.against]),
+    [['at a moment', true], ['not known: cut off', false], ['not known: cut off', false]]);
+});
+test('the list of calls has keys, values and answers', () => {
+  const key = (key, of) => ({ key, default: null, kind: 'number', most: 65535, values: [], ...of });
+  const { calls, refusals } = read_calls([{ word: 'stall', keys: [key('stage', { kind: 'stage', values: ['inband', 'oob'] })], answers: ['done'] },
+    { word: 'finish', keys: [key('keep', { default: false, kind: 'truth', values: [true, false] })], answers: ['done', 'bits N', 'bytes HEX'] },
+    { refusals: ['Unknown'] }].map(it => JSON.stringify(it)).join('\n') + '\n');
+  assert.deepEqual(calls.get('stall')?.keys.get('stage'), { kind: 'stage', most: 65535, must: true, values: ['"inband"', '"oob"'] });
+  assert.deepEqual(calls.get('finish')?.keys.get('keep')?.values, ['true', 'false']);
+  assert.equal(calls.get('finish')?.keys.get('keep')?.must, false);
+  assert.deepEqual(calls.get('finish')?.answers, ['done', 'bits 0', 'bytes 00']);
+  assert.deepEqual(refusals, ['Unknown']);
 });

@@ -4,7 +4,8 @@ import fs from 'node:fs';
 import path from 'node:path';
 import test from 'node:test';
 import { read_trace } from '../js/reads.js';
-import { ask_of, bare_of, first_steps, is_lines, kind_of, lost_line } from '../js/text.js';
+import { image_of } from '../js/orders.js';
+import { has_words, ask_of, bare_of, first_steps, is_lines, kind_of, lost_line } from '../js/text.js';
 import { actions_of, passes_at, plays_at, steps_of, with_ask } from '../js/text.js';
 
 const top = path.join(import.meta.dirname || path.dirname(new URL(import.meta.url).pathname), '../..');
@@ -89,4 +90,13 @@ test('a play has its callback, and the callback what it does', () => {
   assert.deepEqual(plays_at(entries, 3), []);
   assert.deepEqual(plays_at(entries, 4), [{ of: 'line 8 oob', callback: 1 }]);
   assert.deepEqual(plays_at(entries, 5), [{ of: 'timer 0', callback: 2 }]);
+});
+test('lessons are sought by all words of title, text, story and question', () => {
+  const it = { title: 'Two locks', text: 'do = "claim"', story: '<p>A deadlock</p>', exercise: { question: 'Who waits?' } };
+  for (const asked of ['', 'lock', 'CLAIM two', 'deadlock waits']) assert.ok(has_words(it, asked), asked);
+  assert.ok(!has_words(it, 'claim mutex') && !has_words({ title: 'x', text: 'y' }, 'z'));
+});
+test('a picture of an outcome is an image by itself', () => {
+  assert.equal(image_of('<svg id="a">#</svg>', 'Outcome "1"'),
+    '<img src="data:image/svg+xml,%3Csvg%20id%3D%22a%22%3E%23%3C%2Fsvg%3E" alt="Outcome &#34;1&#34;" loading="lazy">');
 });
