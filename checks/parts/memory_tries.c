@@ -77,9 +77,18 @@ static void read_file(const char *folder, const char *name, struct text *into) {
 
 /* ---- texts */
 
+static const char lines[] = "board threads=2 sems=[0]\nT0 put sem=0\nT1 try_get sem=0\n";
+
 static evlsim_status play(void) {
   evlsim_played told = {0, 0};
   evlsim_status status = evlsim_play(played.bytes, played.length, 0, 0, out.bytes, ROOM, &told);
+  out.length = told.length;
+  return status;
+}
+
+static evlsim_status play_lines(void) {
+  evlsim_played told = {0, 0};
+  evlsim_status status = evlsim_play((const uint8_t *)lines, sizeof lines - 1, 0, 0, out.bytes, ROOM, &told);
   out.length = told.length;
   return status;
 }
@@ -108,6 +117,24 @@ static evlsim_status draw_across(void) { return draw(EVLSIM_SVG_ACROSS, &played)
 static evlsim_status draw_lanes(void) { return draw(EVLSIM_LANES, &played); }
 static evlsim_status draw_table(void) { return draw(EVLSIM_CSV, &played); }
 static evlsim_status draw_events(void) { return draw(EVLSIM_EVENTS, &played); }
+
+static evlsim_status order(size_t outcome) {
+  evlsim_ordered told;
+  evlsim_status status = evlsim_orders(0, outcome, asked_of.bytes, asked_of.length, 0, out.bytes, ROOM, &told);
+  out.length = told.length;
+  require(evlsim_ok(status) == (told.total != 0), "numbers without orders", "orders");
+  return status;
+}
+
+static evlsim_status orders(void) { return order(0); }
+static evlsim_status order_2(void) { return order(2); }
+
+static evlsim_status callers(void) {
+  evlsim_played told = {7, 7};
+  evlsim_status status = evlsim_callers(caller.bytes, caller.length, 0, 0, out.bytes, ROOM, &told);
+  out.length = told.length;
+  return status;
+}
 
 /* ---- a kernel */
 
@@ -202,15 +229,23 @@ struct work {
   evlsim_status (*run)(void);
 };
 
-static int is_same(void) {
-  return out.length == wanted.length && memcmp(out.bytes, wanted.bytes, out.length) == 0;
+/* Where the texts are compared from: the first line of a report counts moments that could not be compared as two. */
+static size_t start_of(const struct work *work, const struct text *text) {
+  const uint8_t *line = work->run == orders ? memchr(text->bytes, '\n', text->length) : NULL;
+  return line == NULL ? 0 : (size_t)(line - text->bytes);
+}
+
+static int is_same(const struct work *work) {
+  size_t own = start_of(work, &out), other = start_of(work, &wanted);
+  return out.length - own == wanted.length - other &&
+         memcmp(out.bytes + own, wanted.bytes + other, out.length - own) == 0;
 }
 
 static const struct work works[] = {
-    {"play", play},           {"faults", check_faults},       {"warnings", check_warnings},
-    {"check orders", check_asked}, {"check callers", check_callers}, {"down", draw_down},
-    {"across", draw_across},  {"lanes", draw_lanes},          {"table", draw_table},
-    {"events", draw_events},
+    {"play", play},           {"play lines", play_lines},   {"faults", check_faults}, {"warnings", check_warnings},
+    {"check orders", check_asked}, {"check callers", check_callers}, {"down", draw_down},    {"across", draw_across},
+    {"lanes", draw_lanes},    {"table", draw_table},        {"events", draw_events},  {"orders", orders},
+    {"an order", order_2},    {"callers", callers},
 };
 
 /* The buffer has what it had where nothing was refused, or memory ran out and it is as before. */
@@ -223,7 +258,7 @@ static int is_done(const struct work *work, size_t from, size_t to) {
   refuse(SIZE_MAX, 0);
   require(blocks == before, "memory is lost", work->name);
   if (evlsim_ok(status)) {
-    require(is_same(), "another text", work->name);
+    require(is_same(work), "another text", work->name);
   } else {
     require(evlsim_status_is(status, EVLSIM_NO_MEMORY), "another status", work->name);
     for (size_t at = 0; at < ROOM; at++) require(out.bytes[at] == MARK, "it was written", work->name);

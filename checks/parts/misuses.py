@@ -149,7 +149,6 @@ PLAYS = [
     (lambda: evlsim.play(SMALL, bank=[3]), TypeError, "plan 0"),
     (lambda: evlsim.play(SMALL + '[[step]]\ndo = "push"\nwho = 0\n'), STEP, "step 1"),
 ]
-# none of these reaches the program lab
 LABS = [
     (lambda: evlsim.check(None), TypeError, "text is None"),
     (lambda: evlsim.check("\ud800"), evlsim.BadText, "UTF-8"),
@@ -253,5 +252,5 @@ tried = try_list("call", CALLS) + try_list("board", BOARDS) + try_list("play", P
 try_right_ones()
 try_closed()
 try_fork()
-try_threads()
+try_threads(int(sys.argv[1]) if sys.argv[1:] else 50000)
 print(f"{tried} misuses raised what they should")

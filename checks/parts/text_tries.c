@@ -127,7 +127,7 @@ static void try_forms(void) {
 
 /* Why a text is not drawn. */
 static void try_undrawn(void) {
-  static const char scenario[] = "board threads=1\n";
+  static const char scenario[] = "boards threads=1\n";
   static const char step[] = "[board]\nthreads = 1\n[[step]]\ndo = \"tick\"\nwho = 0\ndelta = 1\n[[step]]\ndo = \"x\"\n";
   static const char trace[] = "1 T0 tick delta=1 -> done\nclock\n";
   uint8_t out[4] = {MARK, MARK, MARK, MARK};
@@ -141,8 +141,8 @@ static void try_undrawn(void) {
   require(evlsim_status_is(evlsim_draw(0, 1, bytes, 8, 0, out, 4, &drawn), EVLSIM_BAD_BOARD) && drawn.line == 1,
           "a board", "undrawn");
   bytes = (const uint8_t *)trace;
-  require(evlsim_status_is(evlsim_draw(0, 1, bytes, sizeof trace - 1, 0, out, 4, &drawn), EVLSIM_BAD_TEXT) &&
-              drawn.line == 2 && drawn.length == 0 && drawn.pages == 0, "a line", "undrawn");
+  require(evlsim_status_is(evlsim_draw(0, 1, bytes, sizeof trace - 1, 0, out, 4, &drawn), EVLSIM_BAD_STEP) &&
+              drawn.line == 2 && drawn.step == 2 && drawn.length == 0 && drawn.pages == 0, "a line", "undrawn");
   require(evlsim_status_is(evlsim_draw(0, 1, (const uint8_t *)"\xff", 1, 0, out, 4, &drawn), EVLSIM_BAD_TEXT) &&
               drawn.line == 0, "no UTF-8", "undrawn");
   require(is_marked(out, 0, 4), "it was written", "undrawn");
