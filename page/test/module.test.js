@@ -37,7 +37,7 @@ test('lab.mjs has the status, the output and the errors of the program', { skip 
   assert.deepEqual([['play', 'none.toml'], ['nothing'], ['help', 'put']].map(words => lab(words).status), [2, 3, 0]);
   assert.equal(lab(['play', '-'], text.replace('now', 'new')).status, 2);
 });
-test('the page in one file is one script that can be read', { skip }, () => {
+test('the page in one file is one script that can be read', { skip: skip || !fs.existsSync(path.join(here, 'out/evl.html')) }, () => {
   const html = fs.readFileSync(path.join(here, 'out/evl.html'), 'utf8');
   const script = html.split('<script type="module">')[1].split('</script>')[0];
   const read = spawnSync(process.execPath, ['--check', '--input-type=module'], { input: script, encoding: 'utf8' });
