@@ -34,9 +34,17 @@ unfoldable pub no_board_key_text : List ℕ → List ℕ
 no_board_key_text key =
     codes "the board has no key \"" ++ (key ++ (codes "\"" ++ (aside_text key ++ codes " (keys: threads, sems, flags, xbufs, mutexes, groups)")))
 
+-- a key of no table that may stand beside the board
+unfoldable pub unknown_key_text : List ℕ → List ℕ
+unknown_key_text key = codes "there is no key \"" ++ (key ++ (codes "\"" ++ (hint_text key opening_keys ++ codes " (keys: limit, board, step)")))
+
+-- a table of a text for orders, which is headed
+abbrev pub is_of_orders : List ℕ → Bool
+is_of_orders key = bytes_eq key (codes "setup") || (bytes_eq key (codes "setups") || bytes_eq key (codes "ask"))
+
 -- a key that doesn't stand beside the board
 unfoldable pub no_key_text : List ℕ → List ℕ
-no_key_text key = codes "there is no key \"" ++ (key ++ (codes "\"" ++ (hint_text key opening_keys ++ codes " (keys: limit, board, step)")))
+no_key_text key = if is_of_orders key then heading_text key else unknown_key_text key
 
 -- a value that can't stand at its key
 unfoldable pub value_text : List ℕ → List ℕ → List ℕ

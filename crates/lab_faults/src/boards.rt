@@ -67,12 +67,31 @@ fn no_board_key(alloc: Global, key: &str) -> Result<String, AllocError>
     )
 }
 
-// What is said of a key that doesn't stand beside the board.
-fn no_key(alloc: Global, key: &str) -> Result<String, AllocError>
-    ensures { IfOk result (λ text. string_bytes text ≡ no_key_text key.now) }
+// What is said of a key of no table that may stand beside the board.
+fn unknown_key(alloc: Global, key: &str) -> Result<String, AllocError>
+    ensures { IfOk result (λ text. string_bytes text ≡ boards.unknown_key_text key.now) }
 {
     let hint = opening_hint(alloc, key)?;
     format!(in alloc; "there is no key \"{key}\"{hint} (keys: limit, board, step)")
+}
+
+// Whether a key is a table of a text for orders, which is headed.
+fn is_of_orders(key: &str) -> bool
+    ensures { result ≡ boards.is_of_orders key.now }
+{
+    matches!(key, "setup" | "setups" | "ask")
+}
+
+// What is said of a key that doesn't stand beside the board.
+#[tactic(auto, unfolding(crate::specs::Boards::no_key_text))]
+fn no_key(alloc: Global, key: &str) -> Result<String, AllocError>
+    ensures { IfOk result (λ text. string_bytes text ≡ no_key_text key.now) }
+{
+    if is_of_orders(key) {
+        heading_words(alloc, key)
+    } else {
+        unknown_key(alloc, key)
+    }
 }
 
 // What is said of a value that can't stand at its key.

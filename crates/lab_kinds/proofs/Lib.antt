@@ -1,4 +1,5 @@
 mod BankLaws
+mod BehindLaws
 mod CallerLaws
 mod FoundLaws
 mod RowLaws

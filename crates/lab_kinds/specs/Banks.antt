@@ -1,5 +1,5 @@
 -- The faults of a bank.
-use Rattle.std.specs.Prelude.{◌≡◌, ℕ, ◌+◌, ◌-◌, ◌==◌, nat_lt, Bool, ◌&&◌, ◌||◌, List, [], ◌∷◌, ◌++◌, codes, decimal, drop, flat_map, slice_get, if◌then◌else◌, Option, None, Some, Err, is_ok, true}
+use Rattle.std.specs.Prelude.{◌≡◌, ℕ, ◌+◌, ◌-◌, ◌==◌, nat_lt, Bool, false, ◌&&◌, ◌||◌, List, [], ◌∷◌, ◌++◌, codes, decimal, drop, flat_map, length, slice_get, if◌then◌else◌, Option, None, Some, Err, is_ok, true}
 use Rattle.std.specs.Option.{option_map_or}
 use Rattle.evl_plans.specs.Banks.{bank_of}
 use Rattle.evl_plans.specs.declared.faults.BankFault.{BankFault}
@@ -85,9 +85,26 @@ bank_fault_text (bank.Callback n (Row row)) =
 abbrev pub callback_place : List Heading → ℕ → ℕ
 callback_place headings n = option_map_or (λ heading. heading.name.0) (slice_get headings n) 0
 
-abbrev pub fault_place : List Heading → BankFault → ℕ
-fault_place headings (bank.Callback n part) = callback_place headings n
-fault_place headings _ = 0
+-- where the second of some headings is, or the text ends
+abbrev pub second_place : List ℕ → List Heading → ℕ
+second_place text (first ∷ (second ∷ rest)) = second.name.0
+second_place text _ = length text
+
+-- a key is one of this row, between two bytes
+abbrev pub is_of_row : ℕ → ℕ → ℕ → Option ℕ → Item → Bool
+is_of_row from end row its item = nat_lt from item.key.0 && (nat_lt item.key.0 end && option_map_or (λ r. r == row) its false)
+
+-- where the first key of the row is there; the first byte, if it has none
+abbrev pub row_start : ℕ → ℕ → ℕ → List ℕ → List Item → ℕ
+row_start from end row rows [] = from
+row_start from end row rows (item ∷ items) =
+    if is_of_row from end row (slice_get rows 0) item then item.key.0 else row_start from end row (drop 1 rows) items
+
+-- where a callback or a row as a whole is at fault
+abbrev pub fault_place : List ℕ → List Heading → List ℕ → List Item → BankFault → ℕ
+fault_place text headings rows items (bank.Callback n (Row row)) = row_start (callback_place headings n) (second_place text (drop n headings)) row rows items
+fault_place text headings rows items (bank.Callback n part) = callback_place headings n
+fault_place text headings rows items _ = 0
 
 module _ (text : List ℕ) where
   unfoldable pub bank_heading_faults : Heading → List Told
@@ -119,7 +136,7 @@ module _ (text : List ℕ) where
 
   -- where no key is at fault, the callback or row as a whole is
   abbrev pub whole_faults : BankFault → List Told
-  whole_faults fault = told_at text Board (fault_place (text_headings text) fault) (bank_fault_text fault) ∷ []
+  whole_faults fault = told_at text Board (fault_place text (text_headings text) (rows_of text) (text_keys text) fault) (bank_fault_text fault) ∷ []
 
   abbrev pub or_whole : BankFault → List Told → List Told
   or_whole fault [] = whole_faults fault

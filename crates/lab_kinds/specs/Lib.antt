@@ -1,3 +1,4 @@
+pub mod Asking
 pub mod Banks
 pub mod Callers
 pub mod Kinds

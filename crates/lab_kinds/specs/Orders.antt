@@ -1,5 +1,5 @@
 -- The faults of a text for all orders: those of the scenario in it, in its own places, and those of what is asked.
-use Rattle.std.specs.Prelude.{◌≡◌, ℕ, nat_le, nat_lt, Bool, true, false, ◌&&◌, ◌||◌, List, [], ◌∷◌, ◌++◌, codes, count_by, flat_map, length, if◌then◌else◌, Option, None, Some, Err, is_ok, is_some, option_and_then, option_map}
+use Rattle.std.specs.Prelude.{◌≡◌, ◌⊎◌, ℕ, MatchBool, nat_le, nat_lt, Bool, true, false, ◌&&◌, ◌||◌, List, [], ◌∷◌, ◌++◌, codes, count_by, flat_map, length, if◌then◌else◌, Option, None, Some, Err, is_ok, is_some, option_and_then, option_map}
 use Rattle.std.specs.List.{list_any}
 use Rattle.std.specs.Option.{option_or}
 use Rattle.std.specs.Str.{bytes_eq, is_utf8, trim, trim_start}
@@ -19,9 +19,15 @@ use Rattle.lab_faults.specs.Wants.{hint_text}
 use Rattle.lab_faults.specs.declared.items.Heading.{Heading}
 use Rattle.lab_faults.specs.declared.items.Item.{Item}
 use Rattle.lab_faults.specs.declared.tokens.Token.{Token}
-use Rattle.lab_kinds.specs.Kinds.{is_headed}
+use Rattle.lab_callers_text.specs.Readings.{IsRead}
+use Rattle.lab_callers_text.specs.declared.reading.CallersText.{CallersText}
+use Rattle.lab_kinds.specs.Asking.{AskedLast}
+use Rattle.lab_kinds.specs.Callers.{CallersTell}
+use Rattle.lab_kinds.specs.Kinds.{is_headed, kind_of}
 use Rattle.lab_kinds.specs.Tables.{field_faults}
-use Rattle.lab_kinds.specs.Words.{ask_keys, is_word}
+use Rattle.lab_kinds.specs.Words.{ask_keys, is_word, step_ask_keys}
+use Rattle.lab_kinds.specs.declared.kinds.TextKind.{TextKind}
+use Rattle.lab_kinds.specs.declared.kinds.TextKind.TheVariants.{Callers}
 use Rattle.lab_scenario_orders.specs.Asks.{begins}
 use Rattle.lab_scenario_orders.specs.Splits.{as_step, is_asked, is_setup}
 
@@ -132,6 +138,10 @@ answer_faults text piece name (Some answer) = if is_answer answer then [] else t
 abbrev pub is_listed : ℕ × ℕ → Token → Bool
 is_listed value piece = is_word piece.kind && (nat_le value.0 piece.from && nat_le piece.to value.1)
 
+-- the keys of what is asked of whole calls, or of callers' steps
+abbrev pub keys_for : Bool → List (List ℕ)
+keys_for is_of_steps = if is_of_steps then step_ask_keys else ask_keys
+
 module _ (text : List ℕ) (callers : List (List ℕ)) where
   unfoldable pub never_faults : Token → List Told
   never_faults piece =
@@ -144,17 +154,25 @@ module _ (text : List ℕ) (callers : List (List ℕ)) where
   never_item_faults pieces item = if bytes_eq (name_between text item.key) (codes "never") then flat_map (listed_faults item.value) pieces else []
 
   -- of a key of what is asked
-  unfoldable pub ask_item_faults : List Token → Item → List Told
-  ask_item_faults pieces item = field_faults text Board (codes "[ask]: ") ask_keys item ++ never_item_faults pieces item
+  unfoldable pub ask_item_faults : Bool → List Token → Item → List Told
+  ask_item_faults is_of_steps pieces item = field_faults text Board (codes "[ask]: ") (keys_for is_of_steps) item ++ never_item_faults pieces item
 
-  unfoldable pub ask_faults : List Told
-  ask_faults = flat_map (ask_item_faults (pieces text)) (text_keys text)
+  unfoldable pub ask_faults : Bool → List Told
+  ask_faults is_of_steps = flat_map (ask_item_faults is_of_steps (pieces text)) (text_keys text)
 
 -- ---- all
 
+-- the scenario in a text is one of callers, whose steps are gone through
+abbrev pub is_of_callers : TextKind → Bool
+is_of_callers Callers = true
+is_of_callers _ = false
+
+abbrev pub is_of_steps : List ℕ → Bool
+is_of_steps scenario = is_of_callers (kind_of scenario)
+
 -- of a text with this scenario, of which the first steps are set up, and this that is asked
 abbrev pub faults_of : List ℕ → List ℕ → ℕ → List ℕ → List Told
-faults_of text scenario setup asked = set_up_faults text ++ ask_faults asked (callers_of scenario setup)
+faults_of text scenario setup asked = set_up_faults text ++ ask_faults asked (callers_of scenario setup) (is_of_steps scenario)
 
 -- what is asked is no document, or it is
 pub record AskedTells (text scenario : List ℕ) (setup : ℕ) (asked : List ℕ) (faults : List Told) : Type 0 where
@@ -166,7 +184,29 @@ pub record TextTells (text scenario : List ℕ) (setup : ℕ) (asked : List ℕ)
   pub refused : (fault : Fault) → scenario_of None scenario ≡ Err fault → Tells scenario fault faults
   pub read : is_ok (scenario_of None scenario) ≡ true → AskedTells text scenario setup asked faults
 
+-- the same where the scenario is one of callers
+abbrev pub StepsTell : List ℕ → List ℕ → ℕ → List ℕ → List Told → Type 0
+StepsTell text scenario setup asked faults =
+    ((read : CallersText) × IsRead None scenario read × AskedTells text scenario setup asked faults) ⊎ ((fault : Fault) × CallersTell scenario fault faults)
+
+abbrev pub PartsTell : List ℕ → List ℕ → ℕ → List ℕ → List Told → Type 0
+PartsTell text scenario setup asked faults =
+    MatchBool (is_of_steps scenario) (StepsTell text scenario setup asked faults) (TextTells text scenario setup asked faults)
+
+-- where nothing is found in its parts, the orders of whole calls can be asked for, or are refused for what reads them
+abbrev pub Behind : List ℕ → Bool → List Told → List Told → Type 0
+Behind text is_of_steps (one ∷ rest) faults = faults ≡ one ∷ rest
+Behind text is_of_steps [] faults = MatchBool is_of_steps (faults ≡ []) (AskedLast text faults)
+
+pub record PartedTells (text scenario : List ℕ) (setup : ℕ) (asked : List ℕ) (faults : List Told) : Type 0 where
+  pub found : List Told
+  pub parts : PartsTell text scenario setup asked found
+  pub behind : Behind text (is_of_steps scenario) found faults
+
+abbrev pub LinesTell : List ℕ → List Told → Type 0
+LinesTell text faults = PartedTells text (scenario_within text) (setup_count text) (asked_within text) faults
+
 -- of bytes that may be no text
 pub record OrdersTell (text : List ℕ) (faults : List Told) : Type 0 where
   pub refused : is_utf8 text ≡ false → FindsText text faults
-  pub read : is_utf8 text ≡ true → TextTells text (scenario_within text) (setup_count text) (asked_within text) faults
+  pub read : is_utf8 text ≡ true → LinesTell text faults

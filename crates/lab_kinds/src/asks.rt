@@ -7,7 +7,7 @@ ghost use Rattle.lab_kinds.specs.Orders.{answer_of, ask_faults, ask_item_faults,
 
 use crate::parts::begins;
 use crate::tables::check_field;
-use crate::words::{ask_keys, is_word};
+use crate::words::{ask_keys, is_word, step_ask_keys};
 use evl_scenario::Fault;
 use lab_faults::{
     Finding, Item, Token, is_among, items_of, named, near_text, number_of, tokens_of,
@@ -286,18 +286,31 @@ fn check_nevers(
     Ok(())
 }
 
+// The keys of what is asked of whole calls, or of callers' steps.
+fn keys_for(is_of_steps: bool) -> &'static [&'static str]
+    ensures { map (λ key. key.now) result.now ≡ orders.keys_for is_of_steps }
+{
+    if is_of_steps {
+        step_ask_keys()
+    } else {
+        ask_keys()
+    }
+}
+
 // Notes the faults of a key of what is asked.
 #[tactic(auto, unfolding(crate::specs::Orders::ask_item_faults))]
 fn check_ask_item(
     alloc: Global,
     finding: &mut Finding<'_>,
     callers: &[&str],
+    is_of_steps: bool,
     pieces: &[Token],
     item: Item,
 ) -> Result<(), AllocError>
-    ensures { OnOk result (Adds finding.old finding.new (ask_item_faults finding.old.text.now (map (λ who. who.now) callers.now) pieces.now item)) }
+    ensures { OnOk result (Adds finding.old finding.new (ask_item_faults finding.old.text.now (map (λ who. who.now) callers.now) is_of_steps pieces.now item)) }
 {
-    check_field(alloc, finding, Fault::Board, "[ask]: ", ask_keys(), item)?;
+    let keys = keys_for(is_of_steps);
+    check_field(alloc, finding, Fault::Board, "[ask]: ", keys, item)?;
     check_nevers(alloc, finding, callers, pieces, item)
 }
 
@@ -305,26 +318,28 @@ fn check_ask_items(
     alloc: Global,
     finding: &mut Finding<'_>,
     callers: &[&str],
+    is_of_steps: bool,
     pieces: &[Token],
     items: &[Item],
 ) -> Result<(), AllocError>
-    ensures { OnOk result (Adds finding.old finding.new (flat_map (ask_item_faults finding.old.text.now (map (λ who. who.now) callers.now) pieces.now) items.now)) }
+    ensures { OnOk result (Adds finding.old finding.new (flat_map (ask_item_faults finding.old.text.now (map (λ who. who.now) callers.now) is_of_steps pieces.now) items.now)) }
 {
     for item in items {
-        check_ask_item(alloc, finding, callers, pieces, *item)?;
+        check_ask_item(alloc, finding, callers, is_of_steps, pieces, *item)?;
     }
     Ok(())
 }
 
-/// Notes the faults of what is asked of these callers, which is all that the text has. `AllocError` where memory
+/// Notes the faults of what is asked of these callers, of whose steps or not, which is all that the text has. `AllocError` where memory
 /// couldn't grow.
 #[tactic(auto, unfolding(crate::specs::Orders::ask_faults))]
 pub fn check_ask(
     alloc: Global,
     finding: &mut Finding<'_>,
     callers: &[&str],
+    is_of_steps: bool,
 ) -> Result<(), AllocError>
-    ensures { OnOk result (Adds finding.old finding.new (ask_faults finding.old.text.now (map (λ who. who.now) callers.now))) }
+    ensures { OnOk result (Adds finding.old finding.new (ask_faults finding.old.text.now (map (λ who. who.now) callers.now) is_of_steps)) }
 {
     let pieces = tokens_of(alloc, finding.text)?;
     let items = items_of(alloc, finding.text)?;
@@ -332,6 +347,7 @@ pub fn check_ask(
         alloc,
         finding,
         callers,
+        is_of_steps,
         pieces.as_slice(),
         items.items.as_slice(),
     )

@@ -1,5 +1,5 @@
 //! The faults of a bank.
-ghost use Rattle.std.specs.Prelude.{◌≡◌, ◌≢◌, flat_map, map, option_map, string_bytes, IfOk, OnOk};
+ghost use Rattle.std.specs.Prelude.{◌≡◌, ◌≢◌, drop, flat_map, map, option_map, string_bytes, IfOk, OnOk};
 ghost use Rattle.lab_faults.specs.Told.{Adds, fault_told};
 ghost use Rattle.lab_kinds.specs.Banks as banks;
 ghost use Rattle.lab_kinds.specs.Banks.{BankFinds, BankTells, bank_fault_text, bank_faults, bank_heading_faults, bank_key_faults, bank_keys_faults, known_key_faults, no_callback_text, or_whole, row_key_faults, row_place, whole_faults};
@@ -208,10 +208,62 @@ fn callback_place(headings: &[Heading], number: usize) -> usize
     }
 }
 
-fn fault_place(headings: &[Heading], fault: BankFault) -> usize
-    ensures { result ≡ banks.fault_place headings.now fault }
+// Where the second of some headings is, or the text ends.
+fn second_place(text: &[u8], headings: &[Heading]) -> usize
+    ensures { result ≡ banks.second_place text.now headings.now }
+{
+    match headings {
+        [_, second, ..] => second.name.0,
+        _ => text.len(),
+    }
+}
+
+// The headings from one on.
+fn headings_from(headings: &[Heading], number: usize) -> &[Heading]
+    ensures { result.now ≡ drop number headings.now }
+{
+    headings.get(number..).unwrap_or(&[])
+}
+
+// Whether a key is one of a row, between two bytes.
+fn is_of_row(from: usize, end: usize, row: usize, its: Option<&usize>, item: &Item) -> bool
+    ensures { result ≡ banks.is_of_row from end row (option_map (λ r. r.now) its.entry) item.now }
+{
+    let is_its = match its {
+        Some(number) => *number == row,
+        None => false,
+    };
+    from < item.key.0 && item.key.0 < end && is_its
+}
+
+// Where the first key of a row is between two bytes; the first byte, if it has none there.
+fn row_start(from: usize, end: usize, row: usize, rows: &[usize], items: &[Item]) -> usize
+    ensures { result ≡ banks.row_start from end row rows.now items.now }
+{
+    for (index, item) in items.iter().enumerate() {
+        if is_of_row(from, end, row, rows.get(index), item) {
+            return item.key.0;
+        }
+    }
+    from
+}
+
+// Where a callback or a row as a whole is at fault.
+fn fault_place(
+    text: &[u8],
+    headings: &[Heading],
+    rows: &[usize],
+    items: &[Item],
+    fault: BankFault,
+) -> usize
+    ensures { result ≡ banks.fault_place text.now headings.now rows.now items.now fault }
 {
     match fault {
+        BankFault::Callback(number, Part::Row(row)) => {
+            let from = callback_place(headings, number);
+            let end = second_place(text, headings_from(headings, number));
+            row_start(from, end, row, rows, items)
+        }
         BankFault::Callback(number, _) => callback_place(headings, number),
         _ => 0,
     }
@@ -225,8 +277,16 @@ fn found_whole(alloc: Global, text: &[u8], fault: BankFault) -> Result<Vec<Found
         text,
         found: Vec::new(alloc),
     };
-    let items = items_of(alloc, text)?;
-    let at = fault_place(items.headings.as_slice(), fault);
+    let found = items_of(alloc, text)?;
+    let rows = rows_of(alloc, text)?;
+    let headings = found.headings.as_slice();
+    let at = fault_place(
+        text,
+        headings,
+        rows.as_slice(),
+        found.items.as_slice(),
+        fault,
+    );
     let words = bank_words(alloc, fault)?;
     finding.note(Fault::Board, at, words)?;
     let Finding { text: _, found } = finding;

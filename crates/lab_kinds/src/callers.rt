@@ -264,8 +264,9 @@ fn all_found(alloc: Global, text: &[u8], fault: Fault) -> Result<Vec<Found>, All
     }
 }
 
-// The faults of a text that was refused for this one, which is the first of them.
-fn explain(alloc: Global, text: &[u8], fault: Fault) -> Result<Vec<Found>, AllocError>
+/// The faults of a text that was refused for this one, which is the first of them. `AllocError` where memory couldn't
+/// grow.
+pub(crate) fn explain(alloc: Global, text: &[u8], fault: Fault) -> Result<Vec<Found>, AllocError>
     ensures { IfOk result (λ found. CallersTell text.now fault (map fault_told found.items)) }
 {
     let found = all_found(alloc, text, fault)?;

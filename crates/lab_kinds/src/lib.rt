@@ -2,12 +2,14 @@
 //! What names no source is this profile's own.
 #![tactic(auto)]
 
+mod asking;
 mod asks;
 mod banks;
 mod callers;
 mod kinds;
 mod orders;
 mod parts;
+mod phrases;
 mod reports;
 mod rows;
 mod tables;
@@ -17,4 +19,5 @@ pub use banks::check_bank;
 pub use callers::check_callers;
 pub use kinds::{TextKind, kind_of};
 pub use orders::check_orders;
+pub use phrases::{ask_line, ask_words, impossible_words};
 pub use reports::report_kind;

@@ -1,15 +1,19 @@
 //! The faults of a text for all orders.
-ghost use Rattle.std.specs.Prelude.{◌≡◌, ◌++◌, false, map, IfOk, OnOk};
+ghost use Rattle.std.specs.Prelude.{◌≡◌, ◌++◌, false, map, IfOk, MatchBool, OnOk};
 ghost use Rattle.toml.specs.Errors.{IsMemory};
 ghost use Rattle.lab_faults.specs.Checks.{FindsText};
 ghost use Rattle.lab_faults.specs.Told.{Adds, fault_told};
 ghost use Rattle.lab_kinds.specs.Orders as orders;
-ghost use Rattle.lab_kinds.specs.Orders.{AskedTells, OrdersTell, TextTells, asked_within, mixed_faults, scenario_within, setup_count};
+ghost use Rattle.lab_kinds.specs.Orders.{AskedTells, Behind, LinesTell, OrdersTell, PartedTells, StepsTell, TextTells, mixed_faults};
+ghost use Rattle.lab_kinds.specs.Reports.{is_some_found};
 
+use crate::asking::check_asked;
 use crate::asks::{callers_of, check_ask};
-use crate::kinds::is_headed;
+use crate::callers::explain;
+use crate::kinds::{TextKind, is_headed, kind_of};
 use crate::parts::{asked_in, lines_of, scenario_in, setups_in};
 use evl_scenario::Fault;
+use lab_callers_text::read_callers;
 use lab_faults::{Finding, Found, Heading, check, found_in_text, items_of};
 use std::alloc::{AllocError, Global};
 use std::str;
@@ -69,14 +73,30 @@ fn found_asked(
     alloc: Global,
     asked: &[u8],
     callers: &[&str],
+    is_of_steps: bool,
     found: Vec<Found>,
 ) -> Result<Vec<Found>, AllocError>
-    ensures { IfOk result (λ all. map fault_told all.items ≡ map fault_told found.items ++ orders.ask_faults asked.now (map (λ who. who.now) callers.now)) }
+    ensures { IfOk result (λ all. map fault_told all.items ≡ map fault_told found.items ++ orders.ask_faults asked.now (map (λ who. who.now) callers.now) is_of_steps) }
 {
     let mut finding = Finding { text: asked, found };
-    check_ask(alloc, &mut finding, callers)?;
+    check_ask(alloc, &mut finding, callers, is_of_steps)?;
     let Finding { text: _, found } = finding;
     Ok(found)
+}
+
+// Whether the scenario in a text is one of callers.
+fn is_of_callers(kind: TextKind) -> bool
+    ensures { result ≡ orders.is_of_callers kind }
+{
+    matches!(kind, TextKind::Callers)
+}
+
+/// Whether the steps of a scenario are gone through. `AllocError` where memory couldn't grow.
+pub fn is_of_steps(alloc: Global, scenario: &[u8]) -> Result<bool, AllocError>
+    ensures { IfOk result (λ is. is ≡ orders.is_of_steps scenario.now) }
+{
+    let kind = kind_of(alloc, scenario)?;
+    Ok(is_of_callers(kind))
 }
 
 // The faults of a text whose scenario can be read.
@@ -89,9 +109,10 @@ fn found_in_order(
 ) -> Result<Vec<Found>, AllocError>
     ensures { IfOk result (λ found. map fault_told found.items ≡ orders.faults_of text.now scenario.now setup asked.now) }
 {
+    let is_of_steps = is_of_steps(alloc, scenario)?;
     let mixed = found_mixed(alloc, text)?;
     let callers = callers_of(alloc, scenario, setup)?;
-    found_asked(alloc, asked, callers.as_slice(), mixed)
+    found_asked(alloc, asked, callers.as_slice(), is_of_steps, mixed)
 }
 
 // The fault of what is asked, where the reader of TOML stopped in it.
@@ -145,25 +166,110 @@ fn found_around(
     Ok(found)
 }
 
+// The same where the scenario is one of callers.
+fn found_in_steps(
+    alloc: Global,
+    text: &[u8],
+    scenario: &[u8],
+    setup: usize,
+    asked: &str,
+) -> Result<Vec<Found>, AllocError>
+    ensures { IfOk result (λ found. StepsTell text.now scenario.now setup asked.now (map fault_told found.items)) }
+{
+    match read_callers(alloc, scenario, None) {
+        Ok(read) => {
+            drop(read);
+            let found = found_beside(alloc, text, scenario, setup, asked)?;
+            Ok(found)
+        }
+        Err(Fault::Memory) => Err(AllocError),
+        Err(fault) => {
+            let found = explain(alloc, scenario, fault)?;
+            Ok(found)
+        }
+    }
+}
+
+// The faults of a text with this scenario, whose steps are gone through or not.
+fn found_in_parts(
+    alloc: Global,
+    text: &[u8],
+    scenario: &[u8],
+    setup: usize,
+    asked: &str,
+    is_of_steps: bool,
+) -> Result<Vec<Found>, AllocError>
+    ensures { IfOk result (λ found. MatchBool is_of_steps (StepsTell text.now scenario.now setup asked.now (map fault_told found.items)) (TextTells text.now scenario.now setup asked.now (map fault_told found.items))) }
+{
+    if is_of_steps {
+        let found = found_in_steps(alloc, text, scenario, setup, asked)?;
+        return Ok(found);
+    }
+    let found = found_around(alloc, text, scenario, setup, asked)?;
+    Ok(found)
+}
+
+fn is_some_found(found: &[Found]) -> bool
+    ensures { result ≡ is_some_found found.now }
+{
+    !matches!(found, [])
+}
+
+// Where nothing is found, whether the orders of whole calls can be asked for.
+#[tactic(auto, using(crate::proofs::BehindLaws::behind_some, crate::proofs::BehindLaws::behind_steps, crate::proofs::BehindLaws::behind_none))]
+fn found_behind(
+    alloc: Global,
+    text: &str,
+    is_of_steps: bool,
+    found: Vec<Found>,
+) -> Result<Vec<Found>, AllocError>
+    ensures { IfOk result (λ all. Behind text.now is_of_steps (map fault_told found.items) (map fault_told all.items)) }
+{
+    if is_some_found(found.as_slice()) {
+        return Ok(found);
+    }
+    if is_of_steps {
+        return Ok(found);
+    }
+    let last = check_asked(alloc, text)?;
+    Ok(last)
+}
+
+// The faults of a text with these parts.
+fn found_parted(
+    alloc: Global,
+    text: &str,
+    scenario: &[u8],
+    setup: usize,
+    asked: &str,
+) -> Result<Vec<Found>, AllocError>
+    ensures { IfOk result (λ found. PartedTells text.now scenario.now setup asked.now (map fault_told found.items)) }
+{
+    let steps = is_of_steps(alloc, scenario)?;
+    let found = found_in_parts(alloc, text.as_bytes(), scenario, setup, asked, steps)?;
+    found_behind(alloc, text, steps, found)
+}
+
 // The faults of a text in UTF-8.
 fn found_in_lines(alloc: Global, text: &str) -> Result<Vec<Found>, AllocError>
-    ensures { IfOk result (λ found. TextTells text.now (scenario_within text.now) (setup_count text.now) (asked_within text.now) (map fault_told found.items)) }
+    ensures { IfOk result (λ found. LinesTell text.now (map fault_told found.items)) }
 {
     let lines = lines_of(alloc, text)?;
     let lines = lines.as_slice();
     let scenario = scenario_in(alloc, lines)?;
     let asked = asked_in(alloc, lines)?;
-    found_around(
+    found_parted(
         alloc,
-        text.as_bytes(),
+        text,
         scenario.as_str().as_bytes(),
         setups_in(lines),
         asked.as_str(),
     )
 }
 
-/// The faults of a text for all orders, each with its place and what was wanted: those of the scenario in it, or else
-/// of steps that are set up too late and of what is asked. `AllocError` where memory couldn't grow.
+/// The faults of a text for all orders, each with its place and what was wanted: those of the scenario in it, or of the
+/// steps of callers; or else of steps that are set up too late and of what is asked; where it has none, the orders of
+/// its calls can be asked for. `AllocError` where memory couldn't grow.
 pub fn check_orders(alloc: Global, text: &[u8]) -> Result<Vec<Found>, AllocError>
     ensures { IfOk result (λ found. OrdersTell text.now (map fault_told found.items)) }
 {

@@ -32,6 +32,8 @@ const ASK_KEYS: [&str; 8] = [
     "outcomes",
 ];
 
+const STEP_ASK_KEYS: [&str; 4] = ["never", "always_ends", "ends_waits", "outcomes"];
+
 const CALLBACK_KEYS: [&str; 2] = ["accepts", "do"];
 
 const ROW_KEYS: [&str; 7] = [
@@ -86,6 +88,14 @@ pub fn ask_keys() -> &'static [&'static str]
     ensures { map (λ key. key.now) result.now ≡ words.ask_keys }
 {
     &ASK_KEYS
+}
+
+/// The keys of `[ask]` where steps of callers are gone through.
+#[tactic(auto, unfolding(crate::specs::Words::step_ask_keys))]
+pub fn step_ask_keys() -> &'static [&'static str]
+    ensures { map (λ key. key.now) result.now ≡ words.step_ask_keys }
+{
+    &STEP_ASK_KEYS
 }
 
 /// The keys of a callback.

@@ -301,15 +301,18 @@ threads = 4
 mutexes = ["normal", "ceiling 50"]
 "#;
 
-// The picture of marks with the moments of this scenario, going down.
+// The pictures of marks with the moments of this scenario, going down and across, one behind the other.
 fn lent_picture(alloc: Global, marks: &[Mark<'_>]) -> Result<Vec<u8>, AllocError> {
     let lanes = lanes_of(alloc, marks)?;
     let plans = program_plans(alloc)?;
     let moments = moments_of(alloc, plans.as_slice(), LENT.as_bytes(), lanes.as_slice())?;
-    write_down(alloc, marks, moments.as_slice())
+    let mut both = write_down(alloc, marks, moments.as_slice())?;
+    let across = write_svg(alloc, marks, moments.as_slice())?;
+    both.extend_from_slice(across.as_slice())?;
+    Ok(both)
 }
 
-// The picture of the lines of its trace.
+// The pictures of the lines of its trace.
 fn lent_lines(alloc: Global, lines: &[TraceLine<'_>]) -> Result<Vec<u8>, AllocError> {
     match marks_of(alloc, lines) {
         Ok(marks) => lent_picture(alloc, marks.as_slice()),
@@ -317,7 +320,7 @@ fn lent_lines(alloc: Global, lines: &[TraceLine<'_>]) -> Result<Vec<u8>, AllocEr
     }
 }
 
-// The picture of its trace; nothing where it can't be read.
+// Those of its trace; nothing where it can't be read.
 fn lent_trace(alloc: Global, trace: &[u8]) -> Result<Vec<u8>, AllocError> {
     match read_lines(alloc, str::from_utf8(trace).unwrap_or("")) {
         Ok(lines) => lent_lines(alloc, lines.as_slice()),
@@ -325,7 +328,7 @@ fn lent_trace(alloc: Global, trace: &[u8]) -> Result<Vec<u8>, AllocError> {
     }
 }
 
-// The picture of the scenario.
+// The pictures of the scenario.
 fn lent(alloc: Global) -> Result<Vec<u8>, AllocError> {
     let plans = program_plans(alloc)?;
     match trace_plans(alloc, plans.as_slice(), LENT.as_bytes(), None) {
@@ -334,7 +337,7 @@ fn lent(alloc: Global) -> Result<Vec<u8>, AllocError> {
     }
 }
 
-// Whether the picture has this part.
+// Whether one of them has this part.
 fn lent_has(alloc: Global, part: &str) -> bool {
     match lent(alloc) {
         Ok(picture) => str::from_utf8(picture.as_slice())
@@ -367,6 +370,26 @@ fn a_rank_is_told_with_its_ceiling(rt: HostRuntime) {
         lent_has(
             rt.alloc(),
             ">w5</text><text x=\"8\" y=\"8.5\" font-weight=\"bold\">c50</text>"
+        )
+    );
+}
+
+#[test]
+fn a_rank_is_told_across(rt: HostRuntime) {
+    assert!(rt;
+        lent_has(
+            rt.alloc(),
+            ">f10</text><text x=\"-7\" y=\"-12.5\" font-size=\"7\" font-weight=\"bold\">↑20T2</text>"
+        )
+    );
+}
+
+#[test]
+fn a_mark_has_its_entry(rt: HostRuntime) {
+    assert!(rt;
+        lent_has(
+            rt.alloc(),
+            "<g data-entry=\"5\" transform=\"translate(416,194)\"><title>  line 5 oob"
         )
     );
 }

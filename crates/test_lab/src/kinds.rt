@@ -39,7 +39,7 @@ fn faults_of_a_bank_are_told(rt: HostRuntime) {
     assert!(rt; is_told(rt.alloc(), TextKind::Bank, BANK, BANK_TOLD));
     let five =
         "[[callback]]\ndo = [{ post_sem = 0 }, { post_sem = 0 }, { post_sem = 0 }, { post_sem = 0 }, { post_sem = 0 }]\n";
-    let wanted = "a.toml:1:3: callback 0: row 5: at most four rows are allowed\n";
+    let wanted = "a.toml:2:81: callback 0: row 5: at most four rows are allowed\n";
     assert!(rt; is_told(rt.alloc(), TextKind::Bank, five, wanted));
 }
 

@@ -1,6 +1,0 @@
-use Rattle.lab_faults.specs.Boards.{no_key_text}
-use Rattle.lab_faults.proofs.boards.no_key.Goals as goal
-
-pub returns : goal.returns
-unfolding no_key_text
-returns c = rw c.in_ok-hint.ensures at c.format.ensures.ok
