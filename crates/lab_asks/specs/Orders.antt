@@ -2,6 +2,7 @@
 use Rattle.std.specs.Prelude.{◌≡◌, ◌⊎◌, ℕ, false, MatchBool, List, codes, Option, Some, None, IsSomeAnd, option_and_then, option_map}
 use Rattle.toml.specs.Parse.{parse_document}
 use Rattle.evl_kernel.specs.state.States.{Handler}
+pub use Rattle.lab_kinds.specs.Asking.{AreCallersIn, AsksOf}
 use Rattle.lab_kinds.specs.Kinds.{kind_of}
 use Rattle.lab_kinds.specs.declared.kinds.TextKind.{TextKind}
 use Rattle.lab_lines.specs.Kinds.{IsOfCallers}
@@ -20,7 +21,8 @@ use Rattle.lab_scenario_orders.specs.declared.callers.Callers.{Callers}
 use Rattle.lab_scenario_orders.specs.declared.texts.TextFault.{TextFault}
 use Rattle.lab_scenario_orders.specs.declared.texts.TextFault.TheVariants.{Limit, Mixed, Scenario}
 use Rattle.lab_step_texts.specs.Kinds.{asks_steps}
-pub use Rattle.lab_asks.specs.Asks.{ask_fault_line, fact_words, impossible_text, key_text, key_words, line_words, part_words}
+pub use Rattle.lab_asks.specs.Asks.{ask_fault_line, impossible_text, line_words}
+use Rattle.lab_asks.specs.Alone.{TellsAlone}
 pub use Rattle.lab_asks.specs.OneOrder.{TellsFirst, TellsOrder, order_of, text_name}
 pub use Rattle.lab_asks.specs.Outcomes.{TellsAll, first_against, json_of, json_told, no_state, order_at, order_in, outcomes_told, report_of, report_told, scenario_of, scenario_told, state_told}
 use Rattle.lab_streams.specs.Banks.{Refuses}
@@ -31,7 +33,7 @@ use Rattle.lab_streams.specs.Readings.{Reading}
 use Rattle.lab_asks.specs.StepOrders.{TellsSteps}
 use Rattle.lab_streams.specs.declared.words.Asked.{Asked}
 use Rattle.lab_streams.specs.declared.words.Shown.{Shown}
-use Rattle.lab_streams.specs.declared.words.Shown.TheVariants.{Report, Json, Outcome, State, First, Order}
+use Rattle.lab_streams.specs.declared.words.Shown.TheVariants.{Report, Json, Outcome, State, Alone, First, Order}
 use Rattle.lab_asks.specs.declared.orders.View.TheVariants as view
 
 -- the outcomes of all orders, or one order alone
@@ -40,16 +42,11 @@ TellsOutcomes bank most Report name callers asks output = TellsAll bank most vie
 TellsOutcomes bank most Json name callers asks output = TellsAll bank most view.Json name callers asks output
 TellsOutcomes bank most (Outcome number) name callers asks output = TellsAll bank most (view.Outcome number) name callers asks output
 TellsOutcomes bank most (State number) name callers asks output = TellsAll bank most (view.State number) name callers asks output
+TellsOutcomes bank most Alone name callers asks output = TellsAlone bank most name callers asks output
 TellsOutcomes bank most First name callers asks output = TellsFirst bank most name callers asks output
 TellsOutcomes bank most (Order text) name callers asks output = TellsOrder bank text.now name callers output
 
 -- ---- what is asked
-
--- the tables `[ask]` of a text ask this of its callers
-pub record AsksOf (text : List ℕ) (callers : Callers) (asks : Ask) : Type 0 where
-  pub asked : IsSomeAnd (option_and_then ask_table (parse_document (ask_part text))) (λ table. Asks table asks)
-  pub who : AreOfCallers callers.callers.items asks.never.items
-  pub watches : AreWatches callers.board asks.watches.items
 
 -- the same callers, of whom no step is made only as threads are picked
 pub record IsUnpicked (read set : Callers) : Type 0 where
@@ -80,11 +77,6 @@ TellsAsked bank most one name callers text output =
     ⊎ ((fault : AskFault) × IsPlaced text fault × IsSomeAnd (ask_fault_line name fault) (λ line. output ≡ refuses 2 line))
 
 -- ---- the text
-
--- the callers of a text
-pub record AreCallersIn (text : List ℕ) (callers : Callers) : Type 0 where
-  pub set_up : IsSetUp text callers
-  pub each : AreCallersOf callers.steps.items callers.callers.items
 
 abbrev pub text_fault_words : TextKind → TextFault → Option (List ℕ)
 text_fault_words kind (Scenario fault) = kinded_words kind fault

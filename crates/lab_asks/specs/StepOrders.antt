@@ -23,7 +23,7 @@ use Rattle.lab_asks.specs.Asks.{ask_fault_line, impossible_text}
 use Rattle.lab_streams.specs.Outputs.{Output, refuses}
 use Rattle.lab_asks.specs.Verdicts.{holds_text, is_asked, is_count_against, unanswered_text}
 use Rattle.lab_streams.specs.declared.words.Shown.{Shown}
-use Rattle.lab_streams.specs.declared.words.Shown.TheVariants.{Report, Json, Outcome, State, First, Order}
+use Rattle.lab_streams.specs.declared.words.Shown.TheVariants.{Report, Json, Outcome, State, Alone, First, Order}
 
 -- ---- the outcomes
 
@@ -84,6 +84,7 @@ outcomes_told Report name crew asks found = verdict (report_of crew found) name 
 outcomes_told Json name crew asks found = refuses 2 (line_about name (codes "--json is for orders of whole calls"))
 outcomes_told (Outcome number) name crew asks found = one_told name number crew asks found (slice_get found.all.items (number - 1))
 outcomes_told (State number) name crew asks found = refuses 2 (line_about name (codes "no order leads to state " ++ decimal number))
+outcomes_told Alone name crew asks found = refuses 2 (line_about name (codes "--ask is for orders of whole calls"))
 outcomes_told First name crew asks found = refuses 2 (line_about name (codes "--first is for orders of whole calls"))
 outcomes_told (Order text) name crew asks found = refuses 2 (line_about name (codes "--order is for orders of whole calls"))
 

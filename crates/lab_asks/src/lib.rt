@@ -1,6 +1,7 @@
 //! What `lab orders` tells of all orders of callers' calls, or of their atomic steps, and what came of what was asked.
 #![tactic(auto)]
 
+mod alone;
 mod copies;
 mod one_order;
 mod order_faults;

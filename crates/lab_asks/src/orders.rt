@@ -7,6 +7,7 @@ ghost use Rattle.lab_asks.specs.Orders.{IsSetTo, IsUnpicked, TellsAll, TellsAske
 ghost use Rattle.lab_streams.specs.Outputs.{Writes, WritesOfText};
 ghost use Rattle.lab_streams.specs.Streams.{EndsEarly};
 
+use crate::alone::tell_alone;
 use crate::copies::Copies;
 use crate::one_order::{print_order, tell_first, tell_order};
 use crate::order_faults::{tell_ask_fault, tell_impossible, tell_text_fault};
@@ -300,6 +301,7 @@ fn go_through<O: Stream, E: Stream>(
 {
     let bank = Copies { plans };
     match asked.shown {
+        Shown::Alone => tell_alone(alloc, asked, callers, ask, &bank, out, err),
         Shown::First => tell_first(alloc, asked, callers, ask, &bank, out, err),
         Shown::Order(text) => tell_order(alloc, asked, text, callers, &bank, out, err),
         Shown::Report => {
@@ -411,7 +413,7 @@ fn tell_callers<O: Stream, E: Stream>(
     match read_ask(alloc, &callers, text) {
         Ok(ask) => tell_possible(alloc, asked, callers, &ask, plans, out, err),
         Err(fault) => {
-            let told = tell_ask_fault(err, asked.name(), fault);
+            let told = tell_ask_fault(alloc, err, asked.name(), fault);
             refused(told)
         }
     }

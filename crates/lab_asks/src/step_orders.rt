@@ -223,6 +223,10 @@ fn tell_found<O: Stream, E: Stream>(
             )
         }
         Shown::State(number) => tell_no_state(err, asked.name(), number),
+        Shown::Alone => {
+            let told = tell_refused(err, asked.name(), "--ask is for orders of whole calls");
+            refused(told)
+        }
         Shown::First => {
             let told = tell_refused(err, asked.name(), "--first is for orders of whole calls");
             refused(told)
@@ -283,7 +287,7 @@ fn tell_possible<O: Stream, E: Stream>(
 {
     match found {
         None => go_through(alloc, asked, crew, ask, out, err),
-        Some(never) => refused(tell_meant(err, asked.name(), never, None)),
+        Some(never) => refused(tell_meant(alloc, err, asked.name(), never, None)),
     }
 }
 
@@ -350,7 +354,7 @@ fn tell_crew<O: Stream, E: Stream>(
     match read_step_ask(alloc, crew, text) {
         Ok(ask) => tell_unpicked(alloc, asked, crew, &ask, asks_whole(&ask), out, err),
         Err(fault) => {
-            let told = tell_ask_fault(err, asked.name(), fault);
+            let told = tell_ask_fault(alloc, err, asked.name(), fault);
             refused(told)
         }
     }

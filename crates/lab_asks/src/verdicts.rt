@@ -199,8 +199,8 @@ fn is_state_against(firsts: &[First], is_whole: bool, place: usize, when: When) 
     }
 }
 
-// The place of the first question about moments against which it is what was found.
-fn state_against(watches: &[Watch], firsts: &[First], is_whole: bool) -> Option<usize>
+/// The place of the first question about moments against which it is what was found.
+pub(crate) fn state_against(watches: &[Watch], firsts: &[First], is_whole: bool) -> Option<usize>
     ensures { result ≡ state_against firsts.now is_whole 0 watches.now }
 {
     for (place, watch) in watches.iter().enumerate() {

@@ -12,3 +12,4 @@ pub mod Merges
 pub mod Tallying
 pub mod TooMany
 pub mod Indexing
+pub mod SeeingLaws

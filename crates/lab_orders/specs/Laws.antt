@@ -1,6 +1,7 @@
 -- What the orders of a machine are.
-use Rattle.std.specs.Prelude.{ℕ, ◌≡◌, ◌≢◌, ◌↔◌, ◌+◌, ◌≤◌, ◌<◌, ◌==◌, List, [], ◌∷◌, length, AllPairs, Contains, Some, IsSome, count_by}
+use Rattle.std.specs.Prelude.{ℕ, ◌≡◌, ◌≢◌, ◌↔◌, ◌+◌, ◌≤◌, ◌<◌, ◌==◌, List, [], ◌∷◌, length, AllPairs, Contains, Some, IsSome, count_by, option_map}
 use Rattle.lab_orders.specs.Machines.{Machine, Run, IsRun, led_along, runs, orders}
+use Rattle.lab_orders.specs.Weights.{total}
 
 -- The runs of so many steps are just those: each run is there, and no other.
 abbrev pub RunsAreAllRuns : Type 0 → Type 0
@@ -33,3 +34,16 @@ MergesAreOrders S =
     (m : Machine S) (place : S → ℕ → ℕ) (ends : ℕ → ℕ) → CountsSteps m place
     → ((s : S) (c : ℕ) → place s c < ends c → IsSome (m.go s c))
     → (s : S) (order : List ℕ) → ((c : ℕ) → place s c + count_by (λ e. e == c) order ≤ ends c) → IsSome (led_along m s order)
+
+-- One machine is what is seen of another: of the same callers, each of whose steps leads to what is seen of where it leads.
+pub record IsSeenOf {S T : Type 0} (m : Machine S) (n : Machine T) (see : S → T) : Type 0 where
+  pub callers : n.callers ≡ m.callers
+  pub go : (s : S) (c : ℕ) → n.go (see s) c ≡ option_map see (m.go s c)
+
+-- Then whatever is counted of its states is counted of what is seen of the other's, run by run and order by order.
+pub record CountsWhatIsSeen {S T : Type 0} (m : Machine S) (n : Machine T) (see : S → T) (s : S) (k : ℕ) : Type 0 where
+  pub each_run : (f : T → ℕ) → total f (runs n (see s) k) ≡ total (λ t. f (see t)) (runs m s k)
+  pub each_order : (f : T → ℕ) → total f (orders n (see s) k) ≡ total (λ t. f (see t)) (orders m s k)
+
+abbrev pub SeenIsCounted : Type 0 → Type 0 → Type 0
+SeenIsCounted S T = (m : Machine S) (n : Machine T) (see : S → T) → IsSeenOf m n see → (s : S) (k : ℕ) → CountsWhatIsSeen m n see s k

@@ -1,5 +1,5 @@
 //! What orders are. Each law is the contract of a function without a body.
-ghost use Rattle.lab_orders.specs.Laws.{MergesAreOrders, OrdersAreMerges, OrdersEnd, RunsAreAllRuns, RunsAreThereOnce};
+ghost use Rattle.lab_orders.specs.Laws.{MergesAreOrders, OrdersAreMerges, OrdersEnd, RunsAreAllRuns, RunsAreThereOnce, SeenIsCounted};
 
 use crate::worlds::World;
 
@@ -27,4 +27,10 @@ pub fn orders_are_merges<W: World>()
 /// Where nobody ever waits before the end of its list, each merge of front parts of the lists can be gone.
 pub fn merges_are_orders<W: World>()
     ensures { MergesAreOrders W.State }
+{}
+
+/// Where a world is what is seen of another one, step by step, each number of its states is counted over its orders as it is
+/// over those of the other.
+pub fn seen_is_counted<W: World, V: World>()
+    ensures { SeenIsCounted W.State V.State }
 {}

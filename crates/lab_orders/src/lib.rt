@@ -17,6 +17,7 @@ pub use firsts::First;
 pub use judging::{Judge, Sought, find_first};
 pub use laws::{
     merges_are_orders, orders_are_merges, orders_end, runs_are_all_runs, runs_are_there_once,
+    seen_is_counted,
 };
 pub use leading::{Led, lead};
 pub use levels::OrdersError;

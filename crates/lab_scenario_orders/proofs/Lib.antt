@@ -1,3 +1,4 @@
+pub mod AloneLaws
 pub mod AskLaws
 pub mod CallLaws
 pub mod FirstLaws

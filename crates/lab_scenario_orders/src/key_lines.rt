@@ -82,11 +82,7 @@ fn number_set(known: &[&str], named: Option<&str>, lines: &[&str]) -> Option<usi
 
 /// The number, from 1, of the first line of a text that sets a key in a table `[ask]`; where none is named, one that such
 /// a table doesn't have. `AllocError` where memory couldn't grow.
-pub(crate) fn line_set(
-    alloc: Global,
-    text: &str,
-    named: Option<&str>,
-) -> Result<Option<usize>, AllocError>
+pub fn line_set(alloc: Global, text: &str, named: Option<&str>) -> Result<Option<usize>, AllocError>
     ensures { IfOk result (λ number. number ≡ line_set (option_map (λ key. key.now) named.entry) text.now) }
 {
     let all = lines_of(alloc, text)?;

@@ -2,8 +2,10 @@
 //! as a world, and the outcomes of their orders.
 #![tactic(auto)]
 
+mod alone;
 mod answers;
 mod asking;
+mod asking_alone;
 mod asks;
 mod banks;
 mod callers;
@@ -35,14 +37,17 @@ mod watch_texts;
 mod watches;
 mod worlds;
 
+pub use alone::{Verdict, ask_alone};
 pub use answers::{first_impossible, near_answer};
 pub use asking::{Asked, ask_all};
+pub use asking_alone::forgets_answers;
 pub use asks::{Ask, AskFault, AskKey, FactFault, Never, first_against, is_against, read_ask};
 pub use banks::{BankMaker, NoCallbacks};
 pub use callers::{Caller, Callers};
 pub use departures::leaving;
 pub use facts::{Claim, Fact, Part, Relation};
 pub use json::write_json;
+pub use key_lines::line_set;
 pub use moments::Moment;
 pub use order_texts::{OrderFault, play_order, read_order};
 pub use outcomes::{Outcomes, is_stuck, outcomes_of};

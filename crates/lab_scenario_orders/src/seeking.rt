@@ -53,8 +53,8 @@ fn any_against(watches: &[Watch], noted: &[bool]) -> bool
     false
 }
 
-// Whether an end is against what is asked.
-fn is_end_against<B: BankMaker>(
+/// Whether an end is against what is asked. `AllocError` where memory couldn't grow.
+pub(crate) fn is_end_against<B: BankMaker>(
     alloc: Global,
     callers: &Callers,
     bank: &B,
@@ -98,8 +98,8 @@ impl<'a, 'b, B: BankMaker> Judge<Driven<'b, B>> for Judging<'a> {
     }
 }
 
-// A number of steps that no order of callers has.
-fn beyond(callers: &Callers) -> usize
+/// A number of steps that no order of callers has.
+pub(crate) fn beyond(callers: &Callers) -> usize
     ensures { length callers.now.steps.items < result }
 {
     callers.steps.len().saturating_add(1)

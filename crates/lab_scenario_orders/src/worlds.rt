@@ -135,8 +135,8 @@ fn stepped<B: BankMaker>(
     }
 }
 
-// The moment after a caller's next step, if it has one and isn't held.
-fn next_moment<B: BankMaker>(
+/// The moment after a caller's next step, if it has one and isn't held.
+pub(crate) fn next_moment<B: BankMaker>(
     alloc: Global,
     callers: &Callers,
     bank: &B,

@@ -151,6 +151,8 @@ pub enum Shown<'a> {
     Outcome(u32),
     /// That of the first order to a moment as the question with this number looks for, from 1.
     State(u32),
+    /// What came of what is asked alone: answers of callers of whom nobody asks are forgotten.
+    Alone,
     /// That of the first order that is against what is asked; the search ends there.
     First,
     /// That of the order that this text tells.
@@ -243,6 +245,9 @@ fn shown_of<'a>(matches: &ArgMatches<'a>) -> Shown<'a>
 {
     if is_set(matches, "json") {
         return Shown::Json;
+    }
+    if is_set(matches, "ask") {
+        return Shown::Alone;
     }
     if is_set(matches, "first") {
         return Shown::First;

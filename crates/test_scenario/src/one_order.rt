@@ -1,7 +1,8 @@
 //! One order of a scenario's callers alone.
 use lab_orders::{First, OrdersError};
 use lab_scenario_orders::{
-    Callers, NoCallbacks, OrderFault, play_order, read_ask, read_callers, read_order, seek,
+    Callers, NoCallbacks, OrderFault, ask_alone, play_order, read_ask, read_callers, read_order,
+    seek,
 };
 use std::alloc::Global;
 
@@ -68,4 +69,28 @@ fn first_against(alloc: Global, text: &str) -> Result<usize, OrdersError> {
 #[test]
 fn the_first_order_against_it_is_found(rt: HostRuntime) {
     assert!(rt; first_against(rt.alloc(), ONE_LEFT) == Ok(3));
+}
+
+// How many orders there are of some callers, and how many of them are against what is asked.
+fn counts_of(alloc: Global, callers: &Callers, text: &str) -> Result<(u128, u128), OrdersError> {
+    let Ok(ask) = read_ask(alloc, callers, text.as_bytes()) else {
+        return Err(OrdersError::Memory);
+    };
+    match ask_alone(alloc, callers, &NoCallbacks, &ask, 100) {
+        Ok(found) => Ok((found.orders, found.against)),
+        Err(error) => Err(error),
+    }
+}
+
+// The same of those of a text.
+fn counts(alloc: Global, text: &str) -> Result<(u128, u128), OrdersError> {
+    match read_callers(alloc, text.as_bytes()) {
+        Ok(callers) => counts_of(alloc, &callers, text),
+        Err(_) => Err(OrdersError::Memory),
+    }
+}
+
+#[test]
+fn what_is_asked_alone_is_counted(rt: HostRuntime) {
+    assert!(rt; counts(rt.alloc(), ONE_LEFT) == Ok((4, 4)));
 }

@@ -4,7 +4,7 @@ use Rattle.lab_orders.specs.declared.tallies.Tally.{Tally}
 use Rattle.lab_streams.specs.Endings.{line_about}
 use Rattle.lab_asks.specs.StepOrders.{one_told, outcomes_told}
 use Rattle.lab_streams.specs.Outputs.{Writes}
-use Rattle.lab_streams.specs.declared.words.Shown.TheVariants.{Json, State, First, Order}
+use Rattle.lab_streams.specs.declared.words.Shown.TheVariants.{Json, State, Alone, First, Order}
 use Rattle.lab_streams.proofs.OutputLemmas.{said, told}
 use Rattle.lab_asks.proofs.step_orders.tell_found.Goals as goal
 
@@ -28,6 +28,12 @@ returns-in-State-clause-writes g c =
     let number = c.in-State.number in
     rw c.in-State.is (said _ (λ output. output ≡ outcomes_told (State number) name c.args.crew.now c.args.ask.now c.args.found.now) _ _ _ 2
     (line_about name (codes "no order leads to state " ++ decimal number)) c.tell_no_state.result refl (rw c.name-in-State.ensures at c.tell_no_state.ensures.line) c.tell_no_state.ensures.status)
+
+pub returns-in-Alone-clause-writes : goal.returns-in-Alone-clause-writes
+returns-in-Alone-clause-writes g c =
+    let name = unwrap_or (option_map (λ file. file.now) c.args.asked.now.file) (codes "-") in
+    rw c.in-Alone.is (told _ (λ output. output ≡ outcomes_told Alone name c.args.crew.now c.args.ask.now c.args.found.now) _ _ _ (line_about name (codes "--ask is for orders of whole calls"))
+    c.tell_refused-told-in-Alone.result c.refused-in-Alone.result refl (rw c.name-in-Alone.ensures at c.tell_refused-told-in-Alone.ensures.line) c.refused-in-Alone.ensures.status)
 
 pub returns-in-First-clause-writes : goal.returns-in-First-clause-writes
 returns-in-First-clause-writes g c =
