@@ -1,5 +1,6 @@
 pub mod Alike
 pub mod FirstLaws
+pub mod HeldLaws
 pub mod Opening
 pub mod OutcomeLaws
 pub mod ReportLaws
@@ -8,4 +9,5 @@ pub mod Sound
 pub mod Standing
 pub mod TextLaws
 pub mod ToldLaws
+pub mod TrailLaws
 pub mod Turns

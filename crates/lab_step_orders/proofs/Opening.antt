@@ -8,7 +8,7 @@ use Rattle.std.proofs.lemmas.List.{length-replicate}
 use Rattle.std.proofs.lemmas.Option.{same_Some}
 use Rattle.evl_base.specs.Limits.{stax_fits, thread_limit}
 use Rattle.evl_words.specs.GateWorld.{GateView, GateWorld, newcomer as gate_newcomer, hold}
-use Rattle.evl_words.specs.MutexWorld.{MutexView, MutexWorld, newcomer as mutex_newcomer, role_of, owns}
+use Rattle.evl_words.specs.MutexWorld.{MutexView, MutexWorld, newcomer as mutex_newcomer, owns}
 use Rattle.evl_words.specs.Dealings.{opened_dealing}
 use Rattle.evl_words.proofs.GateEnds.{gate_law}
 use Rattle.evl_words.proofs.GateSteps.{holders_agree}
@@ -18,7 +18,7 @@ use Rattle.evl_words.proofs.Sequences.{at_replicate}
 use Rattle.lab_orders.specs.Machines.{Run, IsRun}
 use Rattle.lab_step_orders.specs.Programs.{limit_of, stage_of}
 use Rattle.lab_step_orders.specs.Seen.{Seen, first_seen, free_word, machine}
-use Rattle.lab_step_orders.specs.StepLaws.{IsCrew, LiesAtGate, LiesAtMutex, held_stage, held_role, opened_gate, opened_mutex}
+use Rattle.lab_step_orders.specs.StepLaws.{IsCrew, LiesAtGate, LiesAtMutex, held_stage, opened_gate, opened_mutex}
 use Rattle.lab_step_orders.specs.Words.{Shared, holds}
 use Rattle.lab_step_orders.proofs.Sound.{IsSound, led_sound}
 use Rattle.lab_step_orders.proofs.Standing.{there}
@@ -83,9 +83,8 @@ first_mutex n few = (
     word = refl;
     long = length-replicate n (mutex_newcomer n);
     wide = length-replicate n false;
-    seats = λ k v at.
-        ap (λ (z : MutexView). z.held) (sym (at_replicate n k (mutex_newcomer n) v at))
-        ∙ ap (λ b. role_of n (held_role b)) (sym (nobody n k));
+    sized = λ k v at. ap (λ (z : MutexView). z.held.seats) (sym (at_replicate n k (mutex_newcomer n) v at));
+    seats = λ k v at. ap (λ (z : MutexView). owns z.held.role) (sym (at_replicate n k (mutex_newcomer n) v at)) ∙ sym (nobody n k);
   },
 )
 
@@ -94,9 +93,9 @@ first_sound c is =
     let n = length c.callers.items in
     record {
       gates = λ i g e.
-          subst (λ (x : Shared). (w : GateWorld) × LiesAtGate c i x w) (repeated_is (free_word n) (length c.limits.items) i g e) (first_gate c i (fits_at c.limits.items i is.fits));
+          subst (λ (x : Shared). (w : GateWorld) × LiesAtGate c i x w) (repeated_is (free_word n) (length c.board.staxes.items) i g e) (first_gate c i (fits_at c.board.staxes.items i is.fits));
       mutexes = λ i m e.
-          subst (λ (x : Shared). (w : MutexWorld) × LiesAtMutex n x w) (repeated_is (free_word n) c.mutexes i m e) (first_mutex n is.few);
+          subst (λ (x : Shared). (w : MutexWorld) × LiesAtMutex n x w) (repeated_is (free_word n) (length c.board.mutexes.items) i m e) (first_mutex n is.few);
       long = mapped (λ (caller : CrewCaller). Begins) c.callers.items;
       places = λ k. subst (λ (p : Place). PlaceMay c (first_seen c).gates (first_seen c).mutexes k p) (sym (all_begin c.callers.items k)) tt;
     }
@@ -123,6 +122,6 @@ pub one_owner : (n : ℕ) (m : Shared) (w : MutexWorld) → LiesAtMutex n m w �
 one_owner n m w lies j k one other =
     let here = there w.views j (omega (arith, held_within m.held j one, lies.long, lies.wide)) in
     let also = there w.views k (omega (arith, held_within m.held k other, lies.long, lies.wide)) in
-    let first : owns here.0.held.role ≡ true = ap (λ h. owns h.role) (lies.seats j here.0 here.1) ∙ ap (λ b. owns (held_role b)) one in
-    let second : owns also.0.held.role ≡ true = ap (λ h. owns h.role) (lies.seats k also.0 also.1) ∙ ap (λ b. owns (held_role b)) other in
+    let first : owns here.0.held.role ≡ true = lies.seats j here.0 here.1 ∙ one in
+    let second : owns also.0.held.role ≡ true = lies.seats k also.0 also.1 ∙ other in
     one_has_it w lies.stands j k here.0 also.0 here.1 also.1 (inl first) (inl second)

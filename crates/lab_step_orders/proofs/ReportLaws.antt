@@ -1,7 +1,7 @@
 -- A number behind those of the callers makes no turn.
 use Rattle.std.proofs.Common.{◌≡◌, ℕ, zero, suc, ◌≤◌, List, [], ◌∷◌, length, refl, arith}
 use Rattle.std.specs.Prelude.{Option, None, slice_get, slice_index, slice_index_or}
-use Rattle.lab_step_orders.specs.Programs.{turn_at, next_call}
+use Rattle.lab_step_orders.specs.Programs.{ahead_at, next_call}
 use Rattle.lab_step_orders.specs.Seen.{Seen, next_turn}
 use Rattle.lab_step_orders.specs.declared.crews.Crew.{Crew}
 use Rattle.lab_step_orders.specs.declared.steps.Place.{Place}

@@ -1,6 +1,6 @@
 -- Wherever the callers' steps lead, a world stands behind each word.
 use Rattle.std.proofs.Common.{◌≡◌, ◌≢◌, ◌⊎◌, inl, inr, ℕ, zero, suc, ◌<◌, Bool, true, false, List, [], ◌∷◌, length, get_or, set, refl, sym, ap, ◌∙◌, subst, arith}
-use Rattle.std.specs.Prelude.{All, Option, Some, None, is_some, option_map, slice_get, slice_index, slice_index_or, slice_set}
+use Rattle.std.specs.Prelude.{All, if◌then◌else◌, Option, Some, None, is_some, option_map, slice_get, slice_index, slice_index_or, slice_set}
 use Rattle.std.specs.Option.{option_map_or}
 use Rattle.std.proofs.lemmas.List.{length-set}
 use Rattle.std.proofs.lemmas.List.Elements.{All-head, All-tail}
@@ -10,23 +10,23 @@ use native.Mathlib.Decide.{ℕ_discrete}
 use Rattle.evl_base.specs.declared.stage.Stage.{Stage}
 use Rattle.evl_words.specs.GateWord.{word_refusal}
 use Rattle.evl_words.specs.GateWorld.{GateView, GateWorld, hold, step_may as gate_may}
-use Rattle.evl_words.specs.MutexWorld.{MutexView, MutexWorld, role_of, owns, step_may as mutex_may}
+use Rattle.evl_words.specs.MutexWorld.{MutexWorld, owns}
 use Rattle.evl_words.specs.declared.gate.GateHold.{GateHold}
-use Rattle.evl_words.specs.declared.mutex.MutexHold.{MutexHold}
+use Rattle.evl_words.specs.declared.mutex.MutexRole.TheVariants.{Bystander}
 use Rattle.lab_orders.specs.Machines.{led_along}
-use Rattle.lab_step_orders.specs.Programs.{limit_of, stage_of, next_call, turn_at}
-use Rattle.lab_step_orders.specs.Seen.{Seen, after, changed_at, gates_after, mutexes_after, go, machine, place_after}
-use Rattle.lab_step_orders.specs.StepLaws.{LiesAtGate, LiesAtMutex, held_stage, held_role}
-use Rattle.lab_step_orders.specs.Words.{Shared, holds, gate_after, gate_kind, mutex_after, mutex_kind}
+use Rattle.lab_step_orders.specs.Programs.{limit_of, stage_of, next_call}
+use Rattle.lab_step_orders.specs.Seen.{Seen, after, changed_at, gates_after, mutexes_after, go, machine, next_turn, place_after}
+use Rattle.lab_step_orders.specs.StepLaws.{LiesAtGate, LiesAtMutex, held_stage}
+use Rattle.lab_step_orders.specs.Words.{Shared, holds, gate_after, gate_kind, mutex_after, mutex_view}
 use Rattle.lab_step_orders.proofs.Standing.{gate_moves, mutex_moves, set_here, set_elsewhere}
-use Rattle.lab_step_orders.proofs.Turns.{GateMay, MutexMay, StepMay, PlaceMay, ThenMay, May, turn_may}
+use Rattle.lab_step_orders.proofs.Turns.{GateMay, StepMay, PlaceMay, ThenMay, May, turn_may}
 use Rattle.lab_step_orders.specs.declared.crews.Crew.{Crew}
 use Rattle.lab_step_orders.specs.declared.steps.GateStep.{GateStep}
 use Rattle.lab_step_orders.specs.declared.steps.GateStep.TheVariants.{Look, Exchange, Leave, Claim, Unclaim}
 use Rattle.lab_step_orders.specs.declared.steps.MutexStep.{MutexStep}
-use Rattle.lab_step_orders.specs.declared.steps.MutexStep.TheVariants.{Try, Unlock}
+use Rattle.lab_step_orders.specs.declared.steps.MutexStep.TheVariants.{Unlock}
 use Rattle.lab_step_orders.specs.declared.steps.Place.{Place}
-use Rattle.lab_step_orders.specs.declared.steps.Place.TheVariants.{Begins, Found, Left as LeftStax}
+use Rattle.lab_step_orders.specs.declared.steps.Place.TheVariants.{Begins, Found, Left as LeftStax, Claimed}
 use Rattle.lab_step_orders.specs.declared.steps.Then.{Then}
 use Rattle.lab_step_orders.specs.declared.steps.Then.TheVariants.{Stands, Answers}
 use Rattle.lab_step_orders.specs.declared.steps.Turn.{Turn}
@@ -74,10 +74,6 @@ gate_allows limit stage h k Leave e v is = ap (λ (o : Option Stage). is_some o)
 gate_allows limit stage h k Claim e v is = tt
 gate_allows limit stage h k Unclaim e v is = tt
 
-mutex_allows : (n : ℕ) (h : Bool) (k : ℕ) (step : MutexStep) → MutexMay h step → (v : MutexView) → v.held ≡ role_of n (held_role h) → mutex_may k v (mutex_kind step)
-mutex_allows n h k Try e v is = ap (λ (z : MutexHold). owns z.role) is ∙ ap (λ b. owns (held_role b)) e
-mutex_allows n h k Unlock e v is = ap (λ (z : MutexHold). z.role) is ∙ ap (λ b. held_role b) e
-
 module _ (c : Crew) (s : Seen) (sound : IsSound c s) (k : ℕ) (lt : k < length c.callers.items) where
   gates_stand : (step : Option WordStep) → StepMay c s.gates s.mutexes k step → (i : ℕ) (g : Shared) → slice_get (gates_after c k step s.gates) i ≡ Some g
       → (w : GateWorld) × LiesAtGate c i g w
@@ -106,7 +102,7 @@ module _ (c : Crew) (s : Seen) (sound : IsSound c s) (k : ℕ) (lt : k < length 
             let old = h.0 in
             let was = sound.mutexes i old h.1 in
             let there : slice_get s.mutexes mutex.0 ≡ Some old = ap (λ (n : ℕ). slice_get s.mutexes n) (sym h.2) ∙ h.1 in
-            let moved = mutex_moves (length c.callers.items) old was.0 was.1 k lt step (mutex_allows (length c.callers.items) (holds old k) k step (may old there)) in
+            let moved = mutex_moves (length c.callers.items) old was.0 was.1 k lt step (may old there) in
             subst (λ (x : Shared). (w : MutexWorld) × LiesAtMutex (length c.callers.items) x w) (sym h.3) moved
         | inr h ↦ sound.mutexes i m h.1
       ]
@@ -122,10 +118,21 @@ module _ (c : Crew) (s : Seen) (sound : IsSound c s) (k : ℕ) (lt : k < length 
         | inr h ↦ (g, h.1, refl)
       ]
 
+  mutexes_stay : (step : Option WordStep) (j : ℕ) → j ≢ k → (i : ℕ) (m : Shared) → slice_get (mutexes_after k step s.mutexes) i ≡ Some m
+      → (z : Shared) × (slice_get s.mutexes i ≡ Some z) × (holds m j ≡ holds z j)
+  mutexes_stay None j ne i m e = (m, e, refl)
+  mutexes_stay (Some (AtGate stax step)) j ne i m e = (m, e, refl)
+  mutexes_stay (Some (AtMutex mutex step)) j ne i m e =
+      elim (changed_is (mutex_after k step) s.mutexes mutex.0 i m e) as (λ v. (z : Shared) × (slice_get s.mutexes i ≡ Some z) × (holds m j ≡ holds z j)) [
+        | inl h ↦ (h.0, h.1, ap (λ (x : Shared). holds x j) h.3 ∙ set_elsewhere h.0.held k j _ false ne)
+        | inr h ↦ (m, h.1, refl)
+      ]
+
   other_may : (step : Option WordStep) (j : ℕ) → j ≢ k → (place : Place) → PlaceMay c s.gates s.mutexes j place
       → PlaceMay c (gates_after c k step s.gates) (mutexes_after k step s.mutexes) j place
   other_may step j ne Begins may = tt
   other_may step j ne (LeftStax stax) may = tt
+  other_may step j ne (Claimed mutex) may = λ m e. let was = mutexes_stay step j ne mutex.0 m e in was.2 ∙ may was.0 was.1
   other_may step j ne (Found stax old) may = λ g e. let was = others_stay step j ne stax.0 g e in let had = may was.0 was.1 in (was.2 ∙ had.0, had.1)
 
   -- a look changes nothing that its caller holds
@@ -133,11 +140,23 @@ module _ (c : Crew) (s : Seen) (sound : IsSound c s) (k : ℕ) (lt : k < length 
   look_stays stage false e = refl
   look_stays stage true e = e
 
-  own_may : (step : Option WordStep) (then : Then) → ThenMay c s.gates s.mutexes k step then
-      → PlaceMay c (gates_after c k step s.gates) (mutexes_after k step s.mutexes) k (place_after then)
+  own_may : (step : Option WordStep) (next : Then) → ThenMay c s.gates s.mutexes k step next
+      → PlaceMay c (gates_after c k step s.gates) (mutexes_after k step s.mutexes) k (place_after next)
   own_may step (Answers answer) may = tt
   own_may step (Stands Begins) may = tt
   own_may step (Stands (LeftStax stax)) may = tt
+  own_may step (Stands (Claimed mutex)) may =
+      subst (λ (o : Option WordStep). PlaceMay c (gates_after c k o s.gates) (mutexes_after k o s.mutexes) k (Claimed mutex)) (sym may.0) (λ m e.
+      elim (changed_is (mutex_after k Unlock) s.mutexes mutex.0 mutex.0 m e) as (λ v. holds m k ≡ true) [
+        | inl h ↦
+            let had = may.1 h.0 h.1 in
+            let near : k < length h.0.held = omega (arith, lt, (sound.mutexes mutex.0 h.0 h.1).1.wide) in
+            ap (λ (x : Shared). holds x k) h.3
+            ∙ (set_here h.0.held k _ false near
+            ∙ (ap (λ t. owns (if t then Bystander else (mutex_view (holds h.0 k)).held.role)) had.1
+            ∙ ap (λ b. owns (mutex_view b).held.role) had.0))
+        | inr h ↦ (may.1 m h.1).0
+      ])
   own_may step (Stands (Found stax old)) may =
       subst (λ (o : Option WordStep). PlaceMay c (gates_after c k o s.gates) (mutexes_after k o s.mutexes) k (Found stax old)) (sym may.0) (λ g e.
       elim (changed_is (gate_after (limit_of c stax.0) (stage_of c k) k Look) s.gates stax.0 stax.0 g e) as (λ v. (holds g k ≡ false) × (word_refusal (limit_of c stax.0) old (stage_of c k) ≡ None)) [
@@ -164,11 +183,11 @@ module _ (c : Crew) (s : Seen) (sound : IsSound c s) (k : ℕ) (lt : k < length 
   }
 
   pub go_sound : (t : Seen) → go c s k ≡ Some t → IsSound c t
-  go_sound t e = by (turn_at c s.gates s.mutexes k (slice_index_or s.places k Begins) (next_call c k (slice_index s.made k))) refl e where
-    by : (o : Option Turn) → turn_at c s.gates s.mutexes k (slice_index_or s.places k Begins) (next_call c k (slice_index s.made k)) ≡ o → option_map (after c s k) o ≡ Some t → IsSound c t
+  go_sound t e = by (next_turn c s k) refl e where
+    by : (o : Option Turn) → next_turn c s k ≡ o → option_map (after c s k) o ≡ Some t → IsSound c t
     by None at h = cc
     by (Some turn) at h = subst (λ (u : Seen). IsSound c u) (same_Some (after c s k turn) t h)
-        (turn_sound turn (turn_may c s.gates s.mutexes k (slice_index_or s.places k Begins) (sound.places k) (next_call c k (slice_index s.made k)) turn at))
+        (turn_sound turn (turn_may c s.gates s.mutexes k s.state (slice_index_or s.waits k None) (slice_index_or s.places k Begins) (sound.places k) (next_call c k (slice_index s.made k)) turn at))
 
 -- along any order
 pub led_sound : (c : Crew) (order : List ℕ) (s t : Seen) → IsSound c s → All (λ k. k < length c.callers.items) order → led_along (machine c) s order ≡ Some t → IsSound c t

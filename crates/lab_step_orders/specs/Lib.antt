@@ -5,4 +5,5 @@ pub mod Reports
 pub mod Seen
 pub mod StepLaws
 pub mod Told
+pub mod Visits
 pub mod Words

@@ -9,7 +9,7 @@ use Rattle.lab_orders.specs.declared.levels.OrdersError.TheVariants.{Memory, Cou
 use Rattle.lab_orders.specs.declared.tallies.Tally.{Tally}
 use Rattle.lab_step_orders.specs.Moments.{seen_of}
 use Rattle.lab_step_orders.specs.Seen.{Seen, first_seen, machine}
-use Rattle.lab_step_orders.specs.Told.{caller_line, lines_below, mutex_line, stax_line}
+use Rattle.lab_step_orders.specs.Told.{caller_line, lines_below, mutex_line, stax_line, stuck_line}
 use Rattle.lab_step_orders.specs.Words.{Shared}
 use Rattle.lab_step_orders.specs.declared.crews.Crew.{Crew}
 use Rattle.lab_step_orders.specs.declared.outcomes.StepOutcomes.{StepOutcomes}
@@ -20,9 +20,11 @@ staxes_text gates = lines_below (stax_line gates) (length gates)
 abbrev pub mutexes_text : List Shared → List ℕ
 mutexes_text mutexes = lines_below (mutex_line mutexes) (length mutexes)
 
--- what is told where callers and words stand so: what each caller with calls was answered, and how the words stand
+-- what is told where callers and words stand so: who is stuck, what each caller with calls was answered, and how the words stand
 abbrev pub told_text : Crew → Seen → List ℕ
-told_text c s = lines_below (caller_line c s.answers) (length c.callers.items) ++ (staxes_text s.gates ++ mutexes_text s.mutexes)
+told_text c s =
+    lines_below (stuck_line c s.made s.waits) (length c.callers.items)
+    ++ (lines_below (caller_line c s.answers) (length c.callers.items) ++ (staxes_text s.gates ++ mutexes_text s.mutexes))
 
 -- this order leads from here to where nobody can make a step, and just this is told there
 pub record LeadsTo (c : Crew) (s : Seen) (told order : List ℕ) : Type 0 where
@@ -65,7 +67,7 @@ pub record AreOutcomes (c : Crew) (most : ℕ) (found : StepOutcomes) : Type 0 w
   -- there are so many orders
   pub count : found.count ≡ length (orders (machine c) (first_seen c) found.steps)
   -- no number of steps that leads to more than `most` moments was gone on from, and so many moments were gone through
-  pub gone : IsGone (machine c) seen_of (first_seen c) most found.steps found.moments
+  pub gone : IsGone (machine c) (seen_of c) (first_seen c) most found.steps found.moments
   -- where nothing was cut off, no run has as many steps; else there is one, and more than `most` runs have, or no number
   -- of 64 bits counts a step more
   pub whole : found.whole ≡ true → runs (machine c) (first_seen c) found.steps ≡ []

@@ -1,5 +1,5 @@
 -- The report of all orders of atomic steps, as a text.
-use Rattle.std.specs.Prelude.{ℕ, ◌+◌, ◌==◌, Bool, List, [], ◌∷◌, ◌++◌, codes, flat_map, if◌then◌else◌, length, Option, Some, None, string_bytes}
+use Rattle.std.specs.Prelude.{ℕ, ◌+◌, ◌==◌, Bool, List, [], ◌∷◌, ◌++◌, codes, flat_map, if◌then◌else◌, is_some, length, Option, Some, None, string_bytes}
 use Rattle.std.specs.Fmt.{decimal}
 use Rattle.std.specs.Option.{option_map_or}
 use Rattle.std.specs.Str.Lines.{lines}
@@ -36,6 +36,7 @@ gate_word Unclaim = codes "unclaim"
 abbrev pub mutex_word : MutexStep → List ℕ
 mutex_word Try = codes "try"
 mutex_word Unlock = codes "unlock"
+mutex_word _ = codes "visit"
 
 -- which step a caller makes: with none a call is refused
 abbrev pub step_word : Option WordStep → List ℕ
@@ -43,9 +44,13 @@ step_word None = codes "refused"
 step_word (Some (AtGate stax step)) = gate_word step
 step_word (Some (AtMutex mutex step)) = mutex_word step
 
+-- a turn with the kernel in hand is a visit
+abbrev pub turn_word : Turn → List ℕ
+turn_word turn = if is_some turn.visit then codes "visit" else step_word turn.step
+
 -- a turn of a caller, behind what parts it from the one before
 abbrev pub turn_text : List ℕ → ℕ → Turn → List ℕ
-turn_text mark k turn = mark ++ (codes "T" ++ (decimal k ++ (codes " " ++ step_word turn.step)))
+turn_text mark k turn = mark ++ (codes "T" ++ (decimal k ++ (codes " " ++ turn_word turn)))
 
 -- what parts the turn with this number from the one before
 abbrev pub mark_at : ℕ → List ℕ

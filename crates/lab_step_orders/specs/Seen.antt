@@ -1,26 +1,35 @@
 -- The callers of a machine's words as a machine: a step of it is one turn of one caller.
 use Rattle.std.specs.Prelude.{ℕ, ◌+◌, false, List, [], length, map, replicate, Option, Some, None, option_map, slice_get, slice_index, slice_index_or, slice_set}
 use Rattle.std.specs.Option.{option_map_or}
+use Rattle.evl_kernel.specs.state.States.{State}
 use Rattle.lab_orders.specs.Machines.{Machine}
 use Rattle.lab_step_orders.specs.Words.{Shared, gate_after, mutex_after}
-use Rattle.lab_step_orders.specs.Programs.{limit_of, stage_of, next_call, turn_at}
+use Rattle.lab_step_orders.specs.Programs.{ahead_at, limit_of, stage_of, next_call}
 use Rattle.lab_step_orders.specs.Told.{answer_line}
+use Rattle.lab_step_orders.specs.Visits.{state_after, state_begun, turn_of}
 use Rattle.lab_step_orders.specs.declared.crews.Crew.{Crew}
+use Rattle.lab_step_orders.specs.declared.steps.Ahead.{Ahead}
 use Rattle.lab_step_orders.specs.declared.steps.Place.{Place}
 use Rattle.lab_step_orders.specs.declared.steps.Place.TheVariants.{Begins}
 use Rattle.lab_step_orders.specs.declared.steps.Then.{Then}
 use Rattle.lab_step_orders.specs.declared.steps.Then.TheVariants.{Stands, Answers}
 use Rattle.lab_step_orders.specs.declared.steps.Turn.{Turn}
+use Rattle.lab_step_orders.specs.declared.steps.WaitChange.{WaitChange}
+use Rattle.lab_step_orders.specs.declared.steps.WaitChange.TheVariants.{Same, Begins as BeginsTo, Ends}
+use Rattle.lab_step_orders.specs.declared.steps.Waiting.{Waiting}
 use Rattle.lab_step_orders.specs.declared.steps.WordStep.{WordStep}
 use Rattle.lab_step_orders.specs.declared.steps.WordStep.TheVariants.{AtGate, AtMutex}
 
--- the words; and of each caller where it stands, how many of its calls are over, and what it was answered
+-- the words; of each caller where it stands, how many of its calls are over, what it was answered and for what it waits; and
+-- the records of the kernel
 pub record Seen : Type 0 where
   pub gates : List Shared
   pub mutexes : List Shared
   pub places : List Place
   pub made : List ℕ
   pub answers : List (List ℕ)
+  pub waits : List (Option Waiting)
+  pub state : State
 
 -- nobody holds it
 abbrev pub free_word : ℕ → Shared
@@ -28,11 +37,13 @@ free_word callers = record { word = 0; held = replicate callers false }
 
 abbrev pub first_seen : Crew → Seen
 first_seen c = record {
-  gates = replicate (length c.limits.items) (free_word (length c.callers.items));
-  mutexes = replicate c.mutexes (free_word (length c.callers.items));
+  gates = replicate (length c.board.staxes.items) (free_word (length c.callers.items));
+  mutexes = replicate (length c.board.mutexes.items) (free_word (length c.callers.items));
   places = map (λ caller. Begins) c.callers.items;
   made = map (λ caller. 0) c.callers.items;
   answers = map (λ caller. []) c.callers.items;
+  waits = map (λ caller. None) c.callers.items;
+  state = state_begun c;
 }
 
 -- the list with the element at a place changed, if there is one
@@ -63,6 +74,12 @@ abbrev pub answers_after : Then → List ℕ → List ℕ
 answers_after (Stands place) told = told
 answers_after (Answers answer) told = answer_line told answer
 
+-- a turn may begin its caller's wait, or end it
+abbrev pub wait_after : WaitChange → Option Waiting → Option Waiting
+wait_after Same wait = wait
+wait_after (BeginsTo now) wait = Some now
+wait_after Ends wait = None
+
 abbrev pub after : Crew → Seen → ℕ → Turn → Seen
 after c s k turn = record {
   gates = gates_after c k turn.step s.gates;
@@ -70,11 +87,16 @@ after c s k turn = record {
   places = slice_set s.places k (place_after turn.then);
   made = slice_set s.made k (made_after turn.then (slice_index s.made k));
   answers = slice_set s.answers k (answers_after turn.then (slice_index_or s.answers k []));
+  waits = slice_set s.waits k (wait_after turn.wait (slice_index_or s.waits k None));
+  state = state_after c s.state k turn.visit;
 }
 
 -- the next turn of a caller: one that has made all its calls makes none
+abbrev pub next_ahead : Crew → Seen → ℕ → Option Ahead
+next_ahead c s k = ahead_at c s.gates s.mutexes k (slice_index_or s.waits k None) (slice_index_or s.places k Begins) (next_call c k (slice_index s.made k))
+
 abbrev pub next_turn : Crew → Seen → ℕ → Option Turn
-next_turn c s k = turn_at c s.gates s.mutexes k (slice_index_or s.places k Begins) (next_call c k (slice_index s.made k))
+next_turn c s k = turn_of c s.state k (next_ahead c s k)
 
 abbrev pub go : Crew → Seen → ℕ → Option Seen
 go c s k = option_map (after c s k) (next_turn c s k)

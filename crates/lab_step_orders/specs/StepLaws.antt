@@ -5,10 +5,8 @@ use mathlib.Core.Option.{some}
 use lib.ListN.{get_elem?}
 use Rattle.evl_base.specs.Limits.{stax_fits, thread_limit}
 use Rattle.evl_base.specs.declared.stage.Stage.{Stage}
-use Rattle.evl_words.specs.declared.mutex.MutexRole.{MutexRole}
-use Rattle.evl_words.specs.declared.mutex.MutexRole.TheVariants.{Bystander, Owner}
 use Rattle.evl_words.specs.GateWorld.{GateWorld, GateView, GateKind, IsGateWorld, gate_steps, hold, newcomer as gate_newcomer}
-use Rattle.evl_words.specs.MutexWorld.{MutexWorld, MutexView, MutexKind, IsMutexWorld, mutex_steps, role_of, newcomer as mutex_newcomer}
+use Rattle.evl_words.specs.MutexWorld.{MutexWorld, MutexView, MutexKind, IsMutexWorld, mutex_steps, owns, newcomer as mutex_newcomer}
 use Rattle.evl_words.specs.Machine.{Run}
 use Rattle.evl_words.specs.Events.{Event, Happens}
 use Rattle.lab_orders.specs.Machines.{Run as Order, IsRun}
@@ -20,14 +18,11 @@ use Rattle.lab_step_orders.specs.declared.crews.Crew.{Crew}
 -- its limits are those of a board, and it has no more callers than a board has threads
 pub record IsCrew (c : Crew) : Type 0 where
   pub few : length c.callers.items ≤ thread_limit
-  pub fits : list_all stax_fits c.limits.items ≡ true
+  pub fits : list_all stax_fits c.board.staxes.items ≡ true
 
--- at which stage a caller on this stage holds a stax, if it does, and what one is to a mutex
+-- at which stage a caller on this stage holds a stax, if it does
 abbrev pub held_stage : Stage → Bool → Option Stage
 held_stage stage held = if held then Some stage else None
-
-abbrev pub held_role : Bool → MutexRole
-held_role held = if held then Owner else Bystander
 
 -- a gate's and a mutex's world before any step: the word is 0, and no seat holds anything
 abbrev pub opened_gate : ℕ → ℕ → GateWorld
@@ -55,7 +50,8 @@ pub record LiesAtMutex (callers : ℕ) (m : Shared) (w : MutexWorld) : Type 0 wh
   pub word : w.word ≡ m.word
   pub long : length w.views ≡ callers
   pub wide : length m.held ≡ callers
-  pub seats : (k : ℕ) (v : MutexView) → get_elem? w.views k ≡ some v → v.held ≡ role_of callers (held_role (holds m k))
+  pub sized : (k : ℕ) (v : MutexView) → get_elem? w.views k ≡ some v → v.held.seats ≡ callers
+  pub seats : (k : ℕ) (v : MutexView) → get_elem? w.views k ≡ some v → owns v.held.role ≡ holds m k
 
 -- Wherever steps lead, some world of a gate stands behind each stax, and some world of a mutex behind each mutex.
 abbrev pub WordsStand : Type 0

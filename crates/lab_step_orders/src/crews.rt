@@ -5,7 +5,8 @@ ghost use Rattle.evl_base.specs.Limits.{stax_fits, thread_limit};
 ghost use Rattle.evl_base.specs.declared.refusal.Refusal.TheVariants.{Range};
 
 use crate::calls::WordCall;
-use evl_base::{MAX_THREADS, Refusal, Stage};
+use evl_base::{Board, MAX_THREADS, Refusal, Stage};
+use evl_scenario::Step;
 
 /// A caller: the stage of its thread, and the calls that it makes, in order.
 #[derive(Drop)]
@@ -14,19 +15,23 @@ pub struct CrewCaller {
     pub calls: Vec<WordCall>,
 }
 
-/// The callers of a machine, by the numbers of their threads, and what there is to step on.
+/// A board, what is set up, and the callers that come then, by the numbers of their threads.
 #[derive(Drop)]
 pub struct Crew {
-    /// The limit of each stax.
-    pub limits: Vec<u16>,
-    /// How many mutexes there are. None nests, and none has a ceiling.
-    pub mutexes: u16,
+    /// The board, with the limits of its staxes. No mutex nests, and none has a ceiling.
+    pub board: Board,
+    /// How many entries the kernel's history may have.
+    pub limit: u32,
+    /// What is set up.
+    pub setup: Vec<Step>,
+    /// The calls of the kernel that callers make, in no order.
+    pub steps: Vec<Step>,
     pub callers: Vec<CrewCaller>,
     // How many callers there are.
     count: u16,
     ghost counted: { count ≡ length callers.items },
     ghost few: { length callers.items ≤ thread_limit },
-    ghost fits: { list_all stax_fits limits.items ≡ true },
+    ghost fits: { list_all stax_fits board.staxes.items ≡ true },
 }
 
 // Whether each stax may have its limit.
@@ -37,22 +42,32 @@ fn all_fit(limits: &[u16]) -> bool
 }
 
 impl Crew {
-    /// Callers over staxes with these limits and so many mutexes. `Range` where a limit isn't within 1 and 1000, or
-    /// where there are more callers than a board has threads.
-    pub fn new(limits: Vec<u16>, mutexes: u16, callers: Vec<CrewCaller>) -> Result<Crew, Refusal>
-        ensures limits { IfOk result (λ crew. crew.limits ≡ limits) }
-        ensures mutexes { IfOk result (λ crew. crew.mutexes ≡ mutexes) }
+    /// Callers over a board. `Range` where a stax's limit isn't within 1 and 1000, or where there are more callers than a
+    /// board has threads.
+    pub fn new(
+        board: Board,
+        limit: u32,
+        setup: Vec<Step>,
+        steps: Vec<Step>,
+        callers: Vec<CrewCaller>,
+    ) -> Result<Crew, Refusal>
+        ensures board { IfOk result (λ crew. crew.board ≡ board) }
+        ensures limit { IfOk result (λ crew. crew.limit ≡ limit) }
+        ensures setup { IfOk result (λ crew. crew.setup ≡ setup) }
+        ensures steps { IfOk result (λ crew. crew.steps ≡ steps) }
         ensures callers { IfOk result (λ crew. crew.callers ≡ callers) }
-        ensures range { (result ≡ Err Range) ↔ ¬ ((length callers.items ≤ thread_limit) × (list_all stax_fits limits.items ≡ true)) }
+        ensures range { (result ≡ Err Range) ↔ ¬ ((length callers.items ≤ thread_limit) × (list_all stax_fits board.staxes.items ≡ true)) }
         ensures err { IfErr result (λ refusal. refusal ≡ Range) }
     {
-        if callers.len() > MAX_THREADS || !all_fit(limits.as_slice()) {
+        if callers.len() > MAX_THREADS || !all_fit(board.staxes.as_slice()) {
             return Err(Refusal::Range);
         }
         let count = callers.len() as u16;
         Ok(Crew {
-            limits,
-            mutexes,
+            board,
+            limit,
+            setup,
+            steps,
             callers,
             count,
         })

@@ -29,6 +29,7 @@ fn of_place(place: Place) -> u64 {
         Place::Begins => 0,
         Place::Found(_, word) => word.wrapping_add(1),
         Place::Left(_) => u64::MAX,
+        Place::Claimed(_) => u64::MAX - 1,
     }
 }
 

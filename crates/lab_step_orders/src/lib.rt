@@ -5,6 +5,7 @@
 mod calls;
 mod crews;
 mod digests;
+mod kernels;
 mod laws;
 mod moments;
 mod outcomes;
@@ -14,6 +15,7 @@ mod seen;
 mod shared;
 mod steps;
 mod told;
+mod visits;
 mod words;
 mod worlds;
 
@@ -24,5 +26,7 @@ pub use moments::Moment;
 pub use outcomes::{StepOutcomes, step_outcomes_of};
 pub use reports::{write_step_outcome, write_step_report};
 pub use seen::SeenSteps;
-pub use steps::{GateStep, MutexStep, Place, Then, Turn, WordStep};
+pub use steps::{
+    Ahead, Asked, GateStep, MutexStep, Place, Then, Turn, Visit, WaitChange, Waiting, WordStep,
+};
 pub use worlds::Stepping;

@@ -1,17 +1,22 @@
 //! What is kept of callers at one moment.
 ghost use Rattle.std.specs.Prelude.{◌≡◌, ◌+◌, [], ◌<◌, ◌≤◌, true, replicate, IfOk, IfSome, OnOk, length, map, option_map, slice_get, slice_index, slice_index_or, slice_set, string_bytes};
-ghost use Rattle.lab_step_orders.specs.Moments.{IsMoment, seen_of, shared_of};
-ghost use Rattle.lab_step_orders.specs.Seen.{after, answers_after, changed_at, first_seen, free_word, gates_after, go, made_after, mutexes_after, next_turn, place_after};
+ghost use Rattle.lab_step_orders.specs.Moments.{IsMoment, seen_of, shared_of, trail_after};
+ghost use Rattle.lab_step_orders.specs.Seen.{after, answers_after, changed_at, first_seen, free_word, gates_after, go, made_after, mutexes_after, next_ahead, next_turn, place_after, wait_after};
 ghost use Rattle.lab_step_orders.specs.Programs.{limit_of, stage_of};
 ghost use Rattle.lab_step_orders.specs.Told.{answer_line};
+ghost use Rattle.lab_step_orders.specs.Visits.{visit_turn};
 ghost use Rattle.lab_step_orders.specs.Words as shared;
 ghost use Rattle.lab_step_orders.specs.declared.steps.Place.TheVariants.{Begins};
 
 use crate::calls::Answer;
 use crate::crews::{Crew, CrewCaller};
-use crate::programs::{next_call, stage_of, turn_at};
+use crate::kernels::{NoPlans, Visited, do_trails_meet, leave, led};
+use crate::programs::{ahead_at, next_call, stage_of};
 use crate::shared::{SharedWord, are_same_words, copied_words, free_word, words_with};
-use crate::steps::{GateStep, MutexStep, Place, Then, Turn, WordStep};
+use crate::steps::{
+    Ahead, Asked, GateStep, MutexStep, Place, Then, Turn, Visit, WaitChange, Waiting, WordStep,
+};
+use crate::visits::visit_turn;
 use crate::words::{gate_after, mutex_after};
 use evl_base::{MutexId, StaxId};
 use std::alloc::{AllocError, Global};
@@ -27,6 +32,11 @@ pub struct Moment {
     pub(crate) made: Vec<usize>,
     /// What each caller was answered, as text.
     pub(crate) answers: Vec<String>,
+    /// What each caller waits for.
+    pub(crate) waits: Vec<Option<Waiting>>,
+    /// The kernel's calls in visits, in their order, but for those that were refused: a refusal leaves the kernel as it
+    /// was.
+    pub(crate) trail: Vec<Visited>,
 }
 
 // So many words that nobody holds.
@@ -73,23 +83,37 @@ fn no_answers(alloc: Global, callers: &[CrewCaller]) -> Result<Vec<String>, Allo
     Ok(answers)
 }
 
+// As many callers that don't wait.
+fn no_waits(alloc: Global, callers: &[CrewCaller]) -> Result<Vec<Option<Waiting>>, AllocError>
+    ensures { IfOk result (λ waits. waits.items ≡ map (λ caller. None) callers.now) }
+{
+    let mut waits = Vec::new(alloc);
+    for _caller in callers {
+        waits.push(None)?;
+    }
+    Ok(waits)
+}
+
 /// The moment before the first step.
 pub(crate) fn first_moment(alloc: Global, crew: &Crew) -> Result<Moment, AllocError>
-    ensures seen { IfOk result (λ moment. seen_of moment ≡ first_seen crew.now) }
+    ensures seen { IfOk result (λ moment. seen_of crew.now moment ≡ first_seen crew.now) }
     ensures fits { IfOk result (IsMoment crew.now) }
 {
     let callers = crew.count();
-    let gates = free_words(alloc, crew.limits.len(), callers)?;
-    let mutexes = free_words(alloc, usize::from(crew.mutexes), callers)?;
+    let gates = free_words(alloc, crew.board.staxes.len(), callers)?;
+    let mutexes = free_words(alloc, crew.board.mutexes.len(), callers)?;
     let places = all_begin(alloc, crew.callers.as_slice())?;
     let made = none_made(alloc, crew.callers.as_slice())?;
     let answers = no_answers(alloc, crew.callers.as_slice())?;
+    let waits = no_waits(alloc, crew.callers.as_slice())?;
     Ok(Moment {
         gates,
         mutexes,
         places,
         made,
         answers,
+        waits,
+        trail: Vec::new(alloc),
     })
 }
 
@@ -283,6 +307,50 @@ fn answers_after(
     Ok(all)
 }
 
+// For what a caller waits behind a turn.
+fn wait_after(wait: Option<Waiting>, change: WaitChange) -> Option<Waiting>
+    ensures { result ≡ wait_after change wait }
+{
+    match change {
+        WaitChange::Same => wait,
+        WaitChange::Begins(now) => Some(now),
+        WaitChange::Ends => None,
+    }
+}
+
+// For what callers wait, with that of one caller as a turn leaves it.
+fn waits_after(
+    alloc: Global,
+    waits: &[Option<Waiting>],
+    caller: usize,
+    change: WaitChange,
+) -> Result<Vec<Option<Waiting>>, AllocError>
+    requires { caller < length waits.now }
+    ensures { IfOk result (λ all. all.items ≡ slice_set waits.now caller (wait_after change (slice_index_or waits.now caller None))) }
+{
+    let mut all = Vec::with_capacity(alloc, waits.len())?;
+    all.extend_from_slice(waits)?;
+    all[caller] = wait_after(waits[caller], change);
+    Ok(all)
+}
+
+// The visits, with that of a turn behind them.
+fn trail_after(
+    alloc: Global,
+    trail: &[Visited],
+    who: u16,
+    visit: Option<Visit>,
+) -> Result<Vec<Visited>, AllocError>
+    ensures { IfOk result (λ all. all.items ≡ trail_after trail.now who visit) }
+{
+    let mut all = Vec::with_capacity(alloc, trail.len().saturating_add(1))?;
+    all.extend_from_slice(trail)?;
+    if let Some(visit) = visit {
+        all.push(Visited { who, visit })?;
+    }
+    Ok(all)
+}
+
 /// The moment after a turn of a caller.
 pub(crate) fn moment_after(
     alloc: Global,
@@ -293,7 +361,7 @@ pub(crate) fn moment_after(
 ) -> Result<Moment, AllocError>
     requires caller { caller < length crew.now.callers.items }
     requires fits { IsMoment crew.now before.now }
-    ensures seen { IfOk result (λ moment. seen_of moment ≡ after crew.now (seen_of before.now) caller turn) }
+    ensures seen { IfOk result (λ moment. seen_of crew.now moment ≡ after crew.now (seen_of crew.now before.now) caller turn) }
     ensures fits { IfOk result (IsMoment crew.now) }
 {
     let place = usize::from(caller);
@@ -302,30 +370,69 @@ pub(crate) fn moment_after(
     let places = places_after(alloc, before.places.as_slice(), place, turn.then)?;
     let made = made_after(alloc, before.made.as_slice(), place, turn.then)?;
     let answers = answers_after(alloc, before.answers.as_slice(), place, turn.then)?;
+    let waits = waits_after(alloc, before.waits.as_slice(), place, turn.wait)?;
+    let trail = trail_after(alloc, before.trail.as_slice(), caller, turn.visit)?;
     Ok(Moment {
         gates,
         mutexes,
         places,
         made,
         answers,
+        waits,
+        trail,
     })
 }
 
-/// The next turn of a caller.
-pub(crate) fn next_turn(crew: &Crew, moment: &Moment, caller: u16) -> Option<Turn>
+// What is ahead of a caller.
+fn next_ahead(crew: &Crew, moment: &Moment, caller: u16) -> Option<Ahead>
     requires caller { caller < length crew.now.callers.items }
     requires fits { IsMoment crew.now moment.now }
-    ensures { result ≡ next_turn crew.now (seen_of moment.now) caller }
+    ensures { result ≡ next_ahead crew.now (seen_of crew.now moment.now) caller }
 {
     let place = usize::from(caller);
-    turn_at(
+    ahead_at(
         crew,
         moment.gates.as_slice(),
         moment.mutexes.as_slice(),
         caller,
+        moment.waits[place],
         moment.places[place],
         next_call(crew, caller, moment.made[place]),
     )
+}
+
+// The turn of a caller that visits the kernel.
+fn visiting(
+    alloc: Global,
+    crew: &Crew,
+    moment: &Moment,
+    caller: u16,
+    asked: Asked,
+) -> Result<Option<Turn>, AllocError>
+    ensures { IfOk result (λ turn. turn ≡ visit_turn crew.now (seen_of crew.now moment.now).state caller asked) }
+{
+    let mut kernel = led(alloc, crew, &NoPlans, moment.trail.as_slice())?;
+    let turn = visit_turn(alloc, crew, &mut kernel, caller, asked);
+    leave(kernel);
+    turn
+}
+
+/// The next turn of a caller.
+pub(crate) fn next_turn(
+    alloc: Global,
+    crew: &Crew,
+    moment: &Moment,
+    caller: u16,
+) -> Result<Option<Turn>, AllocError>
+    requires caller { caller < length crew.now.callers.items }
+    requires fits { IsMoment crew.now moment.now }
+    ensures { IfOk result (λ turn. turn ≡ next_turn crew.now (seen_of crew.now moment.now) caller) }
+{
+    match next_ahead(crew, moment, caller) {
+        Some(Ahead::Turns(turn)) => Ok(Some(turn)),
+        Some(Ahead::Visits(asked)) => visiting(alloc, crew, moment, caller, asked),
+        None => Ok(None),
+    }
 }
 
 /// The moment after a caller's next turn, if it makes one.
@@ -337,10 +444,10 @@ pub(crate) fn next_moment(
 ) -> Result<Option<Moment>, AllocError>
     requires caller { caller < length crew.now.callers.items }
     requires fits { IsMoment crew.now moment.now }
-    ensures next { IfOk result (λ next. option_map seen_of next ≡ go crew.now (seen_of moment.now) caller) }
+    ensures next { IfOk result (λ next. option_map (seen_of crew.now) next ≡ go crew.now (seen_of crew.now moment.now) caller) }
     ensures fits { IfOk result (λ next. IfSome next (IsMoment crew.now)) }
 {
-    let Some(turn) = next_turn(crew, moment, caller) else {
+    let Some(turn) = next_turn(alloc, crew, moment, caller)? else {
         return Ok(None);
     };
     match moment_after(alloc, crew, moment, caller, turn) {
@@ -370,13 +477,29 @@ fn are_same_places(one: &[Place], other: &[Place]) -> bool
     one == other
 }
 
-/// Whether two moments are the same: the words and who holds them, where each caller stands, and its answers.
-pub(crate) fn are_same(one: &Moment, other: &Moment) -> bool
-    ensures { result ≡ true → seen_of one.now ≡ seen_of other.now }
+// Whether callers wait for the same.
+fn are_same_waits(one: &[Option<Waiting>], other: &[Option<Waiting>]) -> bool
+    ensures { result ≡ true → one.now ≡ other.now }
+{
+    one == other
+}
+
+/// Whether two moments are the same: the words and who holds them, where each caller stands, for what it waits, its
+/// answers, and how the kernel stands.
+pub(crate) fn are_same(alloc: Global, crew: &Crew, one: &Moment, other: &Moment) -> bool
+    ensures { result ≡ true → seen_of crew.now one.now ≡ seen_of crew.now other.now }
 {
     are_same_words(one.gates.as_slice(), other.gates.as_slice())
         && are_same_words(one.mutexes.as_slice(), other.mutexes.as_slice())
         && are_same_places(one.places.as_slice(), other.places.as_slice())
         && are_same_numbers(one.made.as_slice(), other.made.as_slice())
         && are_same_texts(one.answers.as_slice(), other.answers.as_slice())
+        && are_same_waits(one.waits.as_slice(), other.waits.as_slice())
+        && do_trails_meet(
+            alloc,
+            crew,
+            &NoPlans,
+            one.trail.as_slice(),
+            other.trail.as_slice(),
+        )
 }

@@ -33,7 +33,7 @@ pub struct StepOutcomes {
 
 // An end as an outcome.
 fn tally_of(alloc: Global, crew: &Crew, end: Node<Moment>) -> Result<Tally, AllocError>
-    ensures told { IfOk result (λ tally. string_bytes tally.told ≡ told_text crew.now (seen_of end.at)) }
+    ensures told { IfOk result (λ tally. string_bytes tally.told ≡ told_text crew.now (seen_of crew.now end.at)) }
     ensures count { IfOk result (λ tally. tally.count ≡ end.count) }
     ensures order { IfOk result (λ tally. tally.order.items ≡ end.order.items) }
 {
@@ -55,10 +55,10 @@ fn put_end(
     end: Node<Moment>,
 ) -> Result<(), OrdersError>
     requires { AreDistinct all.old.items }
-    ensures sums { OnOk result ((f : List ℕ → ℕ) → told_weight f all.new.items ≡ told_weight f all.old.items + end.count * f (told_text crew.now (seen_of end.at))) }
+    ensures sums { OnOk result ((f : List ℕ → ℕ) → told_weight f all.new.items ≡ told_weight f all.old.items + end.count * f (told_text crew.now (seen_of crew.now end.at))) }
     ensures distinct { OnOk result (AreDistinct all.new.items) }
     ensures rise { OnOk result ((k : ℕ) → AreRisen k all.old.items → k ≤ length end.order.items → AreRisen (length end.order.items) all.new.items) }
-    ensures lead { OnOk result ((s : Seen) → LeadThere crew.now s all.old.items → LeadsTo crew.now s (told_text crew.now (seen_of end.at)) end.order.items → LeadThere crew.now s all.new.items) }
+    ensures lead { OnOk result ((s : Seen) → LeadThere crew.now s all.old.items → LeadsTo crew.now s (told_text crew.now (seen_of crew.now end.at)) end.order.items → LeadThere crew.now s all.new.items) }
     ensures uncounted { IfErr result (λ error. error ≡ OrdersError.Count → count_limit ≤ told_weight (λ text. 1) all.old.items + end.count) }
 {
     match tally_of(alloc, crew, end) {
@@ -91,14 +91,14 @@ fn outcomes_at(
     crew: &Crew,
     ends: Vec<Node<Moment>>,
 ) -> Result<Vec<Tally>, OrdersError>
-    requires led { AreLed (machine crew.now) seen_of (first_seen crew.now) ends.items }
-    requires over { AreOver (machine crew.now) seen_of ends.items }
+    requires led { AreLed (machine crew.now) (seen_of crew.now) (first_seen crew.now) ends.items }
+    requires over { AreOver (machine crew.now) (seen_of crew.now) ends.items }
     requires shortest { (k : ℕ) × AreShortest k ends.items }
-    ensures sums { IfOk result (λ all. (f : List ℕ → ℕ) → told_weight f all.items ≡ weight seen_of (λ s. f (told_text crew.now s)) ends.items) }
+    ensures sums { IfOk result (λ all. (f : List ℕ → ℕ) → told_weight f all.items ≡ weight (seen_of crew.now) (λ s. f (told_text crew.now s)) ends.items) }
     ensures distinct { IfOk result (λ all. AreDistinct all.items) }
     ensures lead { IfOk result (λ all. LeadThere crew.now (first_seen crew.now) all.items) }
     ensures rise { IfOk result (λ all. AreRising all.items) }
-    ensures uncounted { IfErr result (λ error. error ≡ OrdersError.Count → count_limit ≤ weight seen_of (λ s. 1) ends.items) }
+    ensures uncounted { IfErr result (λ error. error ≡ OrdersError.Count → count_limit ≤ weight (seen_of crew.now) (λ s. 1) ends.items) }
 {
     let mut all = Vec::new(alloc);
     for end in ends {
@@ -112,14 +112,14 @@ fn outcomes_at(
 
 // Where all orders end.
 fn ends_of(alloc: Global, crew: &Crew, most: usize) -> Result<Explored<Moment>, OrdersError>
-    ensures counted { IfOk result (λ found. (f : Seen → ℕ) → weight seen_of f found.ends.items
+    ensures counted { IfOk result (λ found. (f : Seen → ℕ) → weight (seen_of crew.now) f found.ends.items
         ≡ total f (orders (machine crew.now) (first_seen crew.now) found.steps)) }
     ensures whole { IfOk result (λ found. found.whole ≡ true → runs (machine crew.now) (first_seen crew.now) found.steps ≡ []) }
     ensures cut { IfOk result (λ found. found.whole ≡ false → (found.steps ≡ 18446744073709551615)
         ⊎ (most < length (runs (machine crew.now) (first_seen crew.now) found.steps))) }
-    ensures led { IfOk result (λ found. AreLed (machine crew.now) seen_of (first_seen crew.now) found.ends.items) }
-    ensures over { IfOk result (λ found. AreOver (machine crew.now) seen_of found.ends.items) }
-    ensures gone { IfOk result (λ found. IsGone (machine crew.now) seen_of (first_seen crew.now) most found.steps found.moments) }
+    ensures led { IfOk result (λ found. AreLed (machine crew.now) (seen_of crew.now) (first_seen crew.now) found.ends.items) }
+    ensures over { IfOk result (λ found. AreOver (machine crew.now) (seen_of crew.now) found.ends.items) }
+    ensures gone { IfOk result (λ found. IsGone (machine crew.now) (seen_of crew.now) (first_seen crew.now) most found.steps found.moments) }
     ensures more { IfOk result (λ found. found.whole ≡ false → 0 < length (runs (machine crew.now) (first_seen crew.now) found.steps)) }
     ensures shortest { IfOk result (λ found. AreShortest found.steps found.ends.items) }
     ensures uncounted { IfErr result (CanNotTell crew.now) }
@@ -128,7 +128,7 @@ fn ends_of(alloc: Global, crew: &Crew, most: usize) -> Result<Explored<Moment>, 
         Ok(start) => start,
         Err(_) => return Err(OrdersError::Memory),
     };
-    explore(alloc, &Stepping { crew }, start, usize::MAX, most)
+    explore(alloc, &Stepping { alloc, crew }, start, usize::MAX, most)
 }
 
 /// The outcomes of all orders of the callers' atomic steps. It goes no further than where a number of steps leads to

@@ -1,13 +1,19 @@
 //! The next turn of a caller.
-ghost use Rattle.std.specs.Prelude.{◌≡◌, map, slice_index_or, slice_index};
+ghost use Rattle.std.specs.Prelude.{◌≡◌, map, slice_get};
+ghost use Rattle.std.specs.Option.{option_map_or};
+ghost use Rattle.lab_step_orders.specs.declared.calls.Answer.TheVariants.{Done};
+ghost use Rattle.lab_step_orders.specs.declared.steps.GateStep.TheVariants.{Claim};
+ghost use Rattle.lab_step_orders.specs.declared.steps.WordStep.TheVariants.{AtGate};
 ghost use Rattle.lab_step_orders.specs.Moments.{shared_of};
 ghost use Rattle.lab_step_orders.specs.Programs as turns;
-ghost use Rattle.lab_step_orders.specs.Programs.{first_turn, limit_of, next_call, stage_of, turn_at};
+ghost use Rattle.lab_step_orders.specs.Programs.{ahead_at, first_ahead, limit_of, next_call, stage_of};
 
 use crate::calls::{Answer, WordCall};
 use crate::crews::Crew;
 use crate::shared::{SharedWord, holds};
-use crate::steps::{GateStep, MutexStep, Place, Then, Turn, WordStep};
+use crate::steps::{
+    Ahead, Asked, GateStep, MutexStep, Place, Then, Turn, WaitChange, Waiting, WordStep,
+};
 use crate::words::{left_at, refusal_at};
 use evl_base::{MutexId, Refusal, Stage, StaxId};
 use evl_words::Left;
@@ -16,7 +22,11 @@ use evl_words::Left;
 fn limit_of(crew: &Crew, stax: StaxId) -> u16
     ensures { result ≡ limit_of crew.now stax.0 }
 {
-    crew.limits.get(usize::from(stax.0)).copied().unwrap_or(0)
+    crew.board
+        .staxes
+        .get(usize::from(stax.0))
+        .copied()
+        .unwrap_or(0)
 }
 
 /// The stage of a caller.
@@ -37,12 +47,14 @@ pub(crate) fn next_call(crew: &Crew, caller: u16, made: usize) -> Option<WordCal
     one.calls.get(made).copied()
 }
 
-// A turn with no step, which refuses the call.
-fn refuses(refusal: Refusal) -> Turn
+/// A turn with no step, which refuses the call.
+pub(crate) fn refuses(refusal: Refusal) -> Turn
     ensures { result ≡ turns.refuses refusal }
 {
     Turn {
         step: None,
+        visit: None,
+        wait: WaitChange::Same,
         then: Then::Answers(Answer::Refused(refusal)),
     }
 }
@@ -53,6 +65,8 @@ fn goes(step: WordStep, place: Place) -> Turn
 {
     Turn {
         step: Some(step),
+        visit: None,
+        wait: WaitChange::Same,
         then: Then::Stands(place),
     }
 }
@@ -63,6 +77,8 @@ fn ends(step: WordStep, answer: Answer) -> Turn
 {
     Turn {
         step: Some(step),
+        visit: None,
+        wait: WaitChange::Same,
         then: Then::Answers(answer),
     }
 }
@@ -137,12 +153,42 @@ fn unlock_stax(stax: StaxId, caller: u16, gate: &SharedWord) -> Turn
     }
 }
 
-// The exchange of one that may take a mutex.
-fn take_turn(mutex: MutexId, caller: u16, shared: &SharedWord) -> Turn
-    ensures { result ≡ turns.take_turn mutex caller (shared_of shared.now) }
+// Why a caller may not lock a mutex: it waits, or it is in-band, or it has the mutex.
+fn lock_refusal(
+    stage: Stage,
+    wait: Option<Waiting>,
+    caller: u16,
+    shared: &SharedWord,
+) -> Option<Refusal>
+    ensures { result ≡ turns.lock_refusal stage wait caller (shared_of shared.now) }
 {
-    if holds(shared, caller) {
-        return refuses(Refusal::Deadlock);
+    if wait.is_some() {
+        return Some(Refusal::Busy);
+    }
+    match stage {
+        Stage::Inband => Some(Refusal::WrongStage),
+        Stage::Oob => {
+            if holds(shared, caller) {
+                Some(Refusal::Deadlock)
+            } else {
+                None
+            }
+        }
+    }
+}
+
+// The turn of one that tries a mutex.
+fn try_mutex(
+    stage: Stage,
+    mutex: MutexId,
+    caller: u16,
+    wait: Option<Waiting>,
+    shared: &SharedWord,
+) -> Turn
+    ensures { result ≡ turns.try_mutex stage mutex caller wait (shared_of shared.now) }
+{
+    if let Some(refusal) = lock_refusal(stage, wait, caller, shared) {
+        return refuses(refusal);
     }
     let answer = if shared.word == 0 {
         Answer::Passed
@@ -152,94 +198,289 @@ fn take_turn(mutex: MutexId, caller: u16, shared: &SharedWord) -> Turn
     ends(WordStep::AtMutex(mutex, MutexStep::Try), answer)
 }
 
-// The turn of one that tries a mutex.
-fn try_mutex(stage: Stage, mutex: MutexId, caller: u16, shared: &SharedWord) -> Turn
-    ensures { result ≡ turns.try_mutex stage mutex caller (shared_of shared.now) }
+// What is ahead of one that begins to lock a mutex.
+fn begin_mutex(
+    stage: Stage,
+    mutex: MutexId,
+    until: Option<u64>,
+    caller: u16,
+    wait: Option<Waiting>,
+    shared: &SharedWord,
+) -> Ahead
+    ensures { result ≡ turns.begin_mutex stage mutex until caller wait (shared_of shared.now) }
 {
-    match stage {
-        Stage::Inband => refuses(Refusal::WrongStage),
-        Stage::Oob => take_turn(mutex, caller, shared),
+    match lock_refusal(stage, wait, caller, shared) {
+        Some(refusal) => Ahead::Turns(refuses(refusal)),
+        None => Ahead::Visits(Asked::Begin(mutex, until, shared.word)),
     }
 }
 
-// The turn of one that gives a mutex back.
-fn unlock_mutex(mutex: MutexId, caller: u16, shared: &SharedWord) -> Turn
-    ensures { result ≡ turns.unlock_mutex mutex caller (shared_of shared.now) }
+// Why a caller may not give a mutex back: it waits, or doesn't have it.
+fn spend_refusal(wait: Option<Waiting>, caller: u16, shared: &SharedWord) -> Option<Refusal>
+    ensures { result ≡ turns.spend_refusal wait caller (shared_of shared.now) }
 {
-    if !holds(shared, caller) {
-        return refuses(Refusal::NotOwner);
-    }
-    let answer = if shared.word == u64::from(caller) + 1 {
-        Answer::Done
+    if wait.is_some() {
+        Some(Refusal::Busy)
+    } else if holds(shared, caller) {
+        None
     } else {
-        Answer::Refused(Refusal::Busy)
-    };
-    ends(WordStep::AtMutex(mutex, MutexStep::Unlock), answer)
+        Some(Refusal::NotOwner)
+    }
 }
 
-// The first turn of a call on a stax or a mutex.
-fn first_turn(
+// The turn of one that gives a mutex back, where others claim it with this.
+fn unlock_turn(mutex: MutexId, caller: u16, shared: &SharedWord, claimed: Turn) -> Turn
+    ensures { result ≡ turns.unlock_turn mutex caller (shared_of shared.now) claimed }
+{
+    if shared.word == u64::from(caller) + 1 {
+        ends(WordStep::AtMutex(mutex, MutexStep::Unlock), Answer::Done)
+    } else {
+        claimed
+    }
+}
+
+// The exchange of a fast unlock.
+fn unlock_fast(mutex: MutexId, caller: u16, wait: Option<Waiting>, shared: &SharedWord) -> Turn
+    ensures { result ≡ turns.unlock_fast mutex caller wait (shared_of shared.now) }
+{
+    match spend_refusal(wait, caller, shared) {
+        Some(refusal) => refuses(refusal),
+        None => {
+            let step = WordStep::AtMutex(mutex, MutexStep::Unlock);
+            unlock_turn(
+                mutex,
+                caller,
+                shared,
+                ends(step, Answer::Refused(Refusal::Busy)),
+            )
+        }
+    }
+}
+
+// The exchange of one that has the kernel hand the mutex on where others claim it.
+fn unlock_mutex(mutex: MutexId, caller: u16, wait: Option<Waiting>, shared: &SharedWord) -> Turn
+    ensures { result ≡ turns.unlock_mutex mutex caller wait (shared_of shared.now) }
+{
+    match spend_refusal(wait, caller, shared) {
+        Some(refusal) => refuses(refusal),
+        None => {
+            let step = WordStep::AtMutex(mutex, MutexStep::Unlock);
+            unlock_turn(mutex, caller, shared, goes(step, Place::Claimed(mutex)))
+        }
+    }
+}
+
+// What is ahead of one that ends its wait for a mutex.
+fn finish_mutex(mutexes: &[SharedWord], wait: Option<Waiting>) -> Ahead
+    ensures { result ≡ turns.finish_mutex (map shared_of mutexes.now) wait }
+{
+    match wait {
+        Some(Waiting::Mutex(mutex)) => match mutexes.get(usize::from(mutex.0)) {
+            Some(shared) => Ahead::Visits(Asked::End(mutex, shared.word)),
+            None => Ahead::Turns(refuses(Refusal::Invalid)),
+        },
+        Some(Waiting::Element) | None => Ahead::Turns(refuses(Refusal::Invalid)),
+    }
+}
+
+// Whether a caller holds one of these.
+fn holds_some(all: &[SharedWord], caller: u16) -> bool
+    ensures { result ≡ turns.holds_some (map shared_of all.now) caller }
+{
+    for shared in all {
+        if holds(shared, caller) {
+            return true;
+        }
+    }
+    false
+}
+
+// What is ahead of one that ends another wait, and says whether it holds something.
+fn finish_wait(wait: Option<Waiting>, keep: bool, held: bool) -> Ahead
+    ensures { result ≡ turns.finish_wait wait keep held }
+{
+    match wait {
+        Some(Waiting::Element) => {
+            if keep == held {
+                Ahead::Visits(Asked::Finish)
+            } else {
+                Ahead::Turns(refuses(Refusal::Invalid))
+            }
+        }
+        Some(Waiting::Mutex(_)) | None => Ahead::Turns(refuses(Refusal::Invalid)),
+    }
+}
+
+// The first turn of one that tries a stax, if it is there.
+fn try_stax_at(crew: &Crew, gates: &[SharedWord], caller: u16, stax: StaxId) -> Turn
+    ensures { result ≡ option_map_or (turns.try_stax (turns.limit_of crew.now stax.0) (turns.stage_of crew.now caller) stax caller) (slice_get (map shared_of gates.now) stax.0) (turns.refuses Refusal.Unknown) }
+{
+    match gates.get(usize::from(stax.0)) {
+        Some(gate) => try_stax(
+            limit_of(crew, stax),
+            stage_of(crew, caller),
+            stax,
+            caller,
+            gate,
+        ),
+        None => refuses(Refusal::Unknown),
+    }
+}
+
+// The first turn of one that leaves a stax, if it is there.
+fn unlock_stax_at(gates: &[SharedWord], caller: u16, stax: StaxId) -> Turn
+    ensures { result ≡ option_map_or (turns.unlock_stax stax caller) (slice_get (map shared_of gates.now) stax.0) (turns.refuses Refusal.NotOwner) }
+{
+    match gates.get(usize::from(stax.0)) {
+        Some(gate) => unlock_stax(stax, caller, gate),
+        None => refuses(Refusal::NotOwner),
+    }
+}
+
+// The step of one that sets a stax's claim mark, if it is there.
+fn claim_stax_at(gates: &[SharedWord], stax: StaxId) -> Turn
+    ensures { result ≡ option_map_or (λ g. turns.ends (AtGate stax Claim) Done) (slice_get (map shared_of gates.now) stax.0) (turns.refuses Refusal.Unknown) }
+{
+    match gates.get(usize::from(stax.0)) {
+        Some(_) => ends(WordStep::AtGate(stax, GateStep::Claim), Answer::Done),
+        None => refuses(Refusal::Unknown),
+    }
+}
+
+// What is refused of a mutex that isn't there.
+fn refused_missing(wait: Option<Waiting>, other: Refusal) -> Turn
+    ensures { result ≡ turns.refused_missing wait other }
+{
+    refuses(if wait.is_some() { Refusal::Busy } else { other })
+}
+
+// The turn of one that tries a mutex, if it is there.
+fn try_mutex_at(
+    crew: &Crew,
+    mutexes: &[SharedWord],
+    caller: u16,
+    wait: Option<Waiting>,
+    mutex: MutexId,
+) -> Turn
+    ensures { result ≡ option_map_or (turns.try_mutex (turns.stage_of crew.now caller) mutex caller wait) (slice_get (map shared_of mutexes.now) mutex.0) (turns.refused_missing wait Refusal.Unknown) }
+{
+    match mutexes.get(usize::from(mutex.0)) {
+        Some(shared) => try_mutex(stage_of(crew, caller), mutex, caller, wait, shared),
+        None => refused_missing(wait, Refusal::Unknown),
+    }
+}
+
+// The exchange of a fast unlock, if the mutex is there.
+fn unlock_fast_at(
+    mutexes: &[SharedWord],
+    caller: u16,
+    wait: Option<Waiting>,
+    mutex: MutexId,
+) -> Turn
+    ensures { result ≡ option_map_or (turns.unlock_fast mutex caller wait) (slice_get (map shared_of mutexes.now) mutex.0) (turns.refused_missing wait Refusal.NotOwner) }
+{
+    match mutexes.get(usize::from(mutex.0)) {
+        Some(shared) => unlock_fast(mutex, caller, wait, shared),
+        None => refused_missing(wait, Refusal::NotOwner),
+    }
+}
+
+// The exchange of an unlock, if the mutex is there.
+fn unlock_mutex_at(
+    mutexes: &[SharedWord],
+    caller: u16,
+    wait: Option<Waiting>,
+    mutex: MutexId,
+) -> Turn
+    ensures { result ≡ option_map_or (turns.unlock_mutex mutex caller wait) (slice_get (map shared_of mutexes.now) mutex.0) (turns.refused_missing wait Refusal.NotOwner) }
+{
+    match mutexes.get(usize::from(mutex.0)) {
+        Some(shared) => unlock_mutex(mutex, caller, wait, shared),
+        None => refused_missing(wait, Refusal::NotOwner),
+    }
+}
+
+// What is ahead of one that begins to lock a mutex, if it is there.
+fn begin_mutex_at(
+    crew: &Crew,
+    mutexes: &[SharedWord],
+    caller: u16,
+    wait: Option<Waiting>,
+    mutex: MutexId,
+    until: Option<u64>,
+) -> Ahead
+    ensures { result ≡ option_map_or (turns.begin_mutex (turns.stage_of crew.now caller) mutex until caller wait) (slice_get (map shared_of mutexes.now) mutex.0) (Ahead.Turns (turns.refused_missing wait Refusal.Unknown)) }
+{
+    match mutexes.get(usize::from(mutex.0)) {
+        Some(shared) => begin_mutex(stage_of(crew, caller), mutex, until, caller, wait, shared),
+        None => Ahead::Turns(refused_missing(wait, Refusal::Unknown)),
+    }
+}
+
+// What is ahead of one that begins a call.
+fn first_ahead(
     crew: &Crew,
     gates: &[SharedWord],
     mutexes: &[SharedWord],
     caller: u16,
+    wait: Option<Waiting>,
     call: WordCall,
-) -> Turn
-    ensures { result ≡ first_turn crew.now (map shared_of gates.now) (map shared_of mutexes.now) caller call }
+) -> Ahead
+    ensures { result ≡ first_ahead crew.now (map shared_of gates.now) (map shared_of mutexes.now) caller wait call }
 {
     match call {
-        WordCall::TryLockStax(stax) => match gates.get(usize::from(stax.0)) {
-            Some(gate) => try_stax(
-                limit_of(crew, stax),
-                stage_of(crew, caller),
-                stax,
-                caller,
-                gate,
-            ),
-            None => refuses(Refusal::Unknown),
-        },
-        WordCall::UnlockStax(stax) => match gates.get(usize::from(stax.0)) {
-            Some(gate) => unlock_stax(stax, caller, gate),
-            None => refuses(Refusal::NotOwner),
-        },
-        WordCall::ClaimStax(stax) => match gates.get(usize::from(stax.0)) {
-            Some(_) => ends(WordStep::AtGate(stax, GateStep::Claim), Answer::Done),
-            None => refuses(Refusal::Unknown),
-        },
-        WordCall::TryLockMutex(mutex) => match mutexes.get(usize::from(mutex.0)) {
-            Some(shared) => try_mutex(stage_of(crew, caller), mutex, caller, shared),
-            None => refuses(Refusal::Unknown),
-        },
-        WordCall::UnlockMutexFast(mutex) => match mutexes.get(usize::from(mutex.0)) {
-            Some(shared) => unlock_mutex(mutex, caller, shared),
-            None => refuses(Refusal::NotOwner),
-        },
+        WordCall::TryLockStax(stax) => Ahead::Turns(try_stax_at(crew, gates, caller, stax)),
+        WordCall::UnlockStax(stax) => Ahead::Turns(unlock_stax_at(gates, caller, stax)),
+        WordCall::ClaimStax(stax) => Ahead::Turns(claim_stax_at(gates, stax)),
+        WordCall::TryLockMutex(mutex) => {
+            Ahead::Turns(try_mutex_at(crew, mutexes, caller, wait, mutex))
+        }
+        WordCall::UnlockMutexFast(mutex) => {
+            Ahead::Turns(unlock_fast_at(mutexes, caller, wait, mutex))
+        }
+        WordCall::TryUnlockMutex(mutex) => {
+            Ahead::Turns(unlock_mutex_at(mutexes, caller, wait, mutex))
+        }
+        WordCall::BeginLockMutex(mutex, until) => {
+            begin_mutex_at(crew, mutexes, caller, wait, mutex, until)
+        }
+        WordCall::FinishLockMutex => finish_mutex(mutexes, wait),
+        WordCall::Kernel(place) => Ahead::Visits(Asked::Step(place)),
+        WordCall::Finish(keep) => {
+            let held = holds_some(gates, caller) || holds_some(mutexes, caller);
+            finish_wait(wait, keep, held)
+        }
     }
 }
 
-/// The next turn of a caller that stands here in this call, if it makes one.
-pub(crate) fn turn_at(
+/// What is ahead of a caller that stands here in this call, if anything is.
+pub(crate) fn ahead_at(
     crew: &Crew,
     gates: &[SharedWord],
     mutexes: &[SharedWord],
     caller: u16,
+    wait: Option<Waiting>,
     place: Place,
     call: Option<WordCall>,
-) -> Option<Turn>
-    ensures { result ≡ turn_at crew.now (map shared_of gates.now) (map shared_of mutexes.now) caller place call }
+) -> Option<Ahead>
+    ensures { result ≡ ahead_at crew.now (map shared_of gates.now) (map shared_of mutexes.now) caller wait place call }
 {
     match place {
-        Place::Begins => Some(first_turn(crew, gates, mutexes, caller, call?)),
+        Place::Begins => Some(first_ahead(crew, gates, mutexes, caller, wait, call?)),
         Place::Found(stax, old) => {
             let gate = gates.get(usize::from(stax.0))?;
-            Some(exchange_turn(
+            Some(Ahead::Turns(exchange_turn(
                 limit_of(crew, stax),
                 stage_of(crew, caller),
                 stax,
                 old,
                 gate,
-            ))
+            )))
         }
-        Place::Left(stax) => Some(ends(WordStep::AtGate(stax, GateStep::Unclaim), Answer::Wanted)),
+        Place::Left(stax) => Some(Ahead::Turns(ends(
+            WordStep::AtGate(stax, GateStep::Unclaim),
+            Answer::Wanted,
+        ))),
+        Place::Claimed(mutex) => Some(Ahead::Visits(Asked::Hand(mutex))),
     }
 }

@@ -33,6 +33,9 @@ fn mutex_word(step: MutexStep) -> &'static str
     match step {
         MutexStep::Try => "try",
         MutexStep::Unlock => "unlock",
+        MutexStep::Win | MutexStep::Mark => "visit",
+        MutexStep::Offer(_, _) | MutexStep::Free => "visit",
+        MutexStep::Accept | MutexStep::Forget => "visit",
     }
 }
 
@@ -47,11 +50,22 @@ fn step_word(step: Option<WordStep>) -> &'static str
     }
 }
 
+// The word of a turn.
+fn turn_word(turn: Turn) -> &'static str
+    ensures { result.now ≡ reports.turn_word turn }
+{
+    if turn.visit.is_some() {
+        "visit"
+    } else {
+        step_word(turn.step)
+    }
+}
+
 // Writes a turn of a caller.
 fn put_turn(text: &mut String, mark: &str, caller: u16, turn: Turn) -> Result<(), AllocError>
     ensures { OnOk result (string_bytes text.new ≡ string_bytes text.old ++ turn_text mark.now caller turn) }
 {
-    let word = step_word(turn.step);
+    let word = turn_word(turn);
     write!(text, "{mark}T{caller} {word}")
 }
 
@@ -63,15 +77,20 @@ fn mark_at(index: usize) -> &'static str
 }
 
 // The next turn of a caller, if there is one with this number.
-fn turn_of(crew: &Crew, moment: &Moment, caller: u16) -> Option<Turn>
+fn turn_of(
+    alloc: Global,
+    crew: &Crew,
+    moment: &Moment,
+    caller: u16,
+) -> Result<Option<Turn>, AllocError>
     requires { IsMoment crew.now moment.now }
-    ensures turn { result ≡ next_turn crew.now (seen_of moment.now) caller }
-    ensures within { IfSome result (λ turn. caller < length crew.now.callers.items) }
+    ensures turn { IfOk result (λ turn. turn ≡ next_turn crew.now (seen_of crew.now moment.now) caller) }
+    ensures within { IfOk result (λ turn. IfSome turn (λ turn. caller < length crew.now.callers.items)) }
 {
     if caller < crew.count() {
-        next_turn(crew, moment, caller)
+        next_turn(alloc, crew, moment, caller)
     } else {
-        None
+        Ok(None)
     }
 }
 
@@ -84,11 +103,11 @@ fn put_turns(
     order: &[u16],
 ) -> Result<(), AllocError>
     requires { IsMoment crew.now start }
-    ensures { OnOk result (string_bytes text.new ≡ string_bytes text.old ++ turns_text crew.now 0 (seen_of start) order.now) }
+    ensures { OnOk result (string_bytes text.new ≡ string_bytes text.old ++ turns_text crew.now 0 (seen_of crew.now start) order.now) }
 {
     let mut at = start;
     for (i, caller) in order.iter().enumerate() {
-        let Some(turn) = turn_of(crew, &at, *caller) else {
+        let Some(turn) = turn_of(alloc, crew, &at, *caller)? else {
             return Ok(());
         };
         put_turn(text, mark_at(i), *caller, turn)?;

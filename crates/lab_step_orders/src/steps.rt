@@ -1,6 +1,6 @@
 //! Atomic steps on words, and what a caller's next turn is.
 use crate::calls::Answer;
-use evl_base::{MutexId, StaxId};
+use evl_base::{MutexId, StaxId, ThreadId};
 
 /// An atomic step on the word of a stax.
 #[derive(Clone, Copy, Debug, PartialEq, Eq)]
@@ -14,11 +14,52 @@ pub enum GateStep {
     Unclaim,
 }
 
-/// An atomic step on the word of a mutex, each one exchange.
+/// What a caller does to the word of a mutex: one exchange, or what it does with the kernel in hand.
 #[derive(Clone, Copy, Debug, PartialEq, Eq)]
 pub enum MutexStep {
     Try,
     Unlock,
+    /// It claims a free mutex, and settles.
+    Win,
+    /// It claims one that another has.
+    Mark,
+    /// It offers the mutex to the next owner, and tells whether more threads wait.
+    Offer(u16, bool),
+    Free,
+    /// It finds the mutex offered to itself, and accepts it.
+    Accept,
+    /// It finds the mutex not offered to itself, and waits for it no more.
+    Forget,
+}
+
+/// What the kernel is called in a visit.
+#[derive(Clone, Copy, Debug, PartialEq, Eq)]
+pub enum Visit {
+    Release(MutexId),
+    Claim {
+        mutex: MutexId,
+        owner: ThreadId,
+        until: Option<u64>,
+    },
+    Finish,
+    /// The step of the crew with this place.
+    Step(usize),
+}
+
+/// What a turn does to its caller's wait.
+#[derive(Clone, Copy, Debug, PartialEq, Eq)]
+pub enum WaitChange {
+    Same,
+    Begins(Waiting),
+    Ends,
+}
+
+/// What a caller waits for.
+#[derive(Clone, Copy, Debug, PartialEq, Eq)]
+pub enum Waiting {
+    Mutex(MutexId),
+    /// An element of the kernel that is no mutex.
+    Element,
 }
 
 /// An atomic step on a word.
@@ -37,6 +78,8 @@ pub enum Place {
     Found(StaxId, u64),
     /// It left a stax as the last one in it, and found the claim mark.
     Left(StaxId),
+    /// It found its mutex claimed by others.
+    Claimed(MutexId),
 }
 
 /// What a turn comes to.
@@ -52,5 +95,31 @@ pub enum Then {
 #[derive(Clone, Copy, Debug, PartialEq, Eq)]
 pub struct Turn {
     pub step: Option<WordStep>,
+    /// What the kernel is called.
+    pub visit: Option<Visit>,
+    pub wait: WaitChange,
     pub then: Then,
+}
+
+/// What a visit is for.
+#[derive(Clone, Copy, Debug, PartialEq, Eq)]
+pub enum Asked {
+    /// A mutex that others claim is handed on.
+    Hand(MutexId),
+    /// A mutex with this word is claimed.
+    Begin(MutexId, Option<u64>, u64),
+    /// The wait for a mutex with this word is ended.
+    End(MutexId, u64),
+    /// The step of the crew with this place is made.
+    Step(usize),
+    /// Another wait is ended.
+    Finish,
+}
+
+/// What is ahead of a caller.
+#[derive(Clone, Copy, Debug, PartialEq, Eq)]
+pub enum Ahead {
+    Turns(Turn),
+    /// A turn that the kernel's answer decides.
+    Visits(Asked),
 }

@@ -3,11 +3,12 @@ ghost use Rattle.std.specs.Prelude.{◌≡◌, ◌++◌, [], IfOk, OnOk, length,
 ghost use Rattle.evl_words.specs.MutexBits.{number_in};
 ghost use Rattle.lab_step_orders.specs.Moments.{seen_of, shared_of};
 ghost use Rattle.lab_step_orders.specs.Outcomes.{mutexes_text, staxes_text, told_text};
-ghost use Rattle.lab_step_orders.specs.Told.{caller_line, has_calls, lines_below, mark_text, mutex_text, owner_text, stax_text};
+ghost use Rattle.lab_step_orders.specs.Told.{caller_line, has_calls, has_left, lines_below, mark_text, mutex_text, owner_text, stax_text, stuck_line, waits_text};
 
 use crate::crews::Crew;
 use crate::moments::Moment;
 use crate::shared::SharedWord;
+use crate::steps::Waiting;
 use crate::words::{count_in, mark_in, stage_in};
 use std::alloc::{AllocError, Global};
 
@@ -189,11 +190,76 @@ fn put_answers(text: &mut String, crew: &Crew, answers: &[String]) -> Result<(),
     put_lines(text, &Answered { crew, answers }, crew.callers.len())
 }
 
+// Whether a caller has calls left.
+fn has_left(crew: &Crew, caller: usize, made: usize) -> bool
+    ensures { result ≡ has_left crew.now caller made }
+{
+    match crew.callers.get(caller) {
+        Some(one) => made < one.calls.len(),
+        None => false,
+    }
+}
+
+// Writes for what a caller waits that is stuck.
+fn put_waits(text: &mut String, wait: Option<Waiting>) -> Result<(), AllocError>
+    ensures { OnOk result (string_bytes text.new ≡ string_bytes text.old ++ waits_text wait) }
+{
+    match wait {
+        Some(Waiting::Mutex(mutex)) => {
+            let number = mutex.0;
+            write!(text, " waits for mutex {number}")
+        }
+        Some(Waiting::Element) | None => text.push_str(" waits"),
+    }
+}
+
+// Lines of the callers that are stuck.
+#[derive(Drop)]
+struct Stuck<'a> {
+    crew: &'a Crew,
+    made: &'a [usize],
+    waits: &'a [Option<Waiting>],
+}
+
+impl<'a> Lines for Stuck<'a> {
+    ghost use Rattle.lab_step_orders.specs.Told.{stuck_line};
+
+    ghost line = { λ stuck k. stuck_line stuck.crew.now stuck.made.now stuck.waits.now k };
+
+    fn put(&self, text: &mut String, number: usize) -> Result<(), AllocError> {
+        let made = self.made.get(number).copied().unwrap_or(0);
+        if !has_left(self.crew, number, made) {
+            return Ok(());
+        }
+        write!(text, "stuck: T{number}")?;
+        put_waits(text, self.waits.get(number).copied().unwrap_or(None))?;
+        text.push_str("\n")
+    }
+}
+
+// Writes who is stuck.
+fn put_stuck(
+    text: &mut String,
+    crew: &Crew,
+    made: &[usize],
+    waits: &[Option<Waiting>],
+) -> Result<(), AllocError>
+    ensures { OnOk result (string_bytes text.new ≡ string_bytes text.old ++ lines_below (stuck_line crew.now made.now waits.now) (length crew.now.callers.items)) }
+{
+    put_lines(text, &Stuck { crew, made, waits }, crew.callers.len())
+}
+
 /// What is told of an end: what each caller was answered, and how each stax and each mutex stands.
 pub(crate) fn told_of(alloc: Global, crew: &Crew, moment: &Moment) -> Result<String, AllocError>
-    ensures { IfOk result (λ told. string_bytes told ≡ told_text crew.now (seen_of moment.now)) }
+    ensures { IfOk result (λ told. string_bytes told ≡ told_text crew.now (seen_of crew.now moment.now)) }
 {
     let mut text = String::new(alloc);
+    put_stuck(
+        &mut text,
+        crew,
+        moment.made.as_slice(),
+        moment.waits.as_slice(),
+    )?;
     put_answers(&mut text, crew, moment.answers.as_slice())?;
     put_staxes(&mut text, moment.gates.as_slice())?;
     put_mutexes(&mut text, moment.mutexes.as_slice())?;

@@ -2,13 +2,14 @@
 ghost use Rattle.std.specs.Prelude.{ℕ, ◌≡◌, ◌*◌, Bool, IfOk, is_some};
 ghost use Rattle.evl_words.specs.GateWord.{count_in, entered_word, left_in, mark_bit, mark_in, stage_bit, stage_in, word_refusal};
 ghost use Rattle.evl_words.specs.GateWorld as gate;
-ghost use Rattle.evl_words.specs.MutexWorld as mutex;
+ghost use Rattle.evl_words.specs.MutexBits.{offers_to};
+ghost use Rattle.lab_step_orders.specs.Visits.{owner_in};
 ghost use Rattle.lab_step_orders.specs.Moments.{shared_of};
-ghost use Rattle.lab_step_orders.specs.Words.{gate_after, gate_kind, gate_view, mutex_after, mutex_kind, mutex_view};
+ghost use Rattle.lab_step_orders.specs.Words.{along, gate_after, gate_kind, gate_view, mutex_after, mutex_kinds};
 
 use crate::shared::{SharedWord, holds, with_holder};
 use crate::steps::{GateStep, MutexStep};
-use evl_base::{Refusal, Stage};
+use evl_base::{Refusal, Stage, ThreadId};
 use evl_words::Left;
 use std::alloc::{AllocError, Global};
 
@@ -18,6 +19,9 @@ const COUNT_MASK: u64 = (1 << 16) - 1;
 const STAGE_BIT: u64 = 1 << 30;
 
 const CLAIM_MARK: u64 = 1 << 31;
+
+// An offer in a mutex's word; the owner's number stands in its bits 0 to 15.
+const OFFER_BIT: u64 = 1 << 30;
 
 /// How many hold a gate with this word.
 pub(crate) fn count_in(word: u64) -> u16
@@ -141,22 +145,40 @@ pub(crate) fn gate_after(
 
 // The word of a mutex after a step of a caller.
 fn mutex_word(word: u64, caller: u16, step: MutexStep) -> u64
-    ensures { (held : Bool) → result ≡ mutex.step_word word caller (mutex_view held) (mutex_kind step) }
+    ensures { (held : Bool) → result ≡ (along caller (mutex_kinds step) word held).0 }
 {
     let own = u64::from(caller) + 1;
     match step {
         MutexStep::Try => { if word == 0 { own } else { word } }
         MutexStep::Unlock => { if word == own { 0 } else { word } }
+        MutexStep::Win => own,
+        MutexStep::Mark => word | CLAIM_MARK,
+        MutexStep::Offer(next, more) => u64::from(next) + 1 + OFFER_BIT + mark_bits(more),
+        MutexStep::Free => 0,
+        MutexStep::Accept => word & !OFFER_BIT,
+        MutexStep::Forget => word,
     }
+}
+
+// Whether a caller owns a mutex after its claim: not if that won it.
+fn claimed_held(word: u64, caller: u16, held: bool) -> bool
+    ensures { result ≡ (along caller (mutex_kinds MutexStep.Mark) word held).1 }
+{
+    let _ = caller;
+    word != 0 && held
 }
 
 // Whether its caller owns the mutex then.
 fn mutex_held(word: u64, caller: u16, held: bool, step: MutexStep) -> bool
-    ensures { result ≡ mutex.owns (mutex.step_held word caller (mutex_view held) (mutex_kind step)).role }
+    ensures { result ≡ (along caller (mutex_kinds step) word held).1 }
 {
     match step {
         MutexStep::Try => word == 0 || held,
         MutexStep::Unlock => word != u64::from(caller) + 1 && held,
+        MutexStep::Win | MutexStep::Accept => true,
+        MutexStep::Mark => claimed_held(word, caller, held),
+        MutexStep::Forget => held,
+        MutexStep::Offer(_, _) | MutexStep::Free => false,
     }
 }
 
@@ -172,4 +194,22 @@ pub(crate) fn mutex_after(
     let word = mutex_word(mutex.word, caller, step);
     let held = mutex_held(mutex.word, caller, holds(mutex, caller), step);
     with_holder(alloc, mutex, word, caller, held)
+}
+
+/// What a claim on a mutex with this word finds: the thread that has it; none where it is free.
+pub(crate) fn owner_in(word: u64) -> Option<ThreadId>
+    ensures { result ≡ owner_in word }
+{
+    let number = word % 65_536;
+    if number == 0 {
+        return None;
+    }
+    Some(ThreadId((number - 1) as u16))
+}
+
+/// Whether a mutex with this word is offered to a thread.
+pub(crate) fn offers_to(word: u64, who: u16) -> bool
+    ensures { result ≡ offers_to word who }
+{
+    word & OFFER_BIT != 0 && word % 65_536 == u64::from(who) + 1
 }

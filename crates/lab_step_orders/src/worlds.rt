@@ -9,6 +9,7 @@ use std::alloc::{AllocError, Global};
 /// Callers whose steps are gone through.
 #[derive(Clone, Copy, Drop)]
 pub struct Stepping<'a> {
+    pub alloc: Global,
     pub crew: &'a Crew,
 }
 
@@ -23,7 +24,7 @@ impl<'a> World for Stepping<'a> {
 
     ghost machine = { λ stepping. machine stepping.crew.now };
 
-    ghost state = { λ stepping moment. seen_of moment };
+    ghost state = { λ stepping moment. seen_of stepping.crew.now moment };
 
     ghost fits = { λ stepping moment. IsMoment stepping.crew.now moment };
 
@@ -53,7 +54,7 @@ impl<'a> World for Stepping<'a> {
     }
 
     fn is_same(&self, one: &Moment, other: &Moment) -> bool {
-        are_same(one, other)
+        are_same(self.alloc, self.crew, one, other)
     }
 
     fn questions(&self) -> usize {

@@ -2,11 +2,17 @@
 use Rattle.std.specs.Prelude.{ℕ, ◌+◌, Bool, false, not, ◌&&◌, ◌||◌, List, [], ◌∷◌, codes, find, Option, string_bytes}
 use Rattle.std.specs.List.{list_any}
 use Rattle.std.specs.Str.{bytes_eq}
-use Rattle.lab_scenario_orders.specs.Asks.{caller_text}
+use Rattle.lab_scenario_orders.specs.Asks.{begins, caller_text}
 use Rattle.lab_scenario_orders.specs.declared.asks.Never.{Never}
 use Rattle.lab_step_orders.specs.declared.calls.WordCall.{WordCall}
-use Rattle.lab_step_orders.specs.declared.calls.WordCall.TheVariants.{TryLockStax, UnlockStax, ClaimStax, TryLockMutex, UnlockMutexFast}
+use Rattle.lab_step_orders.specs.declared.calls.WordCall.TheVariants.{TryLockStax, UnlockStax, ClaimStax, TryLockMutex, UnlockMutexFast, TryUnlockMutex, BeginLockMutex, FinishLockMutex, Kernel, Finish}
 use Rattle.lab_step_orders.specs.declared.crews.CrewCaller.{CrewCaller}
+
+-- the kernel's answers that are words, and its refusals
+abbrev pub kernel_answers : List (List ℕ)
+kernel_answers =
+    codes "done" ∷ codes "begun" ∷ codes "timed out" ∷ codes "Unknown" ∷ codes "Invalid" ∷ codes "Again" ∷ codes "Busy" ∷ codes "NotOwner"
+    ∷ codes "Deadlock" ∷ codes "Limit" ∷ codes "Range" ∷ codes "TooBig" ∷ codes "WrongStage" ∷ []
 
 abbrev pub answers_of : WordCall → List (List ℕ)
 answers_of (TryLockStax stax) = codes "pass" ∷ codes "Again" ∷ codes "Limit" ∷ codes "Raced" ∷ codes "Unknown" ∷ codes "Busy" ∷ []
@@ -14,9 +20,20 @@ answers_of (UnlockStax stax) = codes "done" ∷ codes "done, others want in" ∷
 answers_of (ClaimStax stax) = codes "done" ∷ codes "Unknown" ∷ []
 answers_of (TryLockMutex mutex) = codes "pass" ∷ codes "Busy" ∷ codes "Unknown" ∷ codes "WrongStage" ∷ codes "Deadlock" ∷ []
 answers_of (UnlockMutexFast mutex) = codes "done" ∷ codes "Busy" ∷ codes "NotOwner" ∷ []
+answers_of (TryUnlockMutex mutex) = codes "done" ∷ codes "Busy" ∷ codes "NotOwner" ∷ []
+answers_of (BeginLockMutex mutex until) = codes "pass" ∷ codes "begun" ∷ codes "Busy" ∷ codes "Unknown" ∷ codes "WrongStage" ∷ codes "Deadlock" ∷ []
+answers_of FinishLockMutex = codes "pass" ∷ codes "timed out" ∷ codes "Invalid" ∷ []
+answers_of (Kernel place) = kernel_answers
+answers_of (Finish keep) = kernel_answers
+
+-- what numbers may follow
+abbrev pub fronts_of : WordCall → List (List ℕ)
+fronts_of (Kernel place) = codes "count " ∷ codes "bits " ∷ codes "number " ∷ codes "thread " ∷ []
+fronts_of (Finish keep) = codes "bits " ∷ []
+fronts_of _ = []
 
 abbrev pub can_be : List ℕ → WordCall → Bool
-can_be answer call = list_any (bytes_eq answer) (answers_of call)
+can_be answer call = list_any (bytes_eq answer) (answers_of call) || list_any (λ front. begins front answer) (fronts_of call)
 
 -- one of these callers, numbered from k, is told so, and a call of its can be answered so
 abbrev pub can_have : List ℕ → List ℕ → ℕ → List CrewCaller → Bool

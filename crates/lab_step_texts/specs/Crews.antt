@@ -1,5 +1,5 @@
 -- The callers of a text, with their calls.
-use Rattle.std.specs.Prelude.{◌≡◌, ◌⊎◌, ℕ, Bool, true, false, List, [], length, Some, None, Ok, Err, min, slice_get, take}
+use Rattle.std.specs.Prelude.{◌≡◌, ◌⊎◌, ℕ, Bool, true, false, List, [], length, Some, None, Ok, Err, map, min, slice_get, take}
 use Rattle.std.specs.List.{list_all}
 use Rattle.std.specs.Str.Lines.{lines}
 use Rattle.evl_base.specs.declared.mutex_kind.MutexKind.{MutexKind}
@@ -10,7 +10,7 @@ use Rattle.lab_callers_text.specs.declared.reading.CallersText.{CallersText}
 use Rattle.lab_scenario_orders.specs.Splits.{is_mixed, scenario_part, setup_count}
 use Rattle.lab_step_orders.specs.declared.crews.Crew.{Crew}
 use Rattle.lab_step_orders.specs.declared.crews.CrewCaller.{CrewCaller}
-use Rattle.lab_step_texts.specs.Calls.{calls_behind, own_calls, stage_in, unattached}
+use Rattle.lab_step_texts.specs.Calls.{attaches, calls_behind, kernel_step, own_calls, stage_in, unattached}
 use Rattle.lab_step_texts.specs.declared.calls.CallerCall.{CallerCall}
 use Rattle.lab_step_texts.specs.declared.faults.StepFault.TheVariants.{Setup}
 use Rattle.lab_step_texts.specs.declared.faults.StepsFault.{StepsFault}
@@ -32,8 +32,10 @@ pub record IsCrewOf (read : CallersText) (count : ℕ) (crew : Crew) : Type 0 wh
   pub attached : unattached read.board.threads 1 [] (take count read.steps.items) ≡ None
   pub calls : List CallerCall
   pub are : calls_behind read.board.threads count read.steps.items ≡ Ok calls
-  pub limits : crew.limits.items ≡ read.board.staxes.items
-  pub mutexes : crew.mutexes ≡ length read.board.mutexes.items
+  pub board : crew.board ≡ read.board
+  pub limit : crew.limit ≡ read.limit
+  pub setup : crew.setup.items ≡ attaches (take count read.steps.items)
+  pub steps : crew.steps.items ≡ map kernel_step read.steps.items
   pub each : length crew.callers.items ≡ read.board.threads
   pub callers : (k : ℕ) (caller : CrewCaller) → slice_get crew.callers.items k ≡ Some caller → caller_of (take count read.steps.items) calls k caller
 

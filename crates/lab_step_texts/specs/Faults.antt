@@ -5,6 +5,6 @@ use Rattle.lab_step_texts.specs.declared.faults.StepFault.TheVariants.{Who, Setu
 
 abbrev pub step_words : StepFault → List ℕ
 step_words Who = codes "who: there is no such thread"
-step_words Setup = codes "what is set up is attach, once a thread, with no quota group"
-step_words Core = codes "it goes through the core's lock; steps are known of try_lock_stax, unlock_stax, try_lock_mutex and unlock_mutex_fast"
+step_words Setup = codes "what is set up is attach, once a thread, as fifo or rr"
+step_words Core = codes "it keeps the core, attaches or moves its caller, names a mutex's owner, or answers bytes; any other call is known"
 step_words Pass = codes "pass: no step of its caller before it has this name for such a lock"

@@ -2,7 +2,8 @@
 ghost use Rattle.std.specs.Prelude.{◌≡◌, IfOk, map, not, option_map, string_bytes};
 ghost use Rattle.std.specs.List.{list_any};
 ghost use Rattle.std.specs.Str.{bytes_eq};
-ghost use Rattle.lab_scenario_orders.specs.Asks.{caller_text};
+ghost use Rattle.lab_scenario_orders.specs.Asks as asks;
+ghost use Rattle.lab_scenario_orders.specs.Asks.{caller_text, text_behind};
 ghost use Rattle.lab_step_texts.specs.Answers as answers;
 ghost use Rattle.lab_step_texts.specs.Answers.{can_be, can_have, first_impossible, is_impossible};
 
@@ -20,7 +21,66 @@ fn answers_of(call: WordCall) -> &'static [&'static str]
         WordCall::ClaimStax(_) => &["done", "Unknown"],
         WordCall::TryLockMutex(_) => &["pass", "Busy", "Unknown", "WrongStage", "Deadlock"],
         WordCall::UnlockMutexFast(_) => &["done", "Busy", "NotOwner"],
+        WordCall::TryUnlockMutex(_) => &["done", "Busy", "NotOwner"],
+        WordCall::BeginLockMutex(_, _) => {
+            &["pass", "begun", "Busy", "Unknown", "WrongStage", "Deadlock"]
+        }
+        WordCall::FinishLockMutex => &["pass", "timed out", "Invalid"],
+        WordCall::Kernel(_) | WordCall::Finish(_) => {
+            &[
+                "done",
+                "begun",
+                "timed out",
+                "Unknown",
+                "Invalid",
+                "Again",
+                "Busy",
+                "NotOwner",
+                "Deadlock",
+                "Limit",
+                "Range",
+                "TooBig",
+                "WrongStage",
+            ]
+        }
     }
+}
+
+// What numbers may follow.
+fn fronts_of(call: WordCall) -> &'static [&'static str]
+    ensures { map (λ word. word.now) result.now ≡ answers.fronts_of call }
+{
+    match call {
+        WordCall::Kernel(_) => &["count ", "bits ", "number ", "thread "],
+        WordCall::Finish(_) => &["bits "],
+        _ => &[],
+    }
+}
+
+// What stands behind the first text in the second, if that begins with it.
+fn behind<'a>(front: &[u8], text: &'a [u8]) -> Option<&'a [u8]>
+    ensures { option_map (λ rest. rest.now) result ≡ text_behind front.now text.now }
+{
+    text.strip_prefix(front)
+}
+
+// Whether the second text begins with the first.
+fn begins(front: &[u8], text: &[u8]) -> bool
+    ensures { result ≡ asks.begins front.now text.now }
+{
+    behind(front, text).is_some()
+}
+
+// Whether a text begins with one of these.
+fn begins_with(fronts: &[&str], text: &str) -> bool
+    ensures { result ≡ list_any (λ front. asks.begins front text.now) (map (λ word. word.now) fronts.now) }
+{
+    for front in fronts {
+        if begins(front.as_bytes(), text.as_bytes()) {
+            return true;
+        }
+    }
+    false
 }
 
 // Whether a text is among these.
@@ -39,7 +99,7 @@ fn is_among(words: &[&str], text: &str) -> bool
 fn can_be(answer: &str, call: WordCall) -> bool
     ensures { result ≡ can_be answer.now call }
 {
-    is_among(answers_of(call), answer)
+    is_among(answers_of(call), answer) || begins_with(fronts_of(call), answer)
 }
 
 // Whether one of these calls can.

@@ -6,7 +6,7 @@ ghost use Rattle.lab_step_texts.specs.Calls.{calls_behind, lock_at, lock_named};
 ghost use Rattle.lab_step_texts.specs.declared.faults.StepFault.{StepFault};
 
 use crate::faults::StepFault;
-use evl_base::{MutexId, StaxId, ThreadId};
+use evl_base::{Call, MutexId, StaxId, ThreadId};
 use lab_callers_text::{Act, CallersStep};
 use lab_step_orders::WordCall;
 use std::alloc::{AllocError, Global};
@@ -48,6 +48,9 @@ fn lock_in(name: &str, act: &Act) -> Option<Lock>
     match act {
         Act::TryLockStax(stax, as_name) => lock_if(as_name.as_str(), name, Lock::Stax(*stax)),
         Act::TryLockMutex(mutex, as_name) => lock_if(as_name.as_str(), name, Lock::Mutex(*mutex)),
+        Act::BeginLockMutex(mutex, _, as_name) => {
+            lock_if(as_name.as_str(), name, Lock::Mutex(*mutex))
+        }
         _ => None,
     }
 }
@@ -84,13 +87,57 @@ fn stax_call(lock: Option<Lock>) -> Result<WordCall, StepFault>
     }
 }
 
-// The call that unlocks a mutex.
-fn mutex_call(lock: Option<Lock>) -> Result<WordCall, StepFault>
-    ensures { result ≡ texts.mutex_call lock }
+// The call that unlocks a mutex by one exchange.
+fn fast_call(lock: Option<Lock>) -> Result<WordCall, StepFault>
+    ensures { result ≡ texts.fast_call lock }
 {
     match lock {
         Some(Lock::Mutex(mutex)) => Ok(WordCall::UnlockMutexFast(mutex)),
         _ => Err(StepFault::Pass),
+    }
+}
+
+// The call that unlocks a mutex, and visits the kernel where others claim it.
+fn unlock_call(lock: Option<Lock>) -> Result<WordCall, StepFault>
+    ensures { result ≡ texts.unlock_call lock }
+{
+    match lock {
+        Some(Lock::Mutex(mutex)) => Ok(WordCall::TryUnlockMutex(mutex)),
+        _ => Err(StepFault::Pass),
+    }
+}
+
+// Whether callers may make a call of the kernel: it moves no thread to another stage, is of no mutex, and answers no bytes.
+fn is_plain_call(call: &Call) -> bool
+    ensures { result ≡ texts.is_plain_call call.now }
+{
+    match call {
+        Call::Attach { .. }
+        | Call::Detach
+        | Call::SetPolicy { .. }
+        | Call::SetStage { .. }
+        | Call::Read { .. }
+        | Call::BeginRead { .. }
+        | Call::Claim { .. }
+        | Call::Release { .. }
+        | Call::Raise { .. } => false,
+        _ => true,
+    }
+}
+
+// The call that a call of the kernel is, which stands at this place.
+fn kernel_call(call: &Call, place: usize) -> Result<WordCall, StepFault>
+    ensures { result ≡ texts.kernel_call call.now place }
+{
+    match call {
+        Call::Finish { keep } => Ok(WordCall::Finish(*keep)),
+        _ => {
+            if is_plain_call(call) {
+                Ok(WordCall::Kernel(place))
+            } else {
+                Err(StepFault::Core)
+            }
+        }
     }
 }
 
@@ -102,8 +149,12 @@ fn call_in(before: &[CallersStep], who: ThreadId, act: &Act) -> Result<WordCall,
         Act::TryLockStax(stax, _) => Ok(WordCall::TryLockStax(*stax)),
         Act::UnlockStax(pass) => stax_call(lock_named(who, pass.as_str(), before)),
         Act::TryLockMutex(mutex, _) => Ok(WordCall::TryLockMutex(*mutex)),
-        Act::UnlockMutexFast(pass) => mutex_call(lock_named(who, pass.as_str(), before)),
-        _ => Err(StepFault::Core),
+        Act::UnlockMutexFast(pass) => fast_call(lock_named(who, pass.as_str(), before)),
+        Act::TryUnlockMutex(pass) => unlock_call(lock_named(who, pass.as_str(), before)),
+        Act::BeginLockMutex(mutex, until, _) => Ok(WordCall::BeginLockMutex(*mutex, *until)),
+        Act::FinishLockMutex(_) => Ok(WordCall::FinishLockMutex),
+        Act::Call(call) => kernel_call(call, before.len()),
+        Act::Take | Act::Give => Err(StepFault::Core),
     }
 }
 

@@ -1,16 +1,16 @@
 //! The callers of a text that was read, with their calls.
-ghost use Rattle.std.specs.Prelude.{ℕ, ◌≡◌, ◌≤◌, [], IfErr, IfOk, Some, find, length, option_map, slice_get};
+ghost use Rattle.std.specs.Prelude.{ℕ, ◌≡◌, ◌≤◌, [], IfErr, IfOk, Some, find, length, map, option_map, slice_get, take};
 ghost use Rattle.std.specs.List.{list_all, list_any};
 ghost use Rattle.lab_step_texts.specs.Calls as texts;
-ghost use Rattle.lab_step_texts.specs.Calls.{is_of, own_calls, stage_in, unattached};
+ghost use Rattle.lab_step_texts.specs.Calls.{attaches, is_of, own_calls, stage_in, unattached};
 ghost use Rattle.lab_step_texts.specs.Crews as crews;
 ghost use Rattle.lab_step_texts.specs.Crews.{IsCrewOf, IsKept, caller_of};
 ghost use Rattle.lab_step_orders.specs.declared.crews.CrewCaller.{CrewCaller};
 
 use crate::calls::{CallerCall, CallsFault, calls_of};
 use crate::faults::{StepFault, StepsFault};
-use evl_base::{Board, Call, MutexKind, Policy, Stage, ThreadId};
-use evl_scenario::Fault;
+use evl_base::{Call, MutexKind, Policy, Stage, ThreadId};
+use evl_scenario::{Fault, Step};
 use lab_callers_text::{Act, CallersStep, CallersText};
 use lab_step_orders::{Crew, CrewCaller, WordCall};
 use std::alloc::{AllocError, Global};
@@ -32,13 +32,13 @@ fn are_plain(kinds: &[MutexKind]) -> bool
     kinds.iter().all(|kind| is_plain(*kind))
 }
 
-// Whether a policy is of a quota group.
-fn has_group(policy: Policy) -> bool
-    ensures { result ≡ texts.has_group policy }
+// Whether a policy is neither of a quota group nor weak.
+fn is_steady(policy: Policy) -> bool
+    ensures { result ≡ texts.is_steady policy }
 {
     match policy {
-        Policy::Quota { .. } => true,
-        Policy::Fifo(_) | Policy::Rr { .. } | Policy::Weak(_) => false,
+        Policy::Quota { .. } | Policy::Weak(_) => false,
+        Policy::Fifo(_) | Policy::Rr { .. } => true,
     }
 }
 
@@ -48,10 +48,10 @@ fn stage_set(act: &Act) -> Option<Stage>
 {
     match act {
         Act::Call(Call::Attach { policy, stage }) => {
-            if has_group(*policy) {
-                None
-            } else {
+            if is_steady(*policy) {
                 Some(*stage)
+            } else {
+                None
             }
         }
         _ => None,
@@ -146,63 +146,98 @@ fn callers_of(
     Ok(all)
 }
 
-// The limits of the staxes of a board.
-fn limits_of(alloc: Global, board: &Board) -> Result<Vec<u16>, AllocError>
-    ensures { IfOk result (λ limits. limits.items ≡ board.now.staxes.items) }
+// A step as a call of the kernel; one that is no call of it as a question that changes nothing.
+fn kernel_step(step: CallersStep) -> Step
+    ensures { result ≡ texts.kernel_step step }
 {
-    let mut limits = Vec::new(alloc);
-    limits.extend_from_slice(board.staxes.as_slice())?;
-    Ok(limits)
+    let CallersStep { who, act } = step;
+    match act {
+        Act::Call(call) => Step { who, call },
+        _ => Step {
+            who,
+            call: Call::Now,
+        },
+    }
 }
 
-// Callers over a board's staxes and mutexes.
-fn crew_over(board: &Board, limits: Vec<u16>, callers: Vec<CrewCaller>) -> Result<Crew, Fault>
-    ensures limits { IfOk result (λ crew. crew.limits ≡ limits) }
-    ensures mutexes { IfOk result (λ crew. crew.mutexes ≡ length board.now.mutexes.items) }
-    ensures callers { IfOk result (λ crew. crew.callers ≡ callers) }
+// All steps as calls of the kernel, at their places.
+fn steps_of(alloc: Global, steps: Vec<CallersStep>) -> Result<Vec<Step>, AllocError>
+    ensures { IfOk result (λ all. all.items ≡ map texts.kernel_step steps.items) }
 {
-    let Ok(mutexes) = u16::try_from(board.mutexes.len()) else {
-        return Err(Fault::Board);
-    };
-    match Crew::new(limits, mutexes, callers) {
-        Ok(crew) => Ok(crew),
-        Err(_) => Err(Fault::Board),
+    let mut all = Vec::new(alloc);
+    for step in steps {
+        all.push(kernel_step(step))?;
     }
+    Ok(all)
+}
+
+// The steps that attach threads.
+fn setup_of(alloc: Global, steps: &[CallersStep]) -> Result<Vec<Step>, AllocError>
+    ensures { IfOk result (λ all. all.items ≡ attaches steps.now) }
+{
+    let mut all = Vec::new(alloc);
+    for step in steps {
+        if let Act::Call(Call::Attach { policy, stage }) = &step.act {
+            let call = Call::Attach {
+                policy: *policy,
+                stage: *stage,
+            };
+            all.push(Step {
+                who: step.who,
+                call,
+            })?;
+        }
+    }
+    Ok(all)
 }
 
 // The callers with these calls.
 fn crew_with(
     alloc: Global,
-    board: &Board,
-    setup: &[CallersStep],
+    read: CallersText,
+    count: usize,
     calls: &[CallerCall],
 ) -> Result<Crew, Fault>
-    ensures limits { IfOk result (λ crew. crew.limits.items ≡ board.now.staxes.items) }
-    ensures mutexes { IfOk result (λ crew. crew.mutexes ≡ length board.now.mutexes.items) }
-    ensures each { IfOk result (λ crew. length crew.callers.items ≡ board.now.threads) }
-    ensures callers { IfOk result (λ crew. (k : ℕ) (caller : CrewCaller) → slice_get crew.callers.items k ≡ Some caller → caller_of setup.now calls.now k caller) }
+    requires { count ≤ length read.steps.items }
+    ensures board { IfOk result (λ crew. crew.board ≡ read.board) }
+    ensures limit { IfOk result (λ crew. crew.limit ≡ read.limit) }
+    ensures setup { IfOk result (λ crew. crew.setup.items ≡ attaches (take count read.steps.items)) }
+    ensures steps { IfOk result (λ crew. crew.steps.items ≡ map texts.kernel_step read.steps.items) }
+    ensures each { IfOk result (λ crew. length crew.callers.items ≡ read.board.threads) }
+    ensures callers { IfOk result (λ crew. (k : ℕ) (caller : CrewCaller) → slice_get crew.callers.items k ≡ Some caller → caller_of (take count read.steps.items) calls.now k caller) }
 {
-    let Ok(limits) = limits_of(alloc, board) else {
+    let CallersText {
+        board,
+        limit,
+        steps,
+    } = read;
+    let first = &steps.as_slice()[..count];
+    let Ok(setup) = setup_of(alloc, first) else {
         return Err(Fault::Memory);
     };
-    let Ok(callers) = callers_of(alloc, board.threads, setup, calls) else {
+    let Ok(callers) = callers_of(alloc, board.threads, first, calls) else {
         return Err(Fault::Memory);
     };
-    crew_over(board, limits, callers)
+    let Ok(all) = steps_of(alloc, steps) else {
+        return Err(Fault::Memory);
+    };
+    match Crew::new(board, limit, setup, all, callers) {
+        Ok(crew) => Ok(crew),
+        Err(_) => Err(Fault::Board),
+    }
 }
 
 /// The callers of a text that was read, of which so many steps are set up.
-pub(crate) fn crew_of(alloc: Global, read: &CallersText, count: usize) -> Result<Crew, StepsFault>
-    requires { count ≤ length read.now.steps.items }
-    ensures crew { IfOk result (IsCrewOf read.now count) }
-    ensures kept { IfErr result (IsKept read.now count) }
+pub(crate) fn crew_of(alloc: Global, read: CallersText, count: usize) -> Result<Crew, StepsFault>
+    requires { count ≤ length read.steps.items }
+    ensures crew { IfOk result (IsCrewOf read count) }
+    ensures kept { IfErr result (IsKept read count) }
 {
     if !are_plain(read.board.mutexes.as_slice()) {
         return Err(StepsFault::Mutex);
     }
     let steps = read.steps.as_slice();
-    let setup = &steps[..count];
-    if let Some(number) = unattached(read.board.threads, setup) {
+    if let Some(number) = unattached(read.board.threads, &steps[..count]) {
         return Err(StepsFault::Step(number, StepFault::Setup));
     }
     let calls = match calls_of(alloc, read.board.threads, count, steps) {
@@ -210,7 +245,7 @@ pub(crate) fn crew_of(alloc: Global, read: &CallersText, count: usize) -> Result
         Err(CallsFault::Step(number, fault)) => return Err(StepsFault::Step(number, fault)),
         Err(CallsFault::Memory) => return Err(StepsFault::Text(Fault::Memory)),
     };
-    match crew_with(alloc, &read.board, setup, calls.as_slice()) {
+    match crew_with(alloc, read, count, calls.as_slice()) {
         Ok(crew) => Ok(crew),
         Err(fault) => Err(StepsFault::Text(fault)),
     }

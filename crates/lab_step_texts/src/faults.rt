@@ -9,9 +9,9 @@ use evl_scenario::Fault;
 pub enum StepFault {
     /// The board has no such thread.
     Who,
-    /// It is set up, and is no `attach`, or one with a quota group, or its thread is attached by a step before it.
+    /// It is set up, and is no `attach`, or one as quota or weak, or its thread is attached by a step before it.
     Setup,
-    /// It goes through the core's lock.
+    /// It is a call that can't be gone through.
     Core,
     /// It unlocks by a name that its caller has for no such lock.
     Pass,
@@ -24,9 +24,9 @@ impl StepFault {
     {
         match self {
             StepFault::Who => "who: there is no such thread",
-            StepFault::Setup => { "what is set up is attach, once a thread, with no quota group" }
+            StepFault::Setup => { "what is set up is attach, once a thread, as fifo or rr" }
             StepFault::Core => {
-                "it goes through the core's lock; steps are known of try_lock_stax, unlock_stax, try_lock_mutex and unlock_mutex_fast"
+                "it keeps the core, attaches or moves its caller, names a mutex's owner, or answers bytes; any other call is known"
             }
             StepFault::Pass =>
                 "pass: no step of its caller before it has this name for such a lock",

@@ -46,7 +46,7 @@ fn read_split(alloc: Global, split: &Split) -> Result<Crew, StepsFault>
     };
     let steps = read.steps.as_slice();
     let count = split.setup.min(steps.len());
-    crew_of(alloc, &read, count)
+    crew_of(alloc, read, count)
 }
 
 /// The callers of a text, with their calls on words: a text of callers, in which `[[setup]]` stands for a step that comes

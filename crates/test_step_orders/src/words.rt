@@ -1,5 +1,7 @@
 //! Orders of atomic steps on words.
-use evl_base::{MutexId, Refusal, Stage, StaxId};
+use arrayvec::ArrayVec;
+use evl_base::{Board, Call, MutexId, MutexKind, Policy, Refusal, Stage, StaxId, ThreadId};
+use evl_scenario::Step;
 use lab_step_orders::{
     Crew, CrewCaller, StepOutcomes, WordCall, step_outcomes_of, write_step_report,
 };
@@ -32,15 +34,37 @@ fn callers_of(alloc: Global, rows: &[Row]) -> Result<Vec<CrewCaller>, AllocError
     Ok(callers)
 }
 
+// A board with a stax of this limit, and one or two plain mutexes; an array has room for more.
+fn board_of(limit: u16, two: bool, threads: u16) -> Board {
+    let mut staxes = ArrayVec::new();
+    drop(staxes.try_push(limit));
+    let mut mutexes = ArrayVec::new();
+    drop(mutexes.try_push(MutexKind::Normal));
+    if two {
+        drop(mutexes.try_push(MutexKind::Normal));
+    }
+    Board {
+        threads,
+        sems: ArrayVec::new(),
+        flags: ArrayVec::new(),
+        xbufs: ArrayVec::new(),
+        mutexes,
+        groups: ArrayVec::new(),
+        staxes,
+    }
+}
+
 fn crew_of(alloc: Global, limit: u16, rows: &[Row]) -> Result<Crew, Refusal> {
     let Ok(callers) = callers_of(alloc, rows) else {
         return Err(Refusal::NoMemory);
     };
-    let mut limits = Vec::new(alloc);
-    let Ok(()) = limits.push(limit) else {
-        return Err(Refusal::NoMemory);
-    };
-    Crew::new(limits, 1, callers)
+    Crew::new(
+        board_of(limit, false, 3),
+        1000,
+        Vec::new(alloc),
+        Vec::new(alloc),
+        callers,
+    )
 }
 
 // How many orders there are, how many outcomes, how many moments, and how many orders have such an answer.
@@ -229,4 +253,156 @@ fn limits_are_those_of_a_board(rt: HostRuntime) {
     assert!(rt; is_refused(rt.alloc(), 0));
     assert!(rt; !is_refused(rt.alloc(), 1000));
     assert!(rt; is_refused(rt.alloc(), 1001));
+}
+
+const M0: MutexId = MutexId(0);
+
+const M1: MutexId = MutexId(1);
+
+// Threads with these ranks, out-of-band, and calls.
+fn attached(alloc: Global, ranks: &[u8]) -> Result<Vec<Step>, AllocError> {
+    let mut steps = Vec::new(alloc);
+    let mut who: u16 = 0;
+    for rank in ranks {
+        steps.push(Step {
+            who: ThreadId(who),
+            call: Call::Attach {
+                policy: Policy::Fifo(*rank),
+                stage: Stage::Oob,
+            },
+        })?;
+        who = who.saturating_add(1);
+    }
+    Ok(steps)
+}
+
+// A step at place 0 that lets time pass.
+fn ticks(alloc: Global) -> Result<Vec<Step>, AllocError> {
+    let mut steps = Vec::new(alloc);
+    steps.push(Step {
+        who: ThreadId(3),
+        call: Call::Tick { delta: 10 },
+    })?;
+    Ok(steps)
+}
+
+fn crew_with(alloc: Global, ranks: &[u8], rows: &[Row]) -> Option<Crew> {
+    let Ok(callers) = callers_of(alloc, rows) else {
+        return None;
+    };
+    let Ok(setup) = attached(alloc, ranks) else {
+        return None;
+    };
+    let Ok(steps) = ticks(alloc) else {
+        return None;
+    };
+    let board = board_of(1, true, 4);
+    Crew::new(board, 1000, setup, steps, callers).ok()
+}
+
+fn counts_with(alloc: Global, ranks: &[u8], rows: &[Row], answer: &str) -> Option<Counts> {
+    let Some(crew) = crew_with(alloc, ranks, rows) else {
+        return None;
+    };
+    match step_outcomes_of(alloc, &crew, 100_000) {
+        Ok(found) => Some(counted(&found, answer)),
+        Err(_) => None,
+    }
+}
+
+fn wanted(orders: u128, outcomes: usize, moments: usize, with_answer: u128) -> Option<Counts> {
+    Some(Counts {
+        orders,
+        outcomes,
+        moments,
+        with_answer,
+    })
+}
+
+const LOCKING: &[WordCall] = &[
+    WordCall::BeginLockMutex(M0, None),
+    WordCall::FinishLockMutex,
+    WordCall::TryUnlockMutex(M0),
+];
+
+#[test]
+fn mutex_2(rt: HostRuntime) {
+    let rows: [Row; 2] = [(Stage::Oob, LOCKING), (Stage::Oob, LOCKING)];
+    assert!(rt; counts_with(rt.alloc(), &[10, 10], &rows, "stuck") == wanted(6, 3, 24, 0));
+}
+
+#[test]
+fn mutex_3(rt: HostRuntime) {
+    let rows: [Row; 3] = [
+        (Stage::Oob, LOCKING),
+        (Stage::Oob, LOCKING),
+        (Stage::Oob, LOCKING),
+    ];
+    assert!(rt; counts_with(rt.alloc(), &[10, 20, 30], &rows, "stuck") == wanted(84, 7, 152, 0));
+}
+
+const TWICE: &[WordCall] = &[
+    WordCall::BeginLockMutex(M0, None),
+    WordCall::FinishLockMutex,
+    WordCall::TryUnlockMutex(M0),
+    WordCall::BeginLockMutex(M0, None),
+    WordCall::FinishLockMutex,
+    WordCall::TryUnlockMutex(M0),
+];
+
+#[test]
+fn mutex_3_twice(rt: HostRuntime) {
+    let rows: [Row; 3] = [
+        (Stage::Oob, TWICE),
+        (Stage::Oob, TWICE),
+        (Stage::Oob, TWICE),
+    ];
+    assert!(rt;
+        counts_with(rt.alloc(), &[10, 20, 30], &rows, "stuck") == wanted(35_196, 56, 4155, 0)
+    );
+}
+
+const FIRST: &[WordCall] = &[
+    WordCall::BeginLockMutex(M0, None),
+    WordCall::FinishLockMutex,
+    WordCall::BeginLockMutex(M1, None),
+    WordCall::FinishLockMutex,
+    WordCall::TryUnlockMutex(M1),
+    WordCall::TryUnlockMutex(M0),
+];
+
+const SECOND: &[WordCall] = &[
+    WordCall::BeginLockMutex(M1, None),
+    WordCall::FinishLockMutex,
+    WordCall::BeginLockMutex(M0, None),
+    WordCall::FinishLockMutex,
+    WordCall::TryUnlockMutex(M0),
+    WordCall::TryUnlockMutex(M1),
+];
+
+#[test]
+fn two_mutexes(rt: HostRuntime) {
+    let rows: [Row; 2] = [(Stage::Oob, FIRST), (Stage::Oob, SECOND)];
+    assert!(rt; counts_with(rt.alloc(), &[10, 10], &rows, "stuck") == wanted(38, 9, 100, 0));
+}
+
+#[test]
+fn deadline(rt: HostRuntime) {
+    let rows: [Row; 4] = [
+        (
+            Stage::Oob,
+            &[WordCall::TryLockMutex(M0), WordCall::TryUnlockMutex(M0)],
+        ),
+        (
+            Stage::Oob,
+            &[
+                WordCall::BeginLockMutex(M0, Some(10)),
+                WordCall::FinishLockMutex,
+                WordCall::TryUnlockMutex(M0),
+            ],
+        ),
+        (Stage::Oob, &[]),
+        (Stage::Inband, &[WordCall::Kernel(0)]),
+    ];
+    assert!(rt; counts_with(rt.alloc(), &[10, 10], &rows, "stuck") == wanted(66, 4, 49, 0));
 }

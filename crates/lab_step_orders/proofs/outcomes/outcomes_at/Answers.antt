@@ -15,9 +15,9 @@ loop-end-preserved c =
     let split = c.in-Some.ensures.steps.0 in
     record {
       distinct = c.in-Ok.ensures.distinct;
-      sums = λ f. weight_on crew start seen_of rest others end split (λ (s : Seen). f (told_text crew s)) _ _ _ (c.in-Ok.ensures.sums f) (c.loop-end.invariant.sums f);
-      led = led_on crew start seen_of rest others end split c.loop-end.invariant.led;
-      over = over_on crew start seen_of rest others end split c.loop-end.invariant.over;
+      sums = λ f. weight_on crew start (seen_of crew) rest others end split (λ (s : Seen). f (told_text crew s)) _ _ _ (c.in-Ok.ensures.sums f) (c.loop-end.invariant.sums f);
+      led = led_on crew start (seen_of crew) rest others end split c.loop-end.invariant.led;
+      over = over_on crew start (seen_of crew) rest others end split c.loop-end.invariant.over;
       behind = risen_on c.loop-end.all.items rest others end split c.loop-end.invariant.behind c.put_end.new.all.items c.in-Ok.ensures.rise;
-      lead = c.in-Ok.ensures.lead start c.loop-end.invariant.lead (end_leads crew start seen_of rest others end split c.loop-end.invariant.led c.loop-end.invariant.over);
+      lead = c.in-Ok.ensures.lead start c.loop-end.invariant.lead (end_leads crew start (seen_of crew) rest others end split c.loop-end.invariant.led c.loop-end.invariant.over);
     }

@@ -12,9 +12,9 @@ abbrev pub invariant-loop-end : goal.invariant-loop-end
 invariant-loop-end l =
     record {
       distinct : AreDistinct l.all.items;
-      sums : (f : List ℕ → ℕ) → told_weight f l.all.items + weight seen_of (λ s. f (told_text l.crew s)) l.end-iterator.rest.items ≡ weight seen_of (λ s. f (told_text l.crew s)) l.fn.ends.items;
-      led : AreLed (machine l.crew) seen_of (first_seen l.crew) l.end-iterator.rest.items;
-      over : AreOver (machine l.crew) seen_of l.end-iterator.rest.items;
+      sums : (f : List ℕ → ℕ) → told_weight f l.all.items + weight (seen_of l.crew) (λ s. f (told_text l.crew s)) l.end-iterator.rest.items ≡ weight (seen_of l.crew) (λ s. f (told_text l.crew s)) l.fn.ends.items;
+      led : AreLed (machine l.crew) (seen_of l.crew) (first_seen l.crew) l.end-iterator.rest.items;
+      over : AreOver (machine l.crew) (seen_of l.crew) l.end-iterator.rest.items;
       behind : AreBehind l.all.items l.end-iterator.rest.items;
       lead : LeadThere l.crew (first_seen l.crew) l.all.items;
     }

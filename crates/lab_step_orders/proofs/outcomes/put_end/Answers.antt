@@ -8,7 +8,7 @@ use Rattle.lab_step_orders.proofs.outcomes.put_end.Goals as goal
 pub returns-in-Ok-add_tally-clause-lead : goal.returns-in-Ok-add_tally-clause-lead
 returns-in-Ok-add_tally-clause-lead c = λ s old one.
     let crew = c.args.crew.now in
-    let told = told_text crew (seen_of c.args.end.at) in
+    let told = told_text crew (seen_of crew c.args.end.at) in
     let tally = c.in-Ok.tally in
     still_lead crew s c.args.all.now.items tally c.add_tally.new.tallies.items c.in-Ok-add_tally.ensures.firsts old
     (subst (λ (text : List ℕ). LeadsTo crew s text tally.order.items) (sym c.in-Ok.ensures.told)

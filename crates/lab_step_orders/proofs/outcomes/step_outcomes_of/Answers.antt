@@ -24,7 +24,7 @@ returns-in-Ok-outcomes_at-clause-outcomes c =
       rise = told.rise;
       count =
           (c.in-Ok-count_of.ensures.sum ∙ ap (λ (ends : List (Node Moment)). sum_by (λ end. end.count) ends) c.as_slice.ensures.value)
-          ∙ (sym (weight_of_ones seen_of found.ends.items)
+          ∙ (sym (weight_of_ones (seen_of crew) found.ends.items)
           ∙ (ends.counted (λ seen. 1)
           ∙ total_of_ones (orders (machine crew) (first_seen crew) found.steps)));
       gone = ends.gone;
@@ -39,7 +39,7 @@ returns-in-Err-count_of-clause-uncounted c =
     let found = c.in-Ok.found in
     let all =
     ap (λ (ends : List (Node Moment)). sum_by (λ end. end.count) ends) c.as_slice.ensures.value
-    ∙ (sym (weight_of_ones seen_of found.ends.items)
+    ∙ (sym (weight_of_ones (seen_of crew) found.ends.items)
     ∙ (c.in-Ok.ensures.counted (λ seen. 1)
     ∙ total_of_ones (orders (machine crew) (first_seen crew) found.steps))) in
     too_many_orders crew found.steps c.in-Err-count_of.error (λ e. subst (λ (n : ℕ). count_limit ≤ n) all c.in-Err-count_of.ensures.uncounted)

@@ -7,4 +7,4 @@ use Rattle.lab_step_orders.proofs.reports.put_turns.Given as goal
 abbrev pub invariant-loop-i : goal.invariant-loop-i
 invariant-loop-i l =
     IsMoment l.crew l.at
-    × (string_bytes l.text ++ turns_text l.crew l.i (seen_of l.at) (drop l.i l.order) ≡ string_bytes l.initial.text ++ turns_text l.crew 0 (seen_of l.fn.start) l.order)
+    × (string_bytes l.text ++ turns_text l.crew l.i (seen_of l.crew l.at) (drop l.i l.order) ≡ string_bytes l.initial.text ++ turns_text l.crew 0 (seen_of l.crew l.fn.start) l.order)

@@ -1,9 +1,8 @@
 use Rattle.std.proofs.Common.{Bool, ap, ◌∙◌}
 use Rattle.std.specs.Prelude.{slice_set}
 use Rattle.std.proofs.lemmas.Result.{IfOk-weaker}
-use Rattle.evl_words.specs.MutexWorld.{owns, step_held}
 use Rattle.lab_step_orders.specs.Moments.{shared_of}
-use Rattle.lab_step_orders.specs.Words.{mutex_kind, mutex_view, holds}
+use Rattle.lab_step_orders.specs.Words.{along, mutex_kinds, holds}
 use Rattle.lab_step_orders.proofs.words.mutex_after.Goals as goal
 
 pub returns : goal.returns
@@ -13,5 +12,5 @@ returns c =
     IfOk-weaker c.with_holder.result _ _ (λ next is.
     let word = c.mutex_word-word.ensures (holds (shared_of mutex) k) in
     let held = c.mutex_held-held.ensures
-    ∙ ap (λ (b : Bool). owns (step_held mutex.word k (mutex_view b) (mutex_kind c.args.step)).role) c.holds.ensures in
+    ∙ ap (λ (b : Bool). (along k (mutex_kinds c.args.step) mutex.word b).1) c.holds.ensures in
     is ∙ (λ i. record { word = word i; held = slice_set mutex.held.items k (held i) })) c.with_holder.ensures
