@@ -1,0 +1,27 @@
+//! Random numbers from a seed.
+ghost use Rattle.std.specs.Prelude.{◌<◌};
+
+use rand_core::utils::NextWord;
+use rand_pcg::Pcg32;
+
+/// A small generator: the same seed and stream give the same numbers.
+#[derive(Drop)]
+pub struct Dice {
+    words: Pcg32,
+}
+
+impl Dice {
+    pub fn new(seed: u64, stream: u64) -> Dice {
+        Dice {
+            words: Pcg32::new(seed, stream),
+        }
+    }
+
+    /// A number below `n`.
+    pub fn below(&mut self, n: u32) -> u32
+        requires { 0 < n }
+        ensures { result < n }
+    {
+        self.words.next_word() % n
+    }
+}
