@@ -1,5 +1,5 @@
 -- A picture as SVG grows part by part, and column by column.
-use Rattle.std.proofs.Common.{arith, ◌≡◌, ◌≤◌, ◌<◌, ℕ, ◌+◌, ◌-◌, min, ◌==◌, Bool, true, false, ◌&&◌, List, [], ◌∷◌, ◌++◌, append_assoc, append-nil, length, map, take, drop, set, get_or, count_by, refl, sym, ap, subst, codes, ◌∙◌, if◌then◌else◌, Option, nat_le}
+use Rattle.std.proofs.Common.{arith, ◌≡◌, ◌≤◌, ◌<◌, ℕ, ◌+◌, ◌-◌, min, ◌==◌, Bool, true, false, ◌&&◌, List, [], ◌∷◌, ◌++◌, append_assoc, append-nil, length, map, take, drop, set, get_or, count_by, refl, sym, ap, subst, codes, ◌∙◌, if◌then◌else◌, Option, None, nat_le}
 use Rattle.std.proofs.lemmas.Bool.{false≢true}
 use Rattle.std.proofs.lemmas.List.{drop_more, drop-set-lt, length-map, take_more, take_more_set}
 use Rattle.std.proofs.lemmas.List.Sums.{count_by_more_no, count_by_more_yes, count_by-le-length, fold_push}
@@ -7,10 +7,10 @@ use Rattle.std.specs.Fmt.{is_char_start, take_chars}
 use Rattle.std.specs.Str.{trim_start}
 use Rattle.lab_drawing.specs.Drawings.{shape_text}
 use Rattle.lab_drawing.specs.Frames.{Layout, capped, dates_room, layout_of, left_of, longest, most_shown, tie_text, to_line, top_of}
-use Rattle.lab_drawing.specs.Heads.{head_text, place_text}
+use Rattle.lab_drawing.specs.Heads.{head_text, mark_place}
 use Rattle.lab_drawing.specs.Lanes.{lanes_in}
 use Rattle.lab_drawing.specs.Marks.{is_entry, line_of}
-use Rattle.lab_drawing.specs.Pictures.{band_frame, body_text, column_behind, column_text, columns_text, ellipsis, end_of, goes_on, goes_on_behind, going_text, label_of, lead_text, mark_text, moment_after, picture_text, shown_text, stood_text, wait_behind, waits_of}
+use Rattle.lab_drawing.specs.Pictures.{band_frame, body_text, column_behind, column_text, columns_text, ellipsis, end_of, entry_of, entry_with, goes_on, goes_on_behind, going_text, label_of, lead_text, mark_text, moment_after, picture_text, shown_text, stood_text, wait_behind, waits_of}
 use Rattle.lab_drawing.specs.Titles.{HoldsTitles, escaped, escaped_byte, title_text}
 use Rattle.lab_drawing.specs.declared.frames.Goes.{Goes}
 use Rattle.lab_drawing.specs.declared.frames.Shows.{Shows}
@@ -168,27 +168,34 @@ entries_more marks i d old new h k e w = by (is_entry (get_or marks i d)) refl e
     by true t e = e ∙ capped_not (old + 1) (omega (arith, few)) ∙ ap (λ (n : ℕ). n + 1) w ∙ sym (count_by_more_yes is_entry marks i d h t)
     by false t e = e ∙ w ∙ sym (count_by_more_no is_entry marks i d h t)
 
-same_column : (sheet : Layout) (moments : List Moment) (before : List Mark) (mark : Mark) (column : ℕ) (waits : List (Lane × Bool)) (now was : Option Moment) → column ≡ length before
-    → waits ≡ waits_of sheet.lanes before → now ≡ moment_after moments (count_by is_entry (before ++ mark ∷ [])) → was ≡ moment_after moments (count_by is_entry before)
-    → column_text sheet column waits now was mark ≡ column_behind sheet moments before mark
-same_column sheet moments before mark column waits now was c w n b =
-    ap (λ (x : ℕ). column_text sheet x waits now was mark) c
-    ∙ ap (λ (x : List (Lane × Bool)). column_text sheet (length before) x now was mark) w
-    ∙ ap (λ (x : Option Moment). column_text sheet (length before) (waits_of sheet.lanes before) x was mark) n
-    ∙ ap (λ (x : Option Moment). column_text sheet (length before) (waits_of sheet.lanes before) (moment_after moments (count_by is_entry (before ++ mark ∷ []))) x mark) b
+same_column : (sheet : Layout) (moments : List Moment) (before : List Mark) (mark : Mark) (column : ℕ) (entry : Option ℕ) (waits : List (Lane × Bool)) (now was : Option Moment)
+    → column ≡ length before → entry ≡ entry_of (before ++ mark ∷ []) → waits ≡ waits_of sheet.lanes before → now ≡ moment_after moments (count_by is_entry (before ++ mark ∷ [])) → was ≡ moment_after moments (count_by is_entry before)
+    → column_text sheet column entry waits now was mark ≡ column_behind sheet moments before mark
+same_column sheet moments before mark column entry waits now was c k w n b =
+    ap (λ (x : ℕ). column_text sheet x entry waits now was mark) c
+    ∙ ap (λ (x : Option ℕ). column_text sheet (length before) x waits now was mark) k
+    ∙ ap (λ (x : List (Lane × Bool)). column_text sheet (length before) (entry_of (before ++ mark ∷ [])) x now was mark) w
+    ∙ ap (λ (x : Option Moment). column_text sheet (length before) (entry_of (before ++ mark ∷ [])) (waits_of sheet.lanes before) x was mark) n
+    ∙ ap (λ (x : Option Moment). column_text sheet (length before) (entry_of (before ++ mark ∷ [])) (waits_of sheet.lanes before) (moment_after moments (count_by is_entry (before ++ mark ∷ []))) x mark) b
+
+-- the entry of one mark more
+pub entry_more : (marks : List Mark) (i : ℕ) (d : Mark) (old new : Option ℕ) → i < length marks → new ≡ entry_with old (get_or marks i d) → old ≡ entry_of (take i marks)
+    → new ≡ entry_of (take (i + 1) marks)
+entry_more marks i d old new h e w =
+    e ∙ ap (λ (x : Option ℕ). entry_with x (get_or marks i d)) w ∙ sym (fold_push entry_with None (take i marks) (get_or marks i d)) ∙ ap entry_of (sym (take_more marks i d h))
 
 -- the column of one mark more; what was counted of entries with it and before it is known
-pub columns_more : (sheet : Layout) (moments : List Moment) (marks : List Mark) (i : ℕ) (d : Mark) (entries others : ℕ) (waits : List (Lane × Bool)) (now was : Option Moment)
-    (old new whole : List ℕ) → i < length marks → waits ≡ waits_of sheet.lanes (take i marks) → now ≡ moment_after moments entries → entries ≡ count_by is_entry (take (i + 1) marks)
-    → was ≡ moment_after moments others → others ≡ count_by is_entry (take i marks) → new ≡ old ++ column_text sheet i waits now was (get_or marks i d)
+pub columns_more : (sheet : Layout) (moments : List Moment) (marks : List Mark) (i : ℕ) (d : Mark) (entries others : ℕ) (entry : Option ℕ) (waits : List (Lane × Bool)) (now was : Option Moment)
+    (old new whole : List ℕ) → i < length marks → entry ≡ entry_of (take (i + 1) marks) → waits ≡ waits_of sheet.lanes (take i marks) → now ≡ moment_after moments entries → entries ≡ count_by is_entry (take (i + 1) marks)
+    → was ≡ moment_after moments others → others ≡ count_by is_entry (take i marks) → new ≡ old ++ column_text sheet i entry waits now was (get_or marks i d)
     → old ++ columns_text sheet moments (take i marks) (drop i marks) ≡ whole → new ++ columns_text sheet moments (take (i + 1) marks) (drop (i + 1) marks) ≡ whole
-columns_more sheet moments marks i d entries others waits now was old new whole h w n en b ot e t =
+columns_more sheet moments marks i d entries others entry waits now was old new whole h k w n en b ot e t =
     let before : List Mark = take i marks in
     let mark : Mark = get_or marks i d in
     let rest : List Mark = drop (i + 1) marks in
     let next : take (i + 1) marks ≡ take i marks ++ get_or marks i d ∷ [] = take_more marks i d h in
-    let column : column_text sheet i waits now was mark ≡ column_behind sheet moments before mark =
-    same_column sheet moments before mark i waits now was (length_taken marks i (omega arith)) w
+    let column : column_text sheet i entry waits now was mark ≡ column_behind sheet moments before mark =
+    same_column sheet moments before mark i entry waits now was (length_taken marks i (omega arith)) (k ∙ ap entry_of next) w
     (n ∙ ap (moment_after moments) (en ∙ ap (count_by is_entry) next)) (b ∙ ap (moment_after moments) ot) in
     ap (λ (x : List ℕ). x ++ columns_text sheet moments (take (i + 1) marks) rest) (e ∙ ap (λ (x : List ℕ). old ++ x) column)
     ∙ append_assoc old (column_behind sheet moments before mark) (columns_text sheet moments (take (i + 1) marks) rest)
@@ -213,14 +220,14 @@ body_made sheet column end mark n led leads tied ties drawn t0 t1 t2 t3 t4 b l m
     ∙ ap (λ (x : List ℕ). t0 ++ (lead_text sheet.goes n ++ (tie_text sheet column end mark ++ (x ++ label_of sheet n mark)))) d
     ∙ ap (λ (k : ℕ). t0 ++ (lead_text sheet.goes k ++ (tie_text sheet column end mark ++ (shape_text mark.shape ++ label_of sheet k mark)))) b
 
-pub mark_made : (sheet : Layout) (column : ℕ) (before : Option Moment) (mark : Mark) (end : TieEnd) (x y : ℕ) (placed places t0 t1 t2 t3 : List ℕ) → end ≡ end_of mark before
-    → x ≡ left_of sheet column mark.lane → y ≡ top_of sheet column mark.lane → places ≡ placed → placed ≡ place_text x y → t1 ≡ t0 ++ places → t2 ≡ t1 ++ title_text mark.line.now
-    → t3 ≡ t2 ++ body_text sheet column end mark → t3 ≡ t0 ++ mark_text sheet column before mark
-mark_made sheet column before mark end x y placed places t0 t1 t2 t3 n a d p q e f g =
+pub mark_made : (sheet : Layout) (column : ℕ) (entry : Option ℕ) (before : Option Moment) (mark : Mark) (end : TieEnd) (x y : ℕ) (placed places t0 t1 t2 t3 : List ℕ) → end ≡ end_of mark before
+    → x ≡ left_of sheet column mark.lane → y ≡ top_of sheet column mark.lane → places ≡ placed → placed ≡ mark_place entry x y → t1 ≡ t0 ++ places → t2 ≡ t1 ++ title_text mark.line.now
+    → t3 ≡ t2 ++ body_text sheet column end mark → t3 ≡ t0 ++ mark_text sheet column entry before mark
+mark_made sheet column entry before mark end x y placed places t0 t1 t2 t3 n a d p q e f g =
     joined3 places (title_text mark.line.now) (body_text sheet column end mark) t0 t1 t2 t3 e f g
     ∙ ap (λ (z : List ℕ). t0 ++ (z ++ (title_text mark.line.now ++ body_text sheet column end mark)))
-    (p ∙ q ∙ ap (λ (k : ℕ). place_text k y) a ∙ ap (λ (k : ℕ). place_text (left_of sheet column mark.lane) k) d)
-    ∙ ap (λ (k : TieEnd). t0 ++ (place_text (left_of sheet column mark.lane) (top_of sheet column mark.lane) ++ (title_text mark.line.now ++ body_text sheet column k mark))) n
+    (p ∙ q ∙ ap (λ (k : ℕ). mark_place entry k y) a ∙ ap (λ (k : ℕ). mark_place entry (left_of sheet column mark.lane) k) d)
+    ∙ ap (λ (k : TieEnd). t0 ++ (mark_place entry (left_of sheet column mark.lane) (top_of sheet column mark.lane) ++ (title_text mark.line.now ++ body_text sheet column k mark))) n
 
 -- what stands behind a mark was made in a text of its own
 pub column_made : (frame stood mark first behind added t0 t1 t2 : List ℕ) → first ≡ frame → behind ≡ first ++ stood → added ≡ behind → t1 ≡ t0 ++ added → t2 ≡ t1 ++ mark
@@ -250,7 +257,7 @@ columns_titles sheet moments before (mark ∷ rest) =
     let stood : List ℕ =
     stood_text sheet column (waits_of sheet.lanes before) (moment_after moments (count_by is_entry (before ++ mark ∷ []))) (moment_after moments (count_by is_entry before)) in
     let end : TieEnd = end_of mark (moment_after moments (count_by is_entry before)) in
-    let place : List ℕ = place_text (left_of sheet column mark.lane) (top_of sheet column mark.lane) in
+    let place : List ℕ = mark_place (entry_of (before ++ mark ∷ [])) (left_of sheet column mark.lane) (top_of sheet column mark.lane) in
     let others : List ℕ = columns_text sheet moments (before ++ mark ∷ []) rest in (
       band_frame sheet column ++ (stood ++ place),
       body_text sheet column end mark ++ others,

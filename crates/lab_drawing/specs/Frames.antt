@@ -231,15 +231,6 @@ abbrev pub shows_waits : Shows → Bool
 shows_waits Words = true
 shows_waits _ = false
 
--- where the number above a lane stands
-abbrev pub number_place : Shows → List ℕ
-number_place Words = codes "x=\"-2\" text-anchor=\"end\""
-number_place _ = codes "x=\"-7\""
-
-abbrev pub number_above : Layout → Condition → ℕ → List ℕ
-number_above sheet condition number =
-    codes "<text " ++ (number_place sheet.shows ++ (codes " y=\"-7\" font-size=\"7\">" ++ (number_sign condition ++ (decimal number ++ codes "</text>"))))
-
 -- the priority that a rank is of
 abbrev pub priority_of : ℕ → ℕ
 priority_of rank =
@@ -254,6 +245,15 @@ own_rank (Rr prio slice) = 512 + prio
 own_rank (Quota group prio) = 256 + prio
 own_rank (Weak prio) = prio
 
+-- where a thread's own policy, or another number, stands at its lane, and where a rank by others does
+abbrev pub own_place : Goes → List ℕ
+own_place Across = codes "x=\"-7\" y=\"-6.5\" font-size=\"7\""
+own_place Down = codes "x=\"8\" y=\"-3\" font-weight=\"bold\""
+
+abbrev pub lent_place : Goes → List ℕ
+lent_place Across = codes "x=\"-7\" y=\"-12.5\" font-size=\"7\" font-weight=\"bold\""
+lent_place Down = codes "x=\"8\" y=\"8.5\" font-weight=\"bold\""
+
 -- a policy as people write it: its first letter, and the priority
 abbrev pub letter_of : Policy → List ℕ
 letter_of (Fifo prio) = codes "f"
@@ -266,29 +266,38 @@ abbrev pub arrow : List ℕ
 arrow = 226 ∷ 134 ∷ 145 ∷ []
 
 -- a thread's own policy
-abbrev pub own_text : Policy → List ℕ
-own_text policy = codes "<text x=\"8\" y=\"-3\" font-weight=\"bold\">" ++ (letter_of policy ++ (decimal (priority_of (own_rank policy)) ++ codes "</text>"))
+abbrev pub own_text : Goes → Policy → List ℕ
+own_text goes policy =
+    codes "<text " ++ (own_place goes ++ (codes ">" ++ (letter_of policy ++ (decimal (priority_of (own_rank policy)) ++ codes "</text>"))))
 
 -- a rank that a thread lends: behind an arrow its priority, and the thread; or else that of a ceiling
-abbrev pub lent_text : ℕ → Option ℕ → List ℕ
-lent_text rank (Some thread) = codes "<text x=\"8\" y=\"8.5\" font-weight=\"bold\">" ++ (arrow ++ (decimal (priority_of rank) ++ (codes "T" ++ (decimal thread ++ codes "</text>"))))
-lent_text rank None = codes "<text x=\"8\" y=\"8.5\" font-weight=\"bold\">c" ++ (decimal (priority_of rank) ++ codes "</text>")
+abbrev pub lender_text : ℕ → Option ℕ → List ℕ
+lender_text rank (Some thread) = arrow ++ (decimal (priority_of rank) ++ (codes "T" ++ decimal thread))
+lender_text rank None = codes "c" ++ decimal (priority_of rank)
+
+abbrev pub lent_text : Goes → ℕ → Option ℕ → List ℕ
+lent_text goes rank lender = codes "<text " ++ (lent_place goes ++ (codes ">" ++ (lender_text rank lender ++ codes "</text>")))
 
 -- an effective rank that is another than the policy gives
-abbrev pub raised_text : Policy → ℕ → Option ℕ → List ℕ
-raised_text policy rank lender = if own_rank policy == rank then [] else lent_text rank lender
+abbrev pub raised_text : Goes → Policy → ℕ → Option ℕ → List ℕ
+raised_text goes policy rank lender = if own_rank policy == rank then [] else lent_text goes rank lender
 
-abbrev pub signed_text : Condition → ℕ → List ℕ
-signed_text condition number = codes "<text x=\"8\" y=\"-3\" font-weight=\"bold\">" ++ (number_sign condition ++ (decimal number ++ codes "</text>"))
+-- where a number stands that is no rank
+abbrev pub number_place : Goes → Shows → List ℕ
+number_place Across Words = codes "x=\"-2\" y=\"-7\" font-size=\"7\" text-anchor=\"end\""
+number_place goes shows = own_place goes
 
--- what is told of a lane in a picture that goes down: a thread's policy with the rank that it has by others, else a number behind its sign
-abbrev pub number_beside : Option Policy → Option ℕ → Condition → ℕ → List ℕ
-number_beside (Some policy) lender condition number = own_text policy ++ raised_text policy number lender
-number_beside None lender condition number = signed_text condition number
+abbrev pub signed_text : Layout → Condition → ℕ → List ℕ
+signed_text sheet condition number =
+    codes "<text " ++ (number_place sheet.goes sheet.shows ++ (codes ">" ++ (number_sign condition ++ (decimal number ++ codes "</text>"))))
+
+-- what is told of a lane: a thread's policy with the rank that it has by others, else a number behind its sign
+abbrev pub number_told : Layout → Option Policy → Option ℕ → Condition → ℕ → List ℕ
+number_told sheet (Some policy) lender condition number = own_text sheet.goes policy ++ raised_text sheet.goes policy number lender
+number_told sheet None lender condition number = signed_text sheet condition number
 
 abbrev pub number_text : Layout → Standing → ℕ → List ℕ
-number_text sheet standing number =
-    by_way sheet.goes (number_above sheet standing.condition number) (number_beside standing.policy standing.lender standing.condition number)
+number_text sheet standing number = number_told sheet standing.policy standing.lender standing.condition number
 
 -- ---- ties
 

@@ -1,5 +1,5 @@
 -- What stands above the bands of a picture as SVG: its opening, and its legend.
-use Rattle.std.specs.Prelude.{ℕ, ◌+◌, ◌*◌, Bool, true, false, List, [], ◌∷◌, ◌++◌, length, codes, decimal, if◌then◌else◌}
+use Rattle.std.specs.Prelude.{ℕ, ◌+◌, ◌*◌, Bool, true, false, List, [], ◌∷◌, ◌++◌, length, codes, decimal, if◌then◌else◌, Option, Some, None}
 use Rattle.std.specs.List.{list_any}
 use Rattle.lab_drawing.specs.Drawings.{end_text, shape_text, strip_for}
 use Rattle.lab_drawing.specs.Frames.{Layout, by_way, capped, picture_height, picture_width}
@@ -19,7 +19,7 @@ abbrev pub dark_text : List ℕ
 dark_text =
     codes "<style>@media screen and (prefers-color-scheme:dark){[fill=\"#ffffff\"]{fill:#14181d}text,[fill=\"#202020\"]{fill:#e8e8e8}"
     ++ (codes "[fill=\"#1f5fa8\"]{fill:#7db4f0}[stroke=\"#1f5fa8\"]{stroke:#7db4f0}[fill=\"#b3261e\"]{fill:#ff8a80}[stroke=\"#b3261e\"]{stroke:#ff8a80}"
-    ++ codes "[fill=\"#5c4300\"]{fill:#e6c46a}[stroke=\"#5c4300\"]{stroke:#e6c46a}[stroke=\"#8a6d00\"]{stroke:#e6c46a}[fill=\"#5f6b7a\"]{fill:#a9b4c2}[stroke=\"#5f6b7a\"]{stroke:#a9b4c2}}</style>\n<rect width=\"100%\" height=\"100%\" fill=\"#ffffff\"/>\n")
+    ++ codes "[fill=\"#5c4300\"]{fill:#e6c46a}[stroke=\"#5c4300\"]{stroke:#e6c46a}[stroke=\"#8a6d00\"]{stroke:#e6c46a}[fill=\"#5f6b7a\"]{fill:#a9b4c2}[stroke=\"#5f6b7a\"]{stroke:#a9b4c2}[fill=\"#c9d9f0\"]{fill:#2f4a6b}[stroke=\"#b8c4d6\"],[stroke=\"#dcdcdc\"],[stroke=\"#b0b0b0\"],[stroke=\"#e4e4e4\"]{stroke:#4a5568}[stroke=\"#d8c48c\"]{stroke:#6b5d33}}</style>\n<rect width=\"100%\" height=\"100%\" fill=\"#ffffff\"/>\n")
 
 -- its size
 abbrev pub sized_across : ℕ → ℕ → List ℕ
@@ -43,6 +43,11 @@ opening_text goes width height = sized_text goes width height ++ dark_text
 -- the beginning of what stands here
 abbrev pub place_text : ℕ → ℕ → List ℕ
 place_text x y = codes "<g transform=\"translate(" ++ (decimal x ++ (codes "," ++ (decimal y ++ codes ")\">")))
+
+-- the same of a mark, with the number of its entry
+abbrev pub mark_place : Option ℕ → ℕ → ℕ → List ℕ
+mark_place None x y = place_text x y
+mark_place (Some entry) x y = codes "<g data-entry=\"" ++ (decimal entry ++ (codes "\" transform=\"translate(" ++ (decimal x ++ (codes "," ++ (decimal y ++ codes ")\">")))))
 
 -- its word, beside the drawing, and its end
 abbrev pub word_text : ℕ → ℕ → List ℕ → List ℕ

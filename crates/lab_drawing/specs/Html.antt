@@ -16,14 +16,14 @@ told_cell cell = (cell.place, string_bytes cell.text)
 
 -- ---- what stands around the picture and the steps
 
--- the beginning of a page, and how it looks: with variables for its colours, dark on a dark screen; printed it has the last step
+-- the beginning of a page, and how it looks: with variables for its colours, dark on a dark screen; the picture is as wide as its room; printed it has the last step
 abbrev pub head_text : List ℕ
 head_text =
     codes "<!DOCTYPE html>\n<html lang=\"en\"><head><meta charset=\"utf-8\"><meta name=\"viewport\" content=\"width=device-width\"><title>lab draw</title>\n<style>\n:root{color-scheme:light dark;--paper:#ffffff;--ink:#202020;--line:#b8c4d6;--new:#ffe08a;--here:#f0b400}\n"
-    ++ (codes "@media screen and (prefers-color-scheme:dark){:root{--paper:#14181d;--ink:#e8e8e8;--line:#48566a;--new:#6b5200}}\nbody{margin:0;height:100vh;display:grid;grid-template-columns:minmax(0,1fr) auto;background:var(--paper);color:var(--ink);font:14px \"DejaVu Sans Mono\",monospace}\n"
-    ++ (codes "#picture,#side{overflow:auto}#side{padding:8px 12px}#at{width:16em}#steps{list-style:none;margin:0;padding:0}#steps>li{display:none;flex-direction:column}#steps>li.on,#steps:not(.live)>li:last-child{display:flex}table{order:1;margin-top:8px;border-collapse:collapse}\n"
+    ++ (codes "@media screen and (prefers-color-scheme:dark){:root{--paper:#14181d;--ink:#e8e8e8;--line:#48566a;--new:#6b5200}}\nbody{margin:0;height:100vh;display:grid;grid-template-columns:minmax(56%,1fr) auto;background:var(--paper);color:var(--ink);font:14px \"DejaVu Sans Mono\",monospace}\n"
+    ++ (codes "#picture,#side{overflow:auto}svg{max-width:max(100%,44em);height:auto}#side{padding:8px 12px}#at{width:16em}#steps{list-style:none;margin:0;padding:0}#steps>li{display:none;flex-direction:column}#steps>li.on,#steps:not(.live)>li:last-child{display:flex}table{order:1;margin-top:8px;border-collapse:collapse}\n"
     ++ (codes "p{margin:4px 0;max-width:44em}.play{padding-left:2em}th,td{padding:2px 8px;border-bottom:1px solid var(--line);text-align:left}.new{background:var(--new);font-weight:bold}.here{filter:drop-shadow(0 0 2px var(--here)) drop-shadow(0 0 2px var(--here))}.here text{font-weight:bold}\n"
-    ++ codes "@media (max-width:60em){body{display:block;height:auto}}\n@media print{body{display:block;height:auto}#picture,#side{overflow:visible}#now{display:none}#steps>li{display:none!important}#steps>li:last-child{display:flex!important}.here{filter:none}}\n</style></head><body>\n<div id=\"picture\">\n")))
+    ++ codes "@media (max-width:90em){th,td{padding:2px 4px;font-size:12px}}\n@media (max-width:60em){body{display:block;height:auto}}\n@media print{body{display:block;height:auto}#picture,#side{overflow:visible}svg{max-width:100%}#now{display:none}#steps>li{display:none!important}#steps>li:last-child{display:flex!important}.here{filter:none}}\n</style></head><body>\n<div id=\"picture\">\n")))
 
 -- the slider
 abbrev pub middle_text : List ℕ

@@ -5,13 +5,13 @@ use Rattle.std.specs.List.{fold}
 use Rattle.std.specs.Str.{trim_start}
 use Rattle.lab_drawing.specs.Drawings.{shape_text}
 use Rattle.lab_drawing.specs.Frames.{Layout, by_way, capped, frame_text, layout_of, left_of, shows_waits, tie_text, to_line, top_of}
-use Rattle.lab_drawing.specs.Heads.{head_text, place_text}
+use Rattle.lab_drawing.specs.Heads.{head_text, mark_place}
 use Rattle.lab_drawing.specs.Lanes.{is_lane}
 use Rattle.lab_drawing.specs.Marks.{is_entry}
 use Rattle.lab_drawing.specs.Events.{line_at}
 use Rattle.lab_drawing.specs.Named.{value_of}
 use Rattle.lab_drawing.specs.Strips.{moment_text, standing_of}
-use Rattle.lab_drawing.specs.Texts.{number_in}
+use Rattle.lab_drawing.specs.Texts.{around_part, number_in}
 use Rattle.lab_drawing.specs.Titles.{escaped, title_text}
 use Rattle.lab_drawing.specs.declared.frames.Goes.{Goes}
 use Rattle.lab_drawing.specs.declared.frames.Goes.TheVariants.{Across, Down}
@@ -24,6 +24,20 @@ use Rattle.lab_drawing.specs.declared.marks.Shape.TheVariants.{Begun, Ended, Ref
 use Rattle.lab_drawing.specs.declared.moments.Moment.{Moment}
 use Rattle.lab_drawing.specs.declared.ties.TieEnd.{TieEnd}
 use Rattle.lab_drawing.specs.declared.ties.TieEnd.TheVariants.{Named, Arrives, Merges, Lost}
+
+-- ---- entries
+
+-- the number of an entry, with which its line begins
+abbrev pub number_of : List ℕ → Option ℕ
+number_of line = option_and_then (λ cut. number_in 64 cut.0) (around_part (codes " ") line)
+
+-- the entry of a mark: a play's is the one before it
+abbrev pub entry_with : Option ℕ → Mark → Option ℕ
+entry_with before mark = if is_entry mark then number_of mark.line.now else before
+
+-- the entry of the last one of some marks
+abbrev pub entry_of : List Mark → Option ℕ
+entry_of marks = fold entry_with None marks
 
 -- ---- marks
 
@@ -127,10 +141,10 @@ end_at _ pending = Named
 abbrev pub end_of : Mark → Option Moment → TieEnd
 end_of mark before = end_at mark.shape (stood mark.names before)
 
--- a mark in its column, behind the moment before
-abbrev pub mark_text : Layout → ℕ → Option Moment → Mark → List ℕ
-mark_text sheet column before mark =
-    place_text (left_of sheet column mark.lane) (top_of sheet column mark.lane) ++ (title_text mark.line.now ++ body_text sheet column (end_of mark before) mark)
+-- a mark of an entry in its column, behind the moment before
+abbrev pub mark_text : Layout → ℕ → Option ℕ → Option Moment → Mark → List ℕ
+mark_text sheet column entry before mark =
+    mark_place entry (left_of sheet column mark.lane) (top_of sheet column mark.lane) ++ (title_text mark.line.now ++ body_text sheet column (end_of mark before) mark)
 
 -- ---- waits
 
@@ -189,13 +203,14 @@ stood_text sheet column waits None before = waits_text sheet column waits
 stood_text sheet column waits (Some moment) before = moment_text sheet column moment before ++ (if shows_waits sheet.shows then waits_text sheet column waits else [])
 
 -- the lanes of its band, how they stand, and the mark
-abbrev pub column_text : Layout → ℕ → List (Lane × Bool) → Option Moment → Option Moment → Mark → List ℕ
-column_text sheet column waits moment before mark = band_frame sheet column ++ (stood_text sheet column waits moment before ++ mark_text sheet column before mark)
+abbrev pub column_text : Layout → ℕ → Option ℕ → List (Lane × Bool) → Option Moment → Option Moment → Mark → List ℕ
+column_text sheet column entry waits moment before mark =
+    band_frame sheet column ++ (stood_text sheet column waits moment before ++ mark_text sheet column entry before mark)
 
 -- the column of a mark behind those before it
 abbrev pub column_behind : Layout → List Moment → List Mark → Mark → List ℕ
 column_behind sheet moments before mark =
-    column_text sheet (length before) (waits_of sheet.lanes before) (moment_after moments (count_by is_entry (before ++ mark ∷ []))) (moment_after moments (count_by is_entry before)) mark
+    column_text sheet (length before) (entry_of (before ++ mark ∷ [])) (waits_of sheet.lanes before) (moment_after moments (count_by is_entry (before ++ mark ∷ []))) (moment_after moments (count_by is_entry before)) mark
 
 -- the columns of marks, behind those before them
 abbrev pub columns_text : Layout → List Moment → List Mark → List Mark → List ℕ

@@ -4,7 +4,6 @@ use Rattle.lab_drawing.specs.Drawings.{strip_for}
 use Rattle.evl_base.specs.declared.policy.Policy.{Policy}
 use Rattle.evl_base.specs.declared.policy.Policy.TheVariants.{Rr}
 use Rattle.lab_drawing.specs.Frames.{Layout, across, by_way, capped, date_row, date_text, left_of, number_text, own_rank, place_on, row_down, top_of}
-use Rattle.lab_drawing.specs.declared.frames.Goes.{Goes}
 use Rattle.lab_drawing.specs.Lanes.{is_lane}
 use Rattle.lab_drawing.specs.declared.lanes.Lane.{Lane}
 use Rattle.lab_drawing.specs.declared.moments.Moment.{Moment}
@@ -35,19 +34,19 @@ is_policy _ _ = false
 abbrev pub ranked_so : Standing → Standing → Bool
 ranked_so standing earlier = is_policy earlier.policy standing.policy && is_number earlier.lender standing.lender
 
--- in a picture that goes down with this policy and this lender, too
-abbrev pub stood_so : Goes → Standing → Option Standing → Bool
-stood_so goes standing None = false
-stood_so goes standing (Some earlier) = by_way goes (is_number earlier.number standing.number) (is_number earlier.number standing.number && ranked_so standing earlier)
+-- with this number, this policy and this lender
+abbrev pub stood_so : Standing → Option Standing → Bool
+stood_so standing None = false
+stood_so standing (Some earlier) = is_number earlier.number standing.number && ranked_so standing earlier
 
--- the moment before had this number for the lane
-abbrev pub had_number : Goes → Standing → Option Moment → Bool
-had_number goes standing None = false
-had_number goes standing (Some moment) = stood_so goes standing (standing_of standing.lane moment)
+-- the moment before had these for the lane
+abbrev pub had_number : Standing → Option Moment → Bool
+had_number standing None = false
+had_number standing (Some moment) = stood_so standing (standing_of standing.lane moment)
 
 -- a number is told where it is another than before, or a band begins
-abbrev pub tells_number : Goes → ℕ → Standing → Option Moment → Bool
-tells_number goes column standing before = column % 60 == 0 || not (had_number goes standing before)
+abbrev pub tells_number : ℕ → Standing → Option Moment → Bool
+tells_number column standing before = column % 60 == 0 || not (had_number standing before)
 
 abbrev pub told_number : Layout → Standing → Bool → Option ℕ → List ℕ
 told_number sheet standing true (Some number) = number_text sheet standing number
@@ -62,7 +61,7 @@ strip_at sheet column standing =
 -- how a lane stands in a column, behind the moment before
 abbrev pub standing_text : Layout → ℕ → Option Moment → Standing → List ℕ
 standing_text sheet column before standing =
-    strip_at sheet column standing ++ (told_number sheet standing (tells_number sheet.goes column standing before) standing.number ++ codes "</g>\n")
+    strip_at sheet column standing ++ (told_number sheet standing (tells_number column standing before) standing.number ++ codes "</g>\n")
 
 abbrev pub was_date : ℕ → Option Moment → Bool
 was_date date None = false

@@ -12,6 +12,7 @@ use crate::heads::{opening, put_conditions, put_shapes, put_words};
 use crate::lanes::{Lane, add_lane, index_of};
 use crate::marks::Mark;
 use crate::moments::Moment;
+use crate::ranks::own_place;
 use crate::ties::{TieEnd, tie_down, tie_right};
 use std::alloc::{AllocError, Global};
 
@@ -230,13 +231,13 @@ impl Sheet {
         self.shows == Shows::Words
     }
 
-    /// Where the number above a lane stands: left of the tie, where it is the tied call that changes the number.
+    /// Where a number that is no rank stands: left of the tie, where it is the tied call that changes the number.
     pub fn number_place(&self) -> &'static str
-        ensures { result.now ≡ frames.number_place self.now.shows }
+        ensures { result.now ≡ frames.number_place self.now.goes self.now.shows }
     {
-        match self.shows {
-            Shows::Words => "x=\"-2\" text-anchor=\"end\"",
-            _ => "x=\"-7\"",
+        match (self.goes, self.shows) {
+            (Goes::Across, Shows::Words) => "x=\"-2\" y=\"-7\" font-size=\"7\" text-anchor=\"end\"",
+            (goes, _) => own_place(goes),
         }
     }
 

@@ -64,7 +64,7 @@ fn put_dark(text: &mut String) -> Result<(), AllocError>
         "[fill=\"#1f5fa8\"]{fill:#7db4f0}[stroke=\"#1f5fa8\"]{stroke:#7db4f0}[fill=\"#b3261e\"]{fill:#ff8a80}[stroke=\"#b3261e\"]{stroke:#ff8a80}",
     )?;
     text.push_str(
-        "[fill=\"#5c4300\"]{fill:#e6c46a}[stroke=\"#5c4300\"]{stroke:#e6c46a}[stroke=\"#8a6d00\"]{stroke:#e6c46a}[fill=\"#5f6b7a\"]{fill:#a9b4c2}[stroke=\"#5f6b7a\"]{stroke:#a9b4c2}}</style>\n<rect width=\"100%\" height=\"100%\" fill=\"#ffffff\"/>\n",
+        "[fill=\"#5c4300\"]{fill:#e6c46a}[stroke=\"#5c4300\"]{stroke:#e6c46a}[stroke=\"#8a6d00\"]{stroke:#e6c46a}[fill=\"#5f6b7a\"]{fill:#a9b4c2}[stroke=\"#5f6b7a\"]{stroke:#a9b4c2}[fill=\"#c9d9f0\"]{fill:#2f4a6b}[stroke=\"#b8c4d6\"],[stroke=\"#dcdcdc\"],[stroke=\"#b0b0b0\"],[stroke=\"#e4e4e4\"]{stroke:#4a5568}[stroke=\"#d8c48c\"]{stroke:#6b5d33}}</style>\n<rect width=\"100%\" height=\"100%\" fill=\"#ffffff\"/>\n",
     )?;
     Ok(())
 }

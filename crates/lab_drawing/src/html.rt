@@ -19,11 +19,11 @@ fn put_head(text: &mut Vec<u8>) -> Result<(), AllocError>
     )?;
     put_text(
         text,
-        "@media screen and (prefers-color-scheme:dark){:root{--paper:#14181d;--ink:#e8e8e8;--line:#48566a;--new:#6b5200}}\nbody{margin:0;height:100vh;display:grid;grid-template-columns:minmax(0,1fr) auto;background:var(--paper);color:var(--ink);font:14px \"DejaVu Sans Mono\",monospace}\n",
+        "@media screen and (prefers-color-scheme:dark){:root{--paper:#14181d;--ink:#e8e8e8;--line:#48566a;--new:#6b5200}}\nbody{margin:0;height:100vh;display:grid;grid-template-columns:minmax(56%,1fr) auto;background:var(--paper);color:var(--ink);font:14px \"DejaVu Sans Mono\",monospace}\n",
     )?;
     put_text(
         text,
-        "#picture,#side{overflow:auto}#side{padding:8px 12px}#at{width:16em}#steps{list-style:none;margin:0;padding:0}#steps>li{display:none;flex-direction:column}#steps>li.on,#steps:not(.live)>li:last-child{display:flex}table{order:1;margin-top:8px;border-collapse:collapse}\n",
+        "#picture,#side{overflow:auto}svg{max-width:max(100%,44em);height:auto}#side{padding:8px 12px}#at{width:16em}#steps{list-style:none;margin:0;padding:0}#steps>li{display:none;flex-direction:column}#steps>li.on,#steps:not(.live)>li:last-child{display:flex}table{order:1;margin-top:8px;border-collapse:collapse}\n",
     )?;
     put_text(
         text,
@@ -31,7 +31,7 @@ fn put_head(text: &mut Vec<u8>) -> Result<(), AllocError>
     )?;
     put_text(
         text,
-        "@media (max-width:60em){body{display:block;height:auto}}\n@media print{body{display:block;height:auto}#picture,#side{overflow:visible}#now{display:none}#steps>li{display:none!important}#steps>li:last-child{display:flex!important}.here{filter:none}}\n</style></head><body>\n<div id=\"picture\">\n",
+        "@media (max-width:90em){th,td{padding:2px 4px;font-size:12px}}\n@media (max-width:60em){body{display:block;height:auto}}\n@media print{body{display:block;height:auto}#picture,#side{overflow:visible}svg{max-width:100%}#now{display:none}#steps>li{display:none!important}#steps>li:last-child{display:flex!important}.here{filter:none}}\n</style></head><body>\n<div id=\"picture\">\n",
     )?;
     Ok(())
 }

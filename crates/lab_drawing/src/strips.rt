@@ -1,14 +1,15 @@
 //! The strips below the lanes of a picture, which show how each stands, and the dates above them.
 ghost use Rattle.std.specs.Prelude.{◌≡◌, ◌++◌, Some, IfOk, OnOk, option_map, string_bytes};
 ghost use Rattle.lab_drawing.specs.Drawings as drawings;
-ghost use Rattle.lab_drawing.specs.Frames.{date_text, layout, number_above, number_sign, number_text};
+ghost use Rattle.lab_drawing.specs.Frames.{date_text, layout, number_sign, number_text, signed_text};
 ghost use Rattle.lab_drawing.specs.Strips as strips;
 ghost use Rattle.lab_drawing.specs.Strips.{date_above, date_beside, date_mark, is_number, moment_text, standing_text, strip_at, tells_number, told_date, told_number, told_standing};
 
 use crate::dates::date_text;
-use crate::downwards::{own_rank, put_number_beside, strip_down};
+use crate::downwards::strip_down;
 use crate::frames::{COLUMNS, Goes, Sheet};
 use crate::moments::{Condition, Moment, Standing};
+use crate::ranks::{own_rank, put_rank};
 use evl_base::Policy;
 use std::alloc::{AllocError, Global};
 
@@ -55,8 +56,8 @@ pub fn strip_for(goes: Goes, condition: Condition) -> &'static str
     }
 }
 
-/// What stands before the number above a lane: T is that of a thread, + that of pending events.
-pub fn number_sign(condition: Condition) -> &'static str
+// What stands before the number above a lane: T is that of a thread, + that of pending events.
+fn number_sign(condition: Condition) -> &'static str
     ensures { result.now ≡ number_sign condition }
 {
     match condition {
@@ -66,7 +67,7 @@ pub fn number_sign(condition: Condition) -> &'static str
     }
 }
 
-// Appends the number of a lane.
+// Appends the number of a lane: that of a thread as its policy, with the rank that it has by others.
 fn put_number(
     text: &mut String,
     sheet: &Sheet,
@@ -75,27 +76,24 @@ fn put_number(
 ) -> Result<(), AllocError>
     ensures { OnOk result (string_bytes text.new ≡ string_bytes text.old ++ number_text (layout sheet.now) standing number) }
 {
-    match sheet.goes {
-        Goes::Across => put_number_above(text, sheet, standing, number),
-        Goes::Down => put_number_beside(text, standing, number),
+    match standing.policy {
+        Some(policy) => put_rank(text, sheet.goes, policy, number, standing.lender),
+        None => put_signed(text, sheet, standing.condition, number),
     }
 }
 
-// Appends the number that stands above a lane.
-fn put_number_above(
+// Appends a number behind its sign.
+fn put_signed(
     text: &mut String,
     sheet: &Sheet,
-    standing: Standing,
+    condition: Condition,
     number: u16,
 ) -> Result<(), AllocError>
-    ensures { OnOk result (string_bytes text.new ≡ string_bytes text.old ++ number_above (layout sheet.now) standing.condition number) }
+    ensures { OnOk result (string_bytes text.new ≡ string_bytes text.old ++ signed_text (layout sheet.now) condition number) }
 {
     let place = sheet.number_place();
-    let sign = number_sign(standing.condition);
-    write!(
-        text,
-        "<text {place} y=\"-7\" font-size=\"7\">{sign}{number}</text>"
-    )?;
+    let sign = number_sign(condition);
+    write!(text, "<text {place}>{sign}{number}</text>")?;
     Ok(())
 }
 
@@ -146,19 +144,16 @@ fn ranked_so(standing: Standing, earlier: Standing) -> bool
     is_policy(earlier.policy, standing.policy) && is_number(earlier.lender, standing.lender)
 }
 
-// Whether a lane stood with the same number, in a picture that goes down with the same policy and lender, too.
-fn stood_so(goes: Goes, standing: Standing, earlier: Standing) -> bool
-    ensures { result ≡ strips.stood_so goes standing (Some earlier) }
+// Whether a lane stood with the same number, policy and lender.
+fn stood_so(standing: Standing, earlier: Standing) -> bool
+    ensures { result ≡ strips.stood_so standing (Some earlier) }
 {
-    match goes {
-        Goes::Across => is_number(earlier.number, standing.number),
-        Goes::Down => { is_number(earlier.number, standing.number) && ranked_so(standing, earlier) }
-    }
+    is_number(earlier.number, standing.number) && ranked_so(standing, earlier)
 }
 
 // Whether a lane's number is told in a column: where it is another than before, or a band begins.
-fn tells_number(goes: Goes, column: usize, standing: Standing, before: Option<&Moment>) -> bool
-    ensures { result ≡ tells_number goes column standing (option_map (λ moment. moment.now) before.entry) }
+fn tells_number(column: usize, standing: Standing, before: Option<&Moment>) -> bool
+    ensures { result ≡ tells_number column standing (option_map (λ moment. moment.now) before.entry) }
 {
     if column % COLUMNS == 0 {
         return true;
@@ -167,7 +162,7 @@ fn tells_number(goes: Goes, column: usize, standing: Standing, before: Option<&M
         None => true,
         Some(moment) => match moment.standing(standing.lane) {
             None => true,
-            Some(earlier) => !stood_so(goes, standing, earlier),
+            Some(earlier) => !stood_so(standing, earlier),
         },
     }
 }
@@ -221,7 +216,7 @@ fn put_standing(
         text,
         sheet,
         standing,
-        tells_number(sheet.goes, column, standing, before),
+        tells_number(column, standing, before),
     )?;
     text.push_str("</g>\n")
 }

@@ -1,10 +1,10 @@
 //! A picture as SVG.
 ghost use Rattle.std.specs.Prelude.{◌≡◌, ◌+◌, ◌++◌, ◌%◌, ◌==◌, [], map, option_map, string_bytes, IfOk, OnOk, if◌then◌else◌};
 ghost use Rattle.lab_drawing.specs.Frames.{capped, layout, tie_text};
-ghost use Rattle.lab_drawing.specs.Heads.{place_text};
+ghost use Rattle.lab_drawing.specs.Heads.{mark_place, place_text};
 ghost use Rattle.lab_drawing.specs.Marks.{is_entry, line_of};
 ghost use Rattle.lab_drawing.specs.Pictures as pictures;
-ghost use Rattle.lab_drawing.specs.Pictures.{band_frame, body_text, column_text, columns_text, down_text, going_text, label_of, lead_text, mark_text, stood_text, svg_text};
+ghost use Rattle.lab_drawing.specs.Pictures.{band_frame, body_text, column_text, columns_text, down_text, entry_with, going_text, label_of, lead_text, mark_text, stood_text, svg_text};
 ghost use Rattle.lab_drawing.specs.Titles.{HoldsTitles};
 ghost use Rattle.lab_drawing.specs.declared.frames.Shows.TheVariants.{Words};
 
@@ -18,6 +18,7 @@ use crate::marks::Mark;
 use crate::moments::Moment;
 use crate::pages::is_entry;
 use crate::strips::put_moment;
+use crate::texts::{around, long_number};
 use crate::ties::{TieEnd, end_of};
 use crate::waits::{no_waits, note, put_waits};
 use std::alloc::{AllocError, Global};
@@ -72,11 +73,16 @@ fn put_label_of(
     put_label(alloc, text, sheet.goes, sheet.shown, from, look, mark.line)
 }
 
-// The beginning of a mark that stands here.
-fn place(alloc: Global, x: usize, y: usize) -> Result<String, AllocError>
-    ensures { IfOk result (λ text. string_bytes text ≡ place_text x y) }
+// The beginning of a mark of an entry that stands here.
+fn place(alloc: Global, entry: Option<u64>, x: usize, y: usize) -> Result<String, AllocError>
+    ensures { IfOk result (λ text. string_bytes text ≡ mark_place entry x y) }
 {
-    format!(in alloc; "<g transform=\"translate({x},{y})\">")
+    match entry {
+        Some(number) => {
+            format!(in alloc; "<g data-entry=\"{number}\" transform=\"translate({x},{y})\">")
+        }
+        None => format!(in alloc; "<g transform=\"translate({x},{y})\">"),
+    }
 }
 
 // Appends the drawing of a mark, behind its title.
@@ -105,18 +111,19 @@ fn put_mark(
     alloc: Global,
     sheet: &Sheet,
     column: usize,
-    before: Option<&Moment>,
+    known: &Known<'_>,
     mark: &Mark<'_>,
     text: &mut Vec<u8>,
 ) -> Result<(), AllocError>
-    ensures { OnOk result (text.new.items ≡ text.old.items ++ mark_text (layout sheet.now) column (option_map (λ moment. moment.now) before.entry) mark.now) }
+    ensures { OnOk result (text.new.items ≡ text.old.items ++ mark_text (layout sheet.now) column known.now.entry (option_map (λ moment. moment.now) known.now.before) mark.now) }
 {
     let x = sheet.left_of(column, mark.lane);
     let y = sheet.top_of(column, mark.lane);
-    let placed = place(alloc, x, y)?;
+    let placed = place(alloc, known.entry, x, y)?;
     put_text(text, placed.as_str())?;
     put_title(text, mark.line)?;
-    put_body(alloc, sheet, column, end_of(mark, before), mark, text)?;
+    let end = end_of(mark, known.before);
+    put_body(alloc, sheet, column, end, mark, text)?;
     Ok(())
 }
 
@@ -131,9 +138,10 @@ fn frame(alloc: Global, sheet: &Sheet, column: usize) -> Result<String, AllocErr
     }
 }
 
-// How lanes stand in a column: the waits that go on there, and how the machine stood after it and before it.
+// What is known in a column: the entry of its mark, the waits that go on, and how the machine stood after it and before.
 #[derive(Clone, Copy, Drop)]
 struct Known<'a> {
+    entry: Option<u64>,
     waits: &'a [(Lane, bool)],
     after: Option<&'a Moment>,
     before: Option<&'a Moment>,
@@ -169,12 +177,12 @@ fn put_column(
     known: &Known<'_>,
     text: &mut Vec<u8>,
 ) -> Result<(), AllocError>
-    ensures { OnOk result (text.new.items ≡ text.old.items ++ column_text (layout sheet.now) column known.now.waits.now (option_map (λ moment. moment.now) known.now.after) (option_map (λ moment. moment.now) known.now.before) mark.now) }
+    ensures { OnOk result (text.new.items ≡ text.old.items ++ column_text (layout sheet.now) column known.now.entry known.now.waits.now (option_map (λ moment. moment.now) known.now.after) (option_map (λ moment. moment.now) known.now.before) mark.now) }
 {
     let mut behind = frame(alloc, sheet, column)?;
     put_stood(alloc, sheet, column, known, &mut behind)?;
     put_text(text, behind.as_str())?;
-    put_mark(alloc, sheet, column, known.before, mark, text)?;
+    put_mark(alloc, sheet, column, known, mark, text)?;
     Ok(())
 }
 
@@ -186,6 +194,25 @@ fn counted(entries: usize, mark: &Mark<'_>) -> usize
         entries.saturating_add(1)
     } else {
         entries
+    }
+}
+
+// The number of an entry, with which its line begins.
+fn number_of(line: &str) -> Option<u64>
+    ensures { result ≡ pictures.number_of line.now }
+{
+    let (front, _) = around(" ", line)?;
+    long_number(front)
+}
+
+// The entry of a mark: a play's is the one before it.
+fn entry_with(before: Option<u64>, mark: &Mark<'_>) -> Option<u64>
+    ensures { result ≡ entry_with before mark.now }
+{
+    if is_entry(mark) {
+        number_of(mark.line)
+    } else {
+        before
     }
 }
 
@@ -208,10 +235,13 @@ fn put_columns(
 {
     let mut waits = no_waits(alloc, sheet.lanes.as_slice())?;
     let mut entries: usize = 0;
+    let mut entry = None;
     for (column, mark) in marks.iter().enumerate() {
         let before = moment_after(moments, entries);
         entries = counted(entries, mark);
+        entry = entry_with(entry, mark);
         let known = Known {
+            entry,
             waits: waits.as_slice(),
             after: moment_after(moments, entries),
             before,

@@ -1,5 +1,5 @@
 -- What `lab draw` draws of a text.
-use Rattle.std.specs.Prelude.{◌≡◌, ◌⊎◌, ◌<◌, ◌≤◌, ◌*◌, ◌-◌, max, nat_le, nat_lt, ℕ, List, [], ◌++◌, map, take, drop, length, count_by, codes, decimal, Bool, true, false, if◌then◌else◌, Option, Some, None, unwrap_or, IsSomeAnd, Result, Ok, Err}
+use Rattle.std.specs.Prelude.{◌≡◌, ◌⊎◌, ◌<◌, ◌≤◌, ◌+◌, ◌*◌, ◌-◌, max, nat_le, nat_lt, ℕ, List, [], ◌++◌, map, take, drop, length, count_by, codes, decimal, Bool, true, false, if◌then◌else◌, Option, Some, None, unwrap_or, IsSomeAnd, Result, Ok, Err}
 use Rattle.std.specs.List.{All}
 use Rattle.std.specs.Str.{is_utf8}
 use Rattle.std.specs.Str.Pattern.{FindsText, SplitsAroundMatch}
@@ -17,6 +17,7 @@ use Rattle.lab_lines.specs.Kinds.{IsPlain}
 use Rattle.lab_traces.specs.Says.{IsLine, IsMisread, read_of, says_some, text_of, whole_lines}
 use Rattle.lab_traces.specs.declared.traces.TraceLine.{TraceLine}
 use Rattle.lab_drawing.specs.Callbacks.{missing_callback}
+use Rattle.lab_drawing.specs.Frames.{capped}
 use Rattle.lab_drawing.specs.Html.{html_text}
 use Rattle.lab_drawing.specs.Lanes.{AreLanesOf}
 use Rattle.lab_drawing.specs.Marks.{all_marked, is_entry, told_of}
@@ -95,10 +96,15 @@ IsPicture way origin marks number text =
 
 -- ---- as a page of HTML
 
--- How the machine stands before the first step and behind each, as far as that is known: of a scenario over a bank.
-abbrev pub AreSnapshotsOf : Origin → List Mark → List Snapshot → Type 0
-AreSnapshotsOf (scenario bank text) marks snapshots = (lanes : List Lane) × AreLanesOf marks lanes × (map cells_told snapshots ≡ rows_read lanes bank (scenario_of None text))
-AreSnapshotsOf _ marks snapshots = snapshots ≡ []
+-- How the machine stands before the first step and behind each of the first ones, so many at most, as far as that is known: of a scenario over a bank.
+abbrev pub AreSnapshotsOf : Origin → List Mark → ℕ → List Snapshot → Type 0
+AreSnapshotsOf (scenario bank text) marks most snapshots =
+    (lanes : List Lane) × AreLanesOf marks lanes × (map cells_told snapshots ≡ rows_read lanes bank most (scenario_of None text))
+AreSnapshotsOf _ marks most snapshots = snapshots ≡ []
+
+-- a page of marks, from 0, and those before it have at most so many steps
+abbrev pub most_steps : ℕ → ℕ
+most_steps number = capped (2000 * (number + 1))
 
 -- those before the first step of a page of marks, from 0, and behind each
 abbrev pub snapshots_at : List Mark → List Snapshot → ℕ → List Snapshot
@@ -110,7 +116,7 @@ html_of picture snapshots marks = html_text picture snapshots marks
 
 abbrev pub IsHtml : Goes → Origin → List Mark → ℕ → List ℕ → Type 0
 IsHtml way origin marks number text =
-    (picture : List ℕ) × (snapshots : List Snapshot) × IsPicture way origin marks number picture × AreSnapshotsOf origin marks snapshots
+    (picture : List ℕ) × (snapshots : List Snapshot) × IsPicture way origin marks number picture × AreSnapshotsOf origin marks (most_steps number) snapshots
     × (text ≡ html_of picture (snapshots_at marks snapshots number) (page_at marks number))
 
 -- ---- in pages

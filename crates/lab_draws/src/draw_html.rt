@@ -2,26 +2,28 @@
 ghost use Rattle.std.specs.Prelude.{◌≡◌, IfOk, map};
 ghost use Rattle.evl_plans.specs.Told.{handler_of};
 ghost use Rattle.lab_draws.specs.Draws as draws;
-ghost use Rattle.lab_draws.specs.Draws.{AreSnapshotsOf, IsDrawn, IsHtml, html_of, origin_of};
+ghost use Rattle.lab_draws.specs.Draws.{AreSnapshotsOf, IsDrawn, IsHtml, html_of, most_steps, origin_of};
 
 use crate::draws::{Source, picture_of};
 use evl_plans::Planned;
-use lab_drawing::{Goes, Mark, Snapshot, lanes_of, page, page_snapshots, write_html};
+use lab_drawing::{Goes, Mark, PAGE, Snapshot, lanes_of, page, page_snapshots, write_html};
 use lab_moments::snapshots_of;
 use lab_streams::Form;
 use std::alloc::{AllocError, Global};
 
-// How the machine of a scenario stands before the first step and behind each, over these callbacks.
+// How the machine of a scenario stands before the first step and behind each of the first ones, so many at most, over
+// these callbacks.
 fn scenario_snapshots(
     alloc: Global,
     marks: &[Mark<'_>],
     bank: &[Planned],
     text: &str,
+    most: usize,
 ) -> Result<Vec<Snapshot>, AllocError>
-    ensures { IfOk result (λ all. AreSnapshotsOf (draws.scenario (map handler_of bank.now) text.now) marks.now all.items) }
+    ensures { IfOk result (λ all. AreSnapshotsOf (draws.scenario (map handler_of bank.now) text.now) marks.now most all.items) }
 {
     let lanes = lanes_of(alloc, marks)?;
-    snapshots_of(alloc, bank, text.as_bytes(), lanes.as_slice())
+    snapshots_of(alloc, bank, text.as_bytes(), lanes.as_slice(), most)
 }
 
 // The same as far as the source of marks tells it.
@@ -29,14 +31,22 @@ fn known_snapshots(
     alloc: Global,
     marks: &[Mark<'_>],
     source: Source<'_>,
+    most: usize,
 ) -> Result<Vec<Snapshot>, AllocError>
-    ensures { IfOk result (λ all. AreSnapshotsOf (origin_of source.entry) marks.now all.items) }
+    ensures { IfOk result (λ all. AreSnapshotsOf (origin_of source.entry) marks.now most all.items) }
 {
     match source {
         Source::Trace => Ok(Vec::new(alloc)),
-        Source::Scenario(bank, text) => scenario_snapshots(alloc, marks, bank, text),
+        Source::Scenario(bank, text) => scenario_snapshots(alloc, marks, bank, text, most),
         Source::Callers => Ok(Vec::new(alloc)),
     }
+}
+
+// How many steps a page of marks, from 0, and those before it have at most.
+fn most_steps(number: usize) -> usize
+    ensures { result ≡ most_steps number }
+{
+    PAGE.saturating_mul(number.saturating_add(1))
 }
 
 // The text of a page of HTML.
@@ -62,7 +72,7 @@ fn html_page(
     ensures { IfOk result (λ text. IsHtml goes (origin_of source.entry) marks.now number text.items) }
 {
     let picture = picture_of(alloc, marks, source, goes, number)?;
-    let known = known_snapshots(alloc, marks, source)?;
+    let known = known_snapshots(alloc, marks, source, most_steps(number))?;
     let behind = page_snapshots(marks, known.as_slice(), number);
     write_page(alloc, picture.as_slice(), behind, page(marks, number))
 }

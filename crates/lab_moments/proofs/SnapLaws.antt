@@ -1,5 +1,5 @@
 -- The snapshots of a scenario's steps, one after another.
-use Rattle.std.proofs.Common.{◌≡◌, ◌≢◌, ◌∙◌, ◌++◌, ℕ, true, false, Bool, List, [], ◌∷◌, length, map, append-nil, append_assoc, if◌then◌else◌, refl, sym, ap, arith}
+use Rattle.std.proofs.Common.{◌≡◌, ◌≢◌, ◌∙◌, ◌++◌, ℕ, true, false, Bool, List, [], ◌∷◌, length, map, take, append-nil, append_assoc, if◌then◌else◌, refl, sym, ap, arith}
 use Rattle.std.proofs.lemmas.List.{length-map, map-append}
 use Rattle.evl_base.specs.declared.board.Board.{Board}
 use Rattle.evl_kernel.specs.state.KernelViews.{IsOpened, KernelView}
@@ -38,15 +38,15 @@ chosen true x y h = refl
 chosen false x y h = absurd (h refl)
 
 -- a script over these callbacks, by what was opened of it
-pub opened_rows : (lanes : List Lane) (bank : List Planned) (script : Script) (board : Board) (limit : ℕ) (steps : List Step) (kernel : KernelView Planned)
-    → board ≡ script.board → limit ≡ script.limit → steps ≡ script.steps → can_open board (length bank) limit ≢ false
+pub opened_rows : (lanes : List Lane) (bank : List Planned) (most : ℕ) (script : Script) (board : Board) (limit : ℕ) (steps : List Step) (kernel : KernelView Planned)
+    → board ≡ script.board → limit ≡ script.limit → steps ≡ take most script.steps → can_open board (length bank) limit ≢ false
     → IsOpened (λ p. p.kinds.0) (λ p. p.plan) board bank limit kernel
-    → rows_through lanes kernel.limit (moment kernel) steps ≡ script_rows lanes (map handler_of bank) script
-opened_rows lanes bank script board limit steps kernel b l s can k =
+    → rows_through lanes kernel.limit (moment kernel) steps ≡ script_rows lanes (map handler_of bank) most script
+opened_rows lanes bank most script board limit steps kernel b l s can k =
     let start : moment kernel ≡ beginning (opening board (map handler_of bank)) =
     (λ i. record { entries = length (k.entries i); state = (k.state ∙ (λ j. opening (k.board_is j) (k.bank_is j))) i }) in
     let count : length (map handler_of bank) ≡ length bank = length-map bank handler_of in
     let open_too : can_open script.board (length (map handler_of bank)) script.limit ≢ false = λ e. can ((λ i. can_open (b i) (sym count i) (l i)) ∙ e) in
     (λ i. rows_through lanes ((k.limit_is ∙ l) i) (start i) (s i))
-    ∙ ap (λ (o : Board). rows_through lanes script.limit (beginning (opening o (map handler_of bank))) script.steps) b
-    ∙ sym (chosen (can_open script.board (length (map handler_of bank)) script.limit) (rows_through lanes script.limit (beginning (opening script.board (map handler_of bank))) script.steps) [] open_too)
+    ∙ ap (λ (o : Board). rows_through lanes script.limit (beginning (opening o (map handler_of bank))) (take most script.steps)) b
+    ∙ sym (chosen (can_open script.board (length (map handler_of bank)) script.limit) (rows_through lanes script.limit (beginning (opening script.board (map handler_of bank))) (take most script.steps)) [] open_too)

@@ -1,5 +1,5 @@
 -- The texts of a snapshot's cells.
-use Rattle.std.specs.Prelude.{ℕ, ℤ, Bool, List, [], ◌++◌, codes, decimal, if◌then◌else◌, Option, Some, None, option_map}
+use Rattle.std.specs.Prelude.{ℕ, ℤ, ◌==◌, Bool, List, [], ◌++◌, codes, decimal, if◌then◌else◌, Option, Some, None, option_map}
 use Rattle.std.specs.Fmt.{signed_decimal}
 use Rattle.std.specs.Option.{option_map_or}
 use Rattle.evl_base.specs.Policy.{policy_text}
@@ -11,7 +11,7 @@ use Rattle.evl_kernel.specs.declared.waits.Awaited.{Awaited}
 use Rattle.evl_kernel.specs.declared.waits.Awaited.TheVariants as awaited
 use Rattle.evl_kernel.specs.state.States.{State}
 use Rattle.evl_kernel.specs.waiting.Waits.{has_ended, has_timed_out, wait_at}
-use Rattle.lab_drawing.specs.Frames.{date_text}
+use Rattle.lab_drawing.specs.Frames.{date_text, lender_text, letter_of, own_rank, priority_of}
 use Rattle.lab_drawing.specs.declared.moments.Condition.{Condition}
 use Rattle.lab_drawing.specs.declared.moments.Condition.TheVariants.{Blocked, Ready, Picked, Stalled, Pending, Owned, Handed}
 use Rattle.lab_drawing.specs.declared.moments.Standing.{Standing}
@@ -32,11 +32,13 @@ abbrev pub policy_cell : Option Policy → List ℕ
 policy_cell None = codes "-"
 policy_cell (Some policy) = policy_text policy
 
--- a rank, and the thread that lends it
-abbrev pub rank_cell : Option ℕ → Option ℕ → List ℕ
-rank_cell None lender = codes "-"
-rank_cell (Some rank) None = decimal rank
-rank_cell (Some rank) (Some thread) = decimal rank ++ (codes " of T" ++ decimal thread)
+-- an effective rank, as a picture tells it: the policy's own, or that by others
+abbrev pub ranked_text : Policy → ℕ → Option ℕ → List ℕ
+ranked_text policy rank lender = if own_rank policy == rank then letter_of policy ++ decimal (priority_of rank) else lender_text rank lender
+
+abbrev pub rank_cell : Option Policy → Option ℕ → Option ℕ → List ℕ
+rank_cell (Some policy) (Some rank) lender = ranked_text policy rank lender
+rank_cell _ _ lender = codes "-"
 
 -- what is waited for
 abbrev pub awaited_text : Awaited → List ℕ

@@ -1,5 +1,5 @@
 -- How a machine stands behind each step, as the cells of a table.
-use Rattle.std.specs.Prelude.{ℕ, List, [], ◌∷◌, ◌++◌, length, codes, decimal, flat_map, map, slice_get, if◌then◌else◌, Option, option_and_then, option_map, Result, Ok, Err}
+use Rattle.std.specs.Prelude.{ℕ, List, [], ◌∷◌, ◌++◌, length, codes, decimal, flat_map, map, slice_get, take, if◌then◌else◌, Option, option_and_then, option_map, Result, Ok, Err}
 use Rattle.std.specs.Option.{option_map_or}
 use Rattle.evl_base.specs.Stage.{stage_text}
 use Rattle.evl_base.specs.declared.policy.Policy.{Policy}
@@ -48,7 +48,7 @@ lender_told standing = option_and_then (λ one. one.lender) standing
 
 -- of a thread that stands so its policy, its rank, and how it stands
 abbrev pub standing_cells : Option Standing → Cells
-standing_cells standing = (Next, policy_cell (policy_told standing)) ∷ (Next, rank_cell (rank_told standing) (lender_told standing)) ∷ (Next, thread_text standing) ∷ []
+standing_cells standing = (Next, policy_cell (policy_told standing)) ∷ (Next, rank_cell (policy_told standing) (rank_told standing) (lender_told standing)) ∷ (Next, thread_text standing) ∷ []
 
 -- its name, its stage, those, and what it waits for
 abbrev pub thread_row : State → ℕ → Cells
@@ -94,14 +94,14 @@ rows_from lanes limit m (step ∷ rest) = rows_of lanes (turn limit m step).afte
 abbrev pub rows_through : List Lane → ℕ → runs.Moment → List Step → List Cells
 rows_through lanes limit m steps = rows_of lanes m.state ∷ rows_from lanes limit m steps
 
--- of a script over these callbacks, where a kernel can be opened so: it can't over more callbacks than one has
-abbrev pub script_rows : List Lane → List Handler → Script → List Cells
-script_rows lanes bank script =
+-- of the first steps of a script, so many at most, over these callbacks, where a kernel can be opened so: it can't over more callbacks than one has
+abbrev pub script_rows : List Lane → List Handler → ℕ → Script → List Cells
+script_rows lanes bank most script =
     if can_open script.board (length bank) script.limit
-    then rows_through lanes script.limit (beginning (opening script.board bank)) script.steps
+    then rows_through lanes script.limit (beginning (opening script.board bank)) (take most script.steps)
     else []
 
 -- of what a text is read as; of no script nothing
-abbrev pub rows_read : List Lane → List Handler → Result Script Fault → List Cells
-rows_read lanes bank (Ok script) = script_rows lanes bank script
-rows_read lanes bank (Err fault) = []
+abbrev pub rows_read : List Lane → List Handler → ℕ → Result Script Fault → List Cells
+rows_read lanes bank most (Ok script) = script_rows lanes bank most script
+rows_read lanes bank most (Err fault) = []

@@ -1,12 +1,13 @@
 //! The texts of a snapshot's cells.
 ghost use Rattle.std.specs.Prelude.{◌≡◌, option_map, IfOk, string_bytes};
+ghost use Rattle.lab_drawing.specs.Frames as frames;
 ghost use Rattle.lab_moments.specs.Cells as cells;
 ghost use Rattle.lab_moments.specs.Cells.{awaited_text, bits_text, bytes_text, condition_text, count_text, ended_text, policy_cell, rank_cell, standing_text, thread_text, timer_text, wait_cell};
 
 use evl_base::{Policy, ThreadId};
 use evl_clock::TimerState;
 use evl_kernel::{Awaited, KernelOf};
-use lab_drawing::{Condition, Standing, date_text};
+use lab_drawing::{Condition, Standing, date_text, own_rank};
 use std::alloc::{AllocError, Global};
 
 // The word of an attached thread's condition.
@@ -41,18 +42,71 @@ pub(crate) fn policy_cell(alloc: Global, policy: Option<Policy>) -> Result<Strin
     }
 }
 
-/// A rank, and the thread that lends it.
+// The first letter of a policy.
+fn letter_of(policy: Policy) -> &'static str
+    ensures { result.now ≡ frames.letter_of policy }
+{
+    match policy {
+        Policy::Fifo(_) => "f",
+        Policy::Rr { .. } => "r",
+        Policy::Quota { .. } => "q",
+        Policy::Weak(_) => "w",
+    }
+}
+
+// The priority that a rank is of.
+fn priority_of(rank: u16) -> u16
+    ensures { result ≡ frames.priority_of rank }
+{
+    if rank >= 512 {
+        rank - 512
+    } else if rank >= 256 {
+        rank - 256
+    } else {
+        rank
+    }
+}
+
+// A rank by others: behind an arrow the priority that a thread lends, or that of a ceiling.
+fn lender_text(alloc: Global, rank: u16, lender: Option<u16>) -> Result<String, AllocError>
+    ensures { IfOk result (λ text. string_bytes text ≡ frames.lender_text rank lender) }
+{
+    let priority = priority_of(rank);
+    match lender {
+        Some(thread) => format!(in alloc; "↑{priority}T{thread}"),
+        None => format!(in alloc; "c{priority}"),
+    }
+}
+
+// An effective rank: the policy's own, or that by others.
+fn ranked_text(
+    alloc: Global,
+    policy: Policy,
+    rank: u16,
+    lender: Option<u16>,
+) -> Result<String, AllocError>
+    ensures { IfOk result (λ text. string_bytes text ≡ cells.ranked_text policy rank lender) }
+{
+    if own_rank(policy) != rank {
+        return lender_text(alloc, rank, lender);
+    }
+    let letter = letter_of(policy);
+    let priority = priority_of(rank);
+    format!(in alloc; "{letter}{priority}")
+}
+
+/// A thread's effective rank, as a picture tells it.
 pub(crate) fn rank_cell(
     alloc: Global,
+    policy: Option<Policy>,
     rank: Option<u16>,
     lender: Option<u16>,
 ) -> Result<String, AllocError>
-    ensures { IfOk result (λ text. string_bytes text ≡ rank_cell rank lender) }
+    ensures { IfOk result (λ text. string_bytes text ≡ rank_cell policy rank lender) }
 {
-    match (rank, lender) {
-        (None, _) => String::from_str(alloc, "-"),
-        (Some(rank), None) => format!(in alloc; "{rank}"),
-        (Some(rank), Some(thread)) => format!(in alloc; "{rank} of T{thread}"),
+    match (policy, rank) {
+        (Some(policy), Some(rank)) => ranked_text(alloc, policy, rank, lender),
+        _ => String::from_str(alloc, "-"),
     }
 }
 

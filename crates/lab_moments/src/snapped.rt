@@ -79,16 +79,18 @@ fn snap_steps(
     Ok(snapshots)
 }
 
-// Plays a scenario. Over more callbacks than a kernel has nothing is told.
+// Plays the first steps of a scenario, so many at most. Over more callbacks than a kernel has nothing is told.
 fn play(
     alloc: Global,
     scenario: Scenario,
     bank: Vec<Planned>,
     lanes: &[Lane],
+    most: usize,
 ) -> Result<Vec<Snapshot>, AllocError>
-    ensures { IfOk result (λ all. map cells_told all.items ≡ script_rows lanes.now (map handler_of bank.items) scenario) }
+    ensures { IfOk result (λ all. map cells_told all.items ≡ script_rows lanes.now (map handler_of bank.items) most scenario) }
 {
-    let (board, limit, steps) = scenario.into_parts();
+    let (board, limit, mut steps) = scenario.into_parts();
+    steps.truncate(most);
     let below = below_steps(steps.as_slice());
     match PlannedKernel::new(alloc, board, bank, limit) {
         Ok(mut kernel) => {
@@ -101,20 +103,21 @@ fn play(
     }
 }
 
-/// How the machine of a scenario's text stands before its first step and behind each, played over copies of these
-/// callbacks: a row for each lane, and one for the date. Of a text that is no scenario, and over more than 64
-/// callbacks, nothing is told. `AllocError` where memory couldn't grow.
+/// How the machine of a scenario's text stands before its first step and behind each of the first ones, so many at most,
+/// played over copies of these callbacks: a row for each lane, and one for the date. Of a text that is no scenario, and
+/// over more than 64 callbacks, nothing is told. `AllocError` where memory couldn't grow.
 pub fn snapshots_of(
     alloc: Global,
     bank: &[Planned],
     text: &[u8],
     lanes: &[Lane],
+    most: usize,
 ) -> Result<Vec<Snapshot>, AllocError>
-    ensures { IfOk result (λ all. map cells_told all.items ≡ rows_read lanes.now (map handler_of bank.now) (scenario_of None text.now)) }
+    ensures { IfOk result (λ all. map cells_told all.items ≡ rows_read lanes.now (map handler_of bank.now) most (scenario_of None text.now)) }
 {
     let own = copied_bank(alloc, bank)?;
     match read_scenario(alloc, text, None) {
-        Ok(scenario) => play(alloc, scenario, own, lanes),
+        Ok(scenario) => play(alloc, scenario, own, lanes, most),
         Err(Fault::Memory) => Err(AllocError),
         Err(_) => Ok(Vec::new(alloc)),
     }

@@ -60,7 +60,12 @@ fn put_standing(
         Place::Next,
         policy_cell(alloc, policy_told(standing))?,
     )?;
-    let rank = rank_cell(alloc, rank_told(standing), lender_told(standing))?;
+    let rank = rank_cell(
+        alloc,
+        policy_told(standing),
+        rank_told(standing),
+        lender_told(standing),
+    )?;
     put_cell(cells, Place::Next, rank)?;
     let stands = String::from_str(alloc, thread_text(standing))?;
     put_cell(cells, Place::Next, stands)?;

@@ -1,12 +1,13 @@
 use Rattle.std.proofs.Common.{◌≡◌, [], ◌++◌, count_by, drop, take}
 use Rattle.lab_drawing.specs.Frames.{layout}
 use Rattle.lab_drawing.specs.Marks.{is_entry}
-use Rattle.lab_drawing.specs.Pictures.{columns_text, waits_of}
+use Rattle.lab_drawing.specs.Pictures.{columns_text, entry_of, waits_of}
 use Rattle.lab_drawing.proofs.svg.put_columns.Given as goal
 
 abbrev pub invariant-loop-column : goal.invariant-loop-column
 invariant-loop-column l = record {
   waits : l.waits.items ≡ waits_of l.sheet.lanes.items (take l.column l.marks);
   entries : l.entries ≡ count_by is_entry (take l.column l.marks);
+  entry : l.entry ≡ entry_of (take l.column l.marks);
   text : l.text.items ++ columns_text (layout l.sheet) l.moments (take l.column l.marks) (drop l.column l.marks) ≡ l.initial.text.items ++ columns_text (layout l.sheet) l.moments [] l.marks;
 }

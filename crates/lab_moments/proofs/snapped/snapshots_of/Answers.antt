@@ -8,5 +8,5 @@ use Rattle.lab_moments.proofs.snapped.snapshots_of.Goals as goal
 
 pub returns-in-Ok : goal.returns-in-Ok
 returns-in-Ok c =
-    subst (λ (read : Result Script Fault). IfOk c.play.result (λ all. map cells_told all.items ≡ rows_read c.args.lanes.now (map handler_of c.args.bank.now) read)) (sym c.in-Ok.ensures.ok)
-    (subst (λ (bank : List Handler). IfOk c.play.result (λ all. map cells_told all.items ≡ script_rows c.args.lanes.now bank c.in-Ok.scenario)) c.in_ok-own.ensures c.play.ensures)
+    subst (λ (read : Result Script Fault). IfOk c.play.result (λ all. map cells_told all.items ≡ rows_read c.args.lanes.now (map handler_of c.args.bank.now) c.args.most read)) (sym c.in-Ok.ensures.ok)
+    (subst (λ (bank : List Handler). IfOk c.play.result (λ all. map cells_told all.items ≡ script_rows c.args.lanes.now bank c.args.most c.in-Ok.scenario)) c.in_ok-own.ensures c.play.ensures)
