@@ -7,7 +7,6 @@ use Rattle.lab_kinds.specs.Reports.{Reports}
 use Rattle.lab_kinds.specs.declared.kinds.TextKind.{TextKind}
 use Rattle.lab_kinds.specs.declared.kinds.TextKind.TheVariants as kind
 use Rattle.lab_lines.specs.Kinds.{IsPlain, IsUnread}
-use Rattle.lab_step_texts.specs.Kinds.{asks_steps}
 use Rattle.lab_traces.specs.Parts.{around}
 use Rattle.lab_lines.specs.declared.texts.LinesFault.{LinesFault}
 use Rattle.lab_streams.specs.Readings.{Reading}
@@ -40,17 +39,9 @@ ExplainsKind own name text said =
     (report : List ℕ) × (at_fault : Bool) × Reports own name text [] report at_fault
     × MatchBool at_fault ((line : List ℕ) × IsFirstLine report line × (said ≡ fault_text name line)) (said ≡ [])
 
--- of one that is gone through step by step, which `lab check` doesn't know, nothing
-abbrev pub is_of_steps : TextKind → List ℕ → Bool
-is_of_steps kind.Orders text = asks_steps text
-is_of_steps _ text = false
-
-abbrev pub ExplainsKnown : TextKind → List ℕ → List ℕ → List ℕ → Type 0
-ExplainsKnown own name text said = MatchBool (is_of_steps own text) (said ≡ []) (ExplainsKind own name text said)
-
 -- of one that the part doesn't take nothing
 abbrev pub ExplainsText : Takes → List ℕ → List ℕ → List ℕ → Type 0
-ExplainsText own name text said = MatchBool (is_taken own (kind_of text)) (ExplainsKnown (kind_of text) name text said) (said ≡ [])
+ExplainsText own name text said = MatchBool (is_taken own (kind_of text)) (ExplainsKind (kind_of text) name text said) (said ≡ [])
 
 -- of what stands for a text; of lines that can't be read the part has told the place
 abbrev pub ExplainsGiven : Takes → List ℕ → List ℕ → List ℕ → Type 0

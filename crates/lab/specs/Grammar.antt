@@ -57,7 +57,7 @@ check_part = part (codes "check") (bank_rule ∷ free_rule (codes "json") ∷ re
 
 unfoldable pub draw_part : Shape
 draw_part =
-    part (codes "draw") (bank_rule ∷ mark_rule (codes "svg") ∷ mark_rule (codes "html") ∷ mark_rule (codes "perfetto") ∷ mark_rule (codes "csv") ∷ mark_rule (codes "lanes")
+    part (codes "draw") (bank_rule ∷ number_rule (codes "outcome") (pos 1000000) ∷ mark_rule (codes "svg") ∷ mark_rule (codes "html") ∷ mark_rule (codes "perfetto") ∷ mark_rule (codes "csv") ∷ mark_rule (codes "lanes")
     ∷ mark_rule (codes "down") ∷ mark_rule (codes "across") ∷ number_rule (codes "upto") (pos 1000000) ∷ number_rule (codes "page") (pos 1000000) ∷ file_rule ∷ [])
 
 unfoldable pub play_part : Shape
@@ -74,7 +74,7 @@ live_part = part (codes "live") (bank_rule ∷ limit_rule ∷ free_rule (codes "
 unfoldable pub orders_part : Shape
 orders_part =
     part (codes "orders") (bank_rule ∷ number_rule (codes "most") (pos 100000000) ∷ number_rule (codes "outcome") (pos 1000000) ∷ number_rule (codes "state") (pos 1000000)
-    ∷ free_rule (codes "first") ∷ text_rule (codes "order") ∷ free_rule (codes "json") ∷ file_rule ∷ [])
+    ∷ free_rule (codes "ask") ∷ free_rule (codes "first") ∷ text_rule (codes "order") ∷ free_rule (codes "json") ∷ file_rule ∷ [])
 
 unfoldable pub callers_part : Shape
 callers_part = part (codes "callers") (bank_rule ∷ limit_rule ∷ file_rule ∷ [])

@@ -1,3 +1,4 @@
 pub mod Explains
 pub mod Grammar
 pub mod Helps
+pub mod Outcomes

@@ -293,6 +293,18 @@ fn first_word<'a>(alloc: Global) -> Arg<'a>
         )
 }
 
+// Whether only what is asked is looked for.
+fn ask_word<'a>(alloc: Global) -> Arg<'a>
+    ensures { IsWord (free_rule (codes "ask")) result }
+{
+    Arg::new(alloc, "ask")
+        .long("ask")
+        .action(ArgAction::SetTrue)
+        .help(
+            "Tells what came of [ask] alone, and forgets the answers that it doesn't ask for: faster",
+        )
+}
+
 // The order whose scenario is printed.
 fn order_word<'a>(alloc: Global) -> Arg<'a>
     ensures { IsWord (text_rule (codes "order")) result }
@@ -325,7 +337,8 @@ fn orders_command<'a>(alloc: Global) -> Result<Command<'a>, AllocError>
     let with_most = over_bank.arg(most_word(alloc))?;
     let with_outcome = with_most.arg(outcome_word(alloc))?;
     let with_state = with_outcome.arg(state_word(alloc))?;
-    let with_first = with_state.arg(first_word(alloc))?;
+    let with_ask = with_state.arg(ask_word(alloc))?;
+    let with_first = with_ask.arg(first_word(alloc))?;
     let with_order = with_first.arg(order_word(alloc))?;
     let with_json = with_order.arg(orders_json_word(alloc))?;
     let with_file = with_json.arg(callers_file(alloc))?;

@@ -120,6 +120,17 @@ fn page_word<'a>(alloc: Global) -> Arg<'a>
         .help("Which page of an SVG of more than 2000 marks, from 1")
 }
 
+// The outcome that is drawn.
+fn drawn_word<'a>(alloc: Global) -> Arg<'a>
+    ensures { IsWord (number_rule (codes "outcome") (pos 1000000)) result }
+{
+    Arg::new(alloc, "outcome")
+        .long("outcome")
+        .value_name("N")
+        .value_parser(to_a_million())
+        .help("Of a text for lab orders, the scenario of the outcome with this number")
+}
+
 // The text that is drawn.
 fn drawn_file<'a>(alloc: Global) -> Arg<'a>
     ensures { IsWord file_rule result }
@@ -137,7 +148,8 @@ pub fn draw_command<'a>(alloc: Global) -> Result<Command<'a>, AllocError>
         "Draws a trace: a mark for each call and each play",
     );
     let over_bank = command.arg(bank_word(alloc))?;
-    let with_one = over_bank.arg(svg_word(alloc)?)?;
+    let of_outcome = over_bank.arg(drawn_word(alloc))?;
+    let with_one = of_outcome.arg(svg_word(alloc)?)?;
     let with_html = with_one.arg(html_word(alloc)?)?;
     let with_two = with_html.arg(perfetto_word(alloc)?)?;
     let with_three = with_two.arg(csv_word(alloc)?)?;

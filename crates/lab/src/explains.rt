@@ -4,7 +4,7 @@ ghost use Rattle.std.specs.Io.KnownBytes.{Appends};
 ghost use Rattle.lab_drives.specs.Callers.{TellsCallers};
 ghost use Rattle.lab_draws.specs.Draws.{Draws};
 ghost use Rattle.lab.specs.Explains as explains;
-ghost use Rattle.lab.specs.Explains.{Behind, Explains, ExplainsEach, ExplainsFile, ExplainsGiven, ExplainsKind, ExplainsKnown, ExplainsText, IsFirstLine, fault_text, named};
+ghost use Rattle.lab.specs.Explains.{Behind, Explains, ExplainsEach, ExplainsFile, ExplainsGiven, ExplainsKind, ExplainsText, IsFirstLine, fault_text, named};
 ghost use Rattle.lab_asks.specs.Orders.{TellsOrders};
 ghost use Rattle.lab_notes.specs.States.{TellsUnlessRefused};
 ghost use Rattle.lab_plays.specs.Plays.{PlaysUnlessRefused};
@@ -18,7 +18,6 @@ use lab_kinds::{TextKind, kind_of, report_kind};
 use lab_lines::{LinesFault, plain_text};
 use lab_notes::tell_states;
 use lab_plays::play_files;
-use lab_step_texts::asks_steps;
 use lab_streams::{AT_FAULT, Asked, Drawing, Driving, Playing, Stream, read_file};
 use std::alloc::{AllocError, Global};
 use std::io::{self, Read};
@@ -88,32 +87,6 @@ fn explained_kind(
     }
 }
 
-// Whether a text of a kind is gone through step by step: `lab check` doesn't know such texts.
-fn is_of_steps(alloc: Global, kind: TextKind, text: &[u8]) -> Result<bool, AllocError>
-    ensures { IfOk result (λ is. is ≡ explains.is_of_steps kind text.now) }
-{
-    match kind {
-        TextKind::Orders => asks_steps(alloc, text),
-        TextKind::Scenario | TextKind::Callers | TextKind::Bank => Ok(false),
-    }
-}
-
-// The same of a text that `lab check` knows.
-fn explained_known(
-    alloc: Global,
-    kind: TextKind,
-    name: &str,
-    text: &[u8],
-) -> Result<String, AllocError>
-    ensures { IfOk result (λ said. ExplainsKnown kind name.now text.now (string_bytes said)) }
-{
-    if is_of_steps(alloc, kind, text)? {
-        Ok(String::new(alloc))
-    } else {
-        explained_kind(alloc, kind, name, text)
-    }
-}
-
 // The same of a text that the part takes.
 fn explained_text(
     alloc: Global,
@@ -125,7 +98,7 @@ fn explained_text(
 {
     let kind = kind_of(alloc, text)?;
     if is_taken(takes, kind) {
-        explained_known(alloc, kind, name, text)
+        explained_kind(alloc, kind, name, text)
     } else {
         Ok(String::new(alloc))
     }

@@ -14,6 +14,7 @@ mod draw_commands;
 mod explains;
 mod helps;
 mod options;
+mod outcomes;
 mod parts;
 
 use clap::Error;

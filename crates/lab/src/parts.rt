@@ -6,12 +6,14 @@ use crate::explains::{
     explained_callers, explained_draws, explained_orders, explained_plays, explained_states,
 };
 use crate::helps::{help, help_json};
+use crate::outcomes::draw_outcome;
 use clap::ArgMatches;
 use lab_drives::live;
 use lab_notes::note_files;
 use lab_plays::check_files;
 use lab_streams::{
-    REFUSED, Source, Stream, asked_of, convert, converting_of, drawing_of, driving_of, playing_of,
+    REFUSED, Shown, Source, Stream, asked_of, convert, converting_of, drawing_of, driving_of,
+    playing_of,
 };
 use std::io;
 use std::rt::Files;
@@ -19,6 +21,24 @@ use std::rt::Files;
 // Whether a word that takes no value stands there.
 fn is_set(matches: &ArgMatches<'_>, id: &str) -> bool {
     matches.get_one(id).unwrap_or(false)
+}
+
+// Draws what a file holds; where an outcome is asked for, that of the file's callers.
+fn do_draw<R: Files + AllocGlobal, I: Source, O: Stream, E: Stream>(
+    rt: &R,
+    matches: &ArgMatches<'_>,
+    input: &mut I,
+    out: &mut O,
+    err: &mut E,
+) -> io::Result<u8>
+    ensures early { IfErr result (EndsEarly (I.has_failed input.new) (O.has_failed out.new) (E.has_failed err.new)) }
+{
+    let drawing = drawing_of(matches);
+    let asked = asked_of(matches);
+    match asked.shown {
+        Shown::Outcome(_) => draw_outcome(rt, &asked, drawing, input, out, err),
+        _ => explained_draws(rt, drawing, asked.bank, asked.file, input, out, err),
+    }
 }
 
 /// Does what the words ask for, and answers the status. It ends early only for want of memory, or where a stream has
@@ -41,15 +61,7 @@ pub fn do_part<R: Files + AllocGlobal, I: Source, O: Stream, E: Stream>(
                 check_files(rt, inner.get_str("bank"), files, out, err)
             }
         }
-        Some(("draw", inner)) => explained_draws(
-            rt,
-            drawing_of(inner),
-            inner.get_str("bank"),
-            inner.get_str("FILE"),
-            input,
-            out,
-            err,
-        ),
+        Some(("draw", inner)) => do_draw(rt, inner, input, out, err),
         Some(("play", inner)) => {
             let files = inner.get_strs("FILE").unwrap_or(&[]);
             let playing = playing_of(inner);
