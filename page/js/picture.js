@@ -3,7 +3,6 @@
 // a drawing of its own, which is made only once it is seen. Of one that goes down: a row of lanes for each line of the
 // trace, beside which the trace stands. Its key is beside both.
 import { $, all, now, escaped } from './now.js';
-import { rank_text } from './states.js';
 
 const PITCH = 30, LEFT = 104, ABOVE = 50, BELOW = 34, EACH = 5, LEAST = .85;
 /** @typedef {{ first: number, low: number, top: number, parts: (() => string)[], box?: any }} Band */
@@ -35,9 +34,8 @@ function lanes_of(lines) {
   }
   return { lanes, found, end };
 }
-/** A line of the picture with ranks as the policy writes them. @param {string} line */
-const ranked = line =>
-  line.replace(/font-size="7">(\d+)</, (_, n) => `font-size="9" font-weight="bold">${rank_text(+n)}<`);
+/** A line of the picture with bold ranks. @param {string} line */
+const ranked = line => line.replace(/font-size="7">(?=[frqw])/g, 'font-size="7" font-weight="bold">');
 /** A mark with its number below it, and the number of a played line above. @param {string} line @param {Band} band */
 function mark_of(line, says, number, band, y) {
   const played = says.match(/^\s+line (\d+) /), entry = /^\d/.test(says);
@@ -60,7 +58,9 @@ function read_picture(text) {
     while (at > 0 && y < bands[at].top) at--;
     const says = line.match(/<title>([^<]*)/)?.[1], band = bands[at], is_thread = lanes.get(y)?.startsWith('T');
     if (says === undefined) { band.parts.push(() => is_thread ? ranked(line) : line); continue; }
-    number = /^\d+ T/.test(says) ? parseInt(says) : says.startsWith('- ') ? number + 1 : number;
+    // (a call that found the history full has no entry, and nor have its plays)
+    const entry = line.match(/^<g data-entry="(\d+)"/);
+    number = entry ? +entry[1] : says.startsWith('- ') ? number + 1 : number;
     const mine = number, column = columns.get(number);
     if (column) column.push({ x, band });
     else columns.set(number, [{ x, band }]);
