@@ -148,6 +148,50 @@ async function goes(page) {
   await page.way('');
   await browser.click('#back-to');
 }
+/** In the page: clicks each mark of a picture, then each line of its trace, and reports what chose not the other. */
+const CHOOSE = `(async () => {
+  const turn = () => new Promise(done => requestAnimationFrame(() => requestAnimationFrame(done)));
+  const says = it => it.textContent.replace(/\\s+/g, ' ').trim(), amiss = [];
+  const marks = [...document.querySelectorAll('#drawing .mark')].map(it =>
+    ({ it, step: it.dataset.step, title: says(it.querySelector('title')) }));
+  const chosen = async it => {
+    it.dispatchEvent(new MouseEvent('click', { bubbles: true }));
+    await turn();
+    return [...document.querySelectorAll('#entries [aria-selected=true]')].map(says);
+  };
+  const same = step => marks.filter(mark => mark.step === step);
+  for (const { it, step, title } of marks) {
+    const lines = await chosen(it), here = document.querySelectorAll('#drawing .here').length;
+    if (!lines.includes(title) || here !== same(step).length) amiss.push([title, here, lines]);
+  }
+  for (const it of document.querySelectorAll('#entries [data-step]')) {
+    const titles = same(it.dataset.step).map(mark => mark.title), lines = await chosen(it);
+    if (String(titles) !== String(lines)) amiss.push([titles, lines]);
+  }
+  return { amiss, marks: marks.length, plays: marks.filter(it => it.title.startsWith('line ')).length };
+})()`;
+/** A mark chooses its line of the trace, a play's the call too, and a line its marks; also of calls with no entry. */
+async function marks(page) {
+  const { browser } = page, seen = { marks: 0, plays: 0 }, file = 'crates/test_rows/data/scenarios/full_history.toml';
+  const each_chooses = async title => {
+    const told = await browser.evaluate(CHOOSE);
+    assert.deepEqual(told.amiss, [], title);
+    assert.ok(told.marks, title);
+    for (const key in seen) seen[key] += told[key];
+  };
+  await page.way('across');
+  for (const title of ['1. An interrupt', '2. A stalled', '3. A callback', '4. A callback', 'Racing callers 1']) {
+    await page.lesson(title);
+    await each_chooses(title);
+  }
+  await page.lesson('1. An interrupt');
+  await page.put(fs.readFileSync(path.join(page.top, file), 'utf8'));
+  assert.match(await page.see('lines'), /- T\d .* -> HistoryFull/);
+  await each_chooses(file);
+  await browser.click('#back-to');
+  await page.way('');
+  return `${seen.marks} marks, ${seen.plays} of them plays, and their lines choose one another`;
+}
 /** The table has each thread after each step, and how its wait is. */
 async function tables(page) {
   const { browser } = page;
@@ -839,5 +883,5 @@ async function owns(page) {
   await page.lesson('5. A timer');
 }
 
-export const WAYS = { opens, walks, goes, tables, edits, completes, expects, seeks, lines, drives, orders, atomic, moments, stops, stops_play, callers, pages,
+export const WAYS = { opens, walks, goes, marks, tables, edits, completes, expects, seeks, lines, drives, orders, atomic, moments, stops, stops_play, callers, pages,
   long_texts, handlers, exercises, owns, shares, codes, keyboard, widths, keeps, compares };
