@@ -204,7 +204,9 @@ async function turn_page(to, again = false) {
   if (mine !== now.turn || shown_picture.page !== page) return;
   put_picture(svg.out);
   const first = marks_before.lastIndexOf((page - 1) * MARKS);
-  if (!lines_of(now.shown).some(i => page_of(i) === page)) show_in($('lines'), trace.line_at(first));
+  // The lines have other heights now: the step that is looked at stays in view.
+  const mark = lines_of(now.shown).find(i => page_of(i) === page) ?? first;
+  show_in($('lines'), trace.line_at(mark));
 }
 /** The picture goes another way. */
 export const draw_again = () => shown_picture.out && turn_page(shown_picture.page, true);
