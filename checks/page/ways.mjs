@@ -143,7 +143,9 @@ async function goes(page) {
   await page.put(board + put.repeat(61));
   assert.deepEqual([await count('#entries svg'), await count('#drawing .mark')], [0, 61]);
   await page.way('down');
+  await browser.until(`document.querySelectorAll('#entries svg').length`);
   await browser.click('[data-walk="last"]');
+  await page.step(61);
   await browser.until(`document.querySelector('#entries [data-step="61"] title')`);
   await page.way('');
   await browser.click('#back-to');
