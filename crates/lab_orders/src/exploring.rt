@@ -57,7 +57,7 @@ fn add_next<W: World>(
         return Err(OrdersError::Memory);
     };
     match reached {
-        Some(moment) => match add_orders(alloc, world, next, moment, node, caller) {
+        Some(reached) => match add_orders(alloc, world, next, reached, node, caller) {
             Ok(()) => Ok(true),
             Err(error) => Err(error),
         },

@@ -32,7 +32,7 @@ pub fn lead<W: World>(
             Err(error) => return Err(error),
         };
         match reached {
-            Some(next) => at = next,
+            Some(next) => at = next.at,
             None => return Ok(Led::Stuck(made)),
         }
     }

@@ -5,7 +5,7 @@ ghost use Rattle.lab_orders.specs.Fronts.{AddsSteps, AreFit, states};
 ghost use Rattle.lab_orders.specs.Levels.{IsApart, IsIndexed};
 ghost use Rattle.lab_orders.specs.Weights.{count_limit, weight};
 
-use crate::nodes::Node;
+use crate::nodes::{Node, Reached};
 use crate::worlds::World;
 use std::alloc::{AllocError, Global};
 use std::collections::HashMap;
@@ -49,16 +49,22 @@ impl<M> Level<M> {
     }
 }
 
-// Whether the node at a place is at a moment of the same state.
-fn is_at<W: World>(world: &W, nodes: &[Node<W::Moment>], place: usize, moment: &W::Moment) -> bool
+// Whether the node at a place is at a moment of the same state as the one that a step has just led to.
+fn is_at<W: World>(
+    world: &W,
+    nodes: &[Node<W::Moment>],
+    place: usize,
+    reached: &Reached<W::Moment, W::Hand>,
+) -> bool
     requires nodes { AreFit (W.fits world.now) nodes.now }
-    requires moment { W.fits world.now moment.now }
+    requires moment { W.fits world.now reached.now.at }
+    requires hand { W.is_at_hand world.now reached.now.hand reached.now.at }
     ensures within { result ≡ true → place < length nodes.now }
-    ensures same { result ≡ true → (node : _) → slice_get nodes.now place ≡ Some node → W.state world.now node.at ≡ W.state world.now moment.now }
-    ensures apart { W.complete world.now → result ≡ false → (node : _) → slice_get nodes.now place ≡ Some node → W.state world.now node.at ≢ W.state world.now moment.now }
+    ensures same { result ≡ true → (node : _) → slice_get nodes.now place ≡ Some node → W.state world.now node.at ≡ W.state world.now reached.now.at }
+    ensures apart { W.complete world.now → result ≡ false → (node : _) → slice_get nodes.now place ≡ Some node → W.state world.now node.at ≢ W.state world.now reached.now.at }
 {
     match nodes.get(place) {
-        Some(node) => world.is_same(&node.at, moment),
+        Some(node) => world.is_same(&node.at, reached),
         None => false,
     }
 }
@@ -85,21 +91,22 @@ fn place_of<W: World>(
     world: &W,
     level: &Level<W::Moment>,
     digest: u64,
-    moment: &W::Moment,
+    reached: &Reached<W::Moment, W::Hand>,
 ) -> Option<usize>
     requires nodes { AreFit (W.fits world.now) level.now.nodes.items }
-    requires moment { W.fits world.now moment.now }
+    requires moment { W.fits world.now reached.now.at }
+    requires hand { W.is_at_hand world.now reached.now.hand reached.now.at }
     ensures within { IfSome result (λ i. i < vec_len level.now.nodes) }
-    ensures same { IfSome result (λ i. (node : _) → slice_get level.now.nodes.items i ≡ Some node → W.state world.now node.at ≡ W.state world.now moment.now) }
-    ensures none { IfNone result (W.complete world.now → digest ≡ W.digest_at world.now (W.state world.now moment.now) → IsApart (W.state world.now) (W.digest_at world.now) level.now
-        → All (λ at. at ≢ W.state world.now moment.now) (states (W.state world.now) level.now.nodes.items)) }
+    ensures same { IfSome result (λ i. (node : _) → slice_get level.now.nodes.items i ≡ Some node → W.state world.now node.at ≡ W.state world.now reached.now.at) }
+    ensures none { IfNone result (W.complete world.now → digest ≡ W.digest_at world.now (W.state world.now reached.now.at) → IsApart (W.state world.now) (W.digest_at world.now) level.now
+        → All (λ at. at ≢ W.state world.now reached.now.at) (states (W.state world.now) level.now.nodes.items)) }
 {
     let mut next = newest_of(level, digest);
     for _step in 0..level.nodes.len() {
         let Some(place) = next else {
             return None;
         };
-        if is_at(world, level.nodes.as_slice(), place, moment) {
+        if is_at(world, level.nodes.as_slice(), place, reached) {
             return Some(place);
         }
         next = older_than(level, place);
@@ -191,25 +198,26 @@ pub(crate) fn add_orders<W: World>(
     alloc: Global,
     world: &W,
     level: &mut Level<W::Moment>,
-    moment: W::Moment,
+    reached: Reached<W::Moment, W::Hand>,
     before: &Node<W::Moment>,
     caller: u16,
 ) -> Result<(), OrdersError>
     requires nodes { AreFit (W.fits world.now) level.old.nodes.items }
-    requires moment { W.fits world.now moment }
+    requires moment { W.fits world.now reached.at }
+    requires hand { W.is_at_hand world.now reached.hand reached.at }
     requires count { 0 < before.now.count }
-    requires leads { (W.machine world.now).go (W.state world.now before.now.at) caller ≡ Some (W.state world.now moment) }
+    requires leads { (W.machine world.now).go (W.state world.now before.now.at) caller ≡ Some (W.state world.now reached.at) }
     ensures uncounted { IfErr result (λ error. error ≡ OrdersError.Count → count_limit ≤ weight (W.state world.now) (λ s. 1) level.old.nodes.items + before.now.count) }
     ensures adds { OnOk result (AddsSteps (W.machine world.now) (W.state world.now) (W.fits world.now) before.now (caller ∷ []) level.old.nodes.items level.new.nodes.items) }
     ensures apart { OnOk result (W.complete world.now → IsApart (W.state world.now) (W.digest_at world.now) level.old → IsApart (W.state world.now) (W.digest_at world.now) level.new) }
 {
-    let digest = world.digest(&moment);
-    match place_of(world, level, digest, &moment) {
+    let digest = world.digest(&reached.at);
+    match place_of(world, level, digest, &reached) {
         Some(place) => match add_at(&mut level.nodes, place, before.count) {
             Ok(()) => Ok(()),
             Err(error) => Err(error),
         },
-        None => match add_moment(alloc, level, digest, moment, before, caller) {
+        None => match add_moment(alloc, level, digest, reached.at, before, caller) {
             Ok(()) => Ok(()),
             Err(_) => Err(OrdersError::Memory),
         },

@@ -21,6 +21,6 @@ pub use laws::{
 };
 pub use leading::{Led, lead};
 pub use levels::OrdersError;
-pub use nodes::Node;
+pub use nodes::{Node, Reached};
 pub use tallies::{Tally, add_tally};
 pub use worlds::World;

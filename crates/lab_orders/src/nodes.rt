@@ -10,3 +10,12 @@ pub struct Node<M> {
     /// The first of them: who makes each step.
     pub order: Vec<u16>,
 }
+
+/// A moment that a step has just led to.
+#[derive(Drop)]
+pub struct Reached<M, H> {
+    /// The moment.
+    pub at: M,
+    /// What is at hand there.
+    pub hand: H,
+}

@@ -1,6 +1,7 @@
 //! What callers drive.
 ghost use Rattle.std.specs.Prelude.{ℕ, Bool, ◌≡◌, ◌≢◌, ◌<◌, true, false, IfOk, IfSome, option_map};
 
+use crate::nodes::Reached;
 use std::alloc::{AllocError, Global};
 
 /// A world that callers drive, one step at a time: what a caller's next step does is determined by the state of the
@@ -10,6 +11,9 @@ pub trait World {
 
     /// What is kept of the world at one moment.
     type Moment: Drop;
+
+    /// What is at hand right behind a step, by which its moment is told from others.
+    type Hand: Drop;
 
     /// What contracts know of a moment.
     type State;
@@ -22,6 +26,9 @@ pub trait World {
 
     /// That a moment is one of this world.
     ghost fits: { Self → Self.Moment → Type 0 };
+
+    /// That this is at hand at a moment.
+    ghost is_at_hand: { Self → Self.Hand → Self.Moment → Type 0 };
 
     /// What is asked at each moment: whether the question with this number holds of a state.
     ghost holds: { Self → ℕ → Self.State → Bool };
@@ -39,29 +46,31 @@ pub trait World {
     fn callers(&self) -> u16
         ensures { result ≡ (machine self.now).callers };
 
-    /// The moment after the next step of a caller; none where it can make none.
+    /// The moment after the next step of a caller, with what is at hand there; none where it can make none.
     fn step(
         &self,
         alloc: Global,
         moment: &Self::Moment,
         caller: u16,
-    ) -> Result<Option<Self::Moment>, AllocError>
+    ) -> Result<Option<Reached<Self::Moment, Self::Hand>>, AllocError>
         requires caller { caller < (machine self.now).callers }
         requires fits { fits self.now moment.now }
-        ensures next { IfOk result (λ next. option_map (state self.now) next ≡ (machine self.now).go (state self.now moment.now) caller) }
-        ensures fits { IfOk result (λ next. IfSome next (fits self.now)) };
+        ensures next { IfOk result (λ next. option_map (λ reached. state self.now reached.at) next ≡ (machine self.now).go (state self.now moment.now) caller) }
+        ensures fits { IfOk result (λ next. IfSome next (λ reached. fits self.now reached.at)) }
+        ensures hand { IfOk result (λ next. IfSome next (λ reached. is_at_hand self.now reached.hand reached.at)) };
 
     /// A number that moments of one state share.
     fn digest(&self, moment: &Self::Moment) -> u64
         requires { fits self.now moment.now }
         ensures { complete self.now → result ≡ digest_at self.now (state self.now moment.now) };
 
-    /// Whether two moments have the same state.
-    fn is_same(&self, one: &Self::Moment, other: &Self::Moment) -> bool
+    /// Whether a moment has the same state as one that a step has just led to.
+    fn is_same(&self, one: &Self::Moment, other: &Reached<Self::Moment, Self::Hand>) -> bool
         requires one { fits self.now one.now }
-        requires other { fits self.now other.now }
-        ensures same { result ≡ true → state self.now one.now ≡ state self.now other.now }
-        ensures apart { complete self.now → result ≡ false → state self.now one.now ≢ state self.now other.now };
+        requires other { fits self.now other.now.at }
+        requires hand { is_at_hand self.now other.now.hand other.now.at }
+        ensures same { result ≡ true → state self.now one.now ≡ state self.now other.now.at }
+        ensures apart { complete self.now → result ≡ false → state self.now one.now ≢ state self.now other.now.at };
 
     /// How many questions are asked at each moment.
     fn questions(&self) -> usize

@@ -1,15 +1,19 @@
 -- Answers that are forgotten change no step.
-use Rattle.std.proofs.Common.{◌≡◌, ℕ, zero, suc, ◌+◌, Bool, true, false, if◌then◌else◌, List, [], ◌∷◌, length, map, ap, ap₂, refl, subst, sym, ◌∙◌}
+use Rattle.std.proofs.Common.{◌≡◌, ◌≤◌, ℕ, zero, suc, ◌+◌, arith, inl, Bool, true, false, if◌then◌else◌, List, [], ◌∷◌, length, map, ap, ap₂, refl, subst, sym, ◌∙◌}
 use Rattle.std.specs.Prelude.{Option, Some, None, option_and_then, option_map, slice_get, slice_index, slice_index_or, slice_set, unwrap_or}
 use Rattle.evl_kernel.specs.histories.Replays.{Outcome, step_outcome}
 use Rattle.evl_scenario.specs.declared.steps.Step.{Step}
 use Rattle.evl_kernel.specs.state.States.{Handler}
 use Rattle.lab_orders.specs.Laws.{IsSeenOf}
 use Rattle.lab_orders.specs.Machines.{orders, runs}
-use Rattle.lab_orders.specs.Weights.{total}
+use Rattle.lab_orders.specs.Weights.{count_limit, total}
+use Rattle.lab_orders.specs.declared.levels.OrdersError.{OrdersError}
+use Rattle.lab_orders.specs.declared.levels.OrdersError.TheVariants.{Memory, Count}
 use Rattle.lab_orders.proofs.SeeingLaws.{what_is_seen}
+use Rattle.lab_orders.proofs.Totals.{total_of_ones}
 use Rattle.lab_scenario_orders.specs.AskingAlone.{asked_machine, forget, kept_from, kept_one}
 use Rattle.lab_scenario_orders.specs.Callers.{Seen, after, answer_line, first_seen, is_held, machine, next_step, step_of}
+use Rattle.lab_scenario_orders.specs.Outcomes.{CanNotTell}
 use Rattle.lab_scenario_orders.specs.declared.callers.Caller.{Caller}
 use Rattle.lab_scenario_orders.specs.declared.callers.Callers.{Callers}
 
@@ -88,3 +92,18 @@ module _ (c : Callers) (bank : List Handler) (told : List Bool) where
   runs_counted f k =
       subst (λ (s : Seen). total f (runs (asked_machine c told) s k) ≡ total (λ seen. f (forget told seen)) (runs (machine c) (first_seen c bank) k)) first_is
       ((what_is_seen (machine c) (asked_machine c told) (forget told) (forgets told c) (first_seen c bank) k).each_run f)
+
+  -- of a number of steps there are more runs than a count can tell, where there are as many of the machine that forgets
+  pub runs_uncounted : (e : OrdersError) → (e ≡ Count → (k : ℕ) × (count_limit ≤ length (runs (asked_machine c told) (first_seen c bank) k))) → CanNotTell c bank e
+  runs_uncounted Memory f = tt
+  runs_uncounted Count f =
+      let many = f refl in (
+        many.0,
+        inl (omega (
+          arith,
+          many.1,
+          total_of_ones (runs (asked_machine c told) (first_seen c bank) many.0),
+          runs_counted (λ seen. 1) many.0,
+          total_of_ones (runs (machine c) (first_seen c bank) many.0),
+        )),
+      )

@@ -2,6 +2,8 @@ pub mod AloneLaws
 pub mod AskLaws
 pub mod CallLaws
 pub mod FirstLaws
+pub mod HandLaws
+pub mod HeldLaws
 pub mod MomentLaws
 pub mod OrderTextLaws
 pub mod OutcomeLaws
@@ -12,4 +14,5 @@ pub mod ShareLaws
 pub mod TextLaws
 pub mod ToldLaws
 pub mod TrailLaws
+pub mod VerdictLaws
 pub mod WatchLaws

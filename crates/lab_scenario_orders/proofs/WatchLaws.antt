@@ -6,7 +6,7 @@ use Rattle.evl_kernel.specs.state.States.{State, Handler}
 use Rattle.evl_kernel.specs.histories.Replays.{Outcome}
 use Rattle.lab_scenario_orders.specs.Callers.{Seen, after}
 use Rattle.lab_scenario_orders.specs.Claims.{joined}
-use Rattle.lab_scenario_orders.specs.Moments.{IsMoment, IsNoted, seen_at}
+use Rattle.lab_scenario_orders.specs.Moments.{IsMoment, IsNoted, held_in, seen_at}
 use Rattle.lab_scenario_orders.specs.Watches.{is_noted, is_noted_at}
 use Rattle.lab_scenario_orders.specs.declared.callers.Callers.{Callers}
 use Rattle.lab_scenario_orders.specs.declared.moments.Moment.{Moment}
@@ -14,10 +14,11 @@ use Rattle.lab_scenario_orders.specs.declared.watches.Watch.{Watch}
 
 -- what is noted of the records after a step is noted of the moment that stands for them
 pub noted_after : (c : Callers) (bank : List Handler) (watches : List Watch) (seen : Seen) (next : Moment) (n : ℕ) (o : Outcome)
-    → seen_at c bank next ≡ after seen n o → IsMoment c next → next.noted.items ≡ map (is_noted o.after) watches → IsNoted c bank watches next
-noted_after c bank watches seen next n o is places noted = record {
+    → seen_at c bank next ≡ after seen n o → IsMoment c next → next.noted.items ≡ map (is_noted o.after) watches → next.held.items ≡ held_in c o.after → IsNoted c bank watches next
+noted_after c bank watches seen next n o is places noted held = record {
   places = places;
   noted = noted ∙ ap (λ (t : Seen). map (is_noted t.state) watches) (sym is);
+  held = held ∙ ap (λ (t : Seen). held_in c t.state) (sym is);
 }
 
 noted_one : (s : State) (watches : List Watch) (n : ℕ) → unwrap_or (slice_get (map (is_noted s) watches) n) false ≡ is_noted_at watches n s

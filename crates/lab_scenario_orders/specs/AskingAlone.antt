@@ -6,10 +6,12 @@ use Rattle.std.specs.Str.{bytes_eq}
 use Rattle.std.specs.Prelude.{cond, map, string_bytes}
 use Rattle.evl_kernel.specs.state.States.{Handler}
 use Rattle.lab_orders.specs.Firsts.{AreFirsts}
+use Rattle.lab_orders.specs.Fronts.{IsGone}
 use Rattle.lab_orders.specs.Laws.{IsSeenOf}
 use Rattle.lab_orders.specs.Machines.{Machine, orders, runs}
 use Rattle.lab_orders.specs.Weights.{total}
 use Rattle.lab_scenario_orders.specs.Asks.{caller_text, is_against}
+use Rattle.lab_scenario_orders.specs.Moments.{seen_at}
 use Rattle.lab_scenario_orders.specs.Told.{told_text}
 use Rattle.lab_scenario_orders.specs.Watches.{is_noted_at}
 use Rattle.lab_scenario_orders.specs.declared.alone.Verdict.{Verdict}
@@ -60,6 +62,9 @@ pub record IsVerdict (c : Callers) (bank : List Handler) (ask : Ask) (most : ℕ
   -- of what is asked of moments, the first order that leads to one where it is noted, or that none does
   pub firsts : AreFirsts (asked_machine c told) (first_seen c bank) (λ n seen. is_noted_at ask.watches.items n seen.state) found.steps 0 found.firsts.items
   pub watched : length found.firsts.items ≡ length ask.watches.items
+  -- no number of steps that leads to more than `most` moments was gone on from, and so many moments were gone through
+  pub gone : IsGone (asked_machine c told) (seen_at c bank) (first_seen c bank) most found.steps found.moments
   -- where nothing was cut off, no run has as many steps; else it went further than all steps together, or more than `most` have
   pub whole : found.whole ≡ true → runs (machine c) (first_seen c bank) found.steps ≡ []
   pub cut : found.whole ≡ false → (length c.steps.items < found.steps) ⊎ (most < length (runs (machine c) (first_seen c bank) found.steps))
+  pub more : found.whole ≡ false → 0 < length (runs (machine c) (first_seen c bank) found.steps)

@@ -18,6 +18,7 @@ pub mod Seeking
 pub mod Shares
 pub mod Splits
 pub mod Told
+pub mod Verdicts
 pub mod Warnings
 pub mod Watches
 pub mod WatchTexts

@@ -1,11 +1,11 @@
 -- What is kept of callers at one moment.
-use Rattle.std.specs.Prelude.{ℕ, ◌≡◌, List, [], ◌∷◌, ◌++◌, length, map, slice_get, string_bytes, Result, Ok, Err}
+use Rattle.std.specs.Prelude.{ℕ, ◌≡◌, Bool, List, [], ◌∷◌, ◌++◌, length, map, slice_get, string_bytes, Result, Ok, Err}
 use Rattle.std.specs.Option.{option_map_or}
 use Rattle.evl_base.specs.declared.refusal.Refusal.{Refusal}
 use Rattle.evl_base.specs.declared.reply.Reply.{Reply}
 use Rattle.evl_kernel.specs.state.States.{State, Handler}
 use Rattle.evl_kernel.specs.histories.Replays.{step_outcome}
-use Rattle.lab_scenario_orders.specs.Callers.{Seen, state_begun}
+use Rattle.lab_scenario_orders.specs.Callers.{Seen, is_held, state_begun}
 use Rattle.lab_scenario_orders.specs.Watches.{is_noted}
 use Rattle.lab_scenario_orders.specs.declared.callers.Callers.{Callers}
 use Rattle.lab_scenario_orders.specs.declared.moments.Moment.{Moment}
@@ -41,7 +41,16 @@ pub record IsMoment (c : Callers) (moment : Moment) : Type 0 where
   pub made : length moment.made.items ≡ length c.callers.items
   pub answers : length moment.answers.items ≡ length c.callers.items
 
--- and of what is asked of moments, it is noted what the records are as is looked for
+-- who of the callers can make no step
+abbrev pub held_in : Callers → State → List Bool
+held_in c s = map (λ caller. is_held c.as_picked s caller.who.0) c.callers.items
+
+-- and of what is asked of moments, it is noted what the records are as is looked for, and who is held
 pub record IsNoted (c : Callers) (bank : List Handler) (watches : List Watch) (moment : Moment) : Type 0 where
   pub places : IsMoment c moment
   pub noted : moment.noted.items ≡ map (is_noted (seen_at c bank moment).state) watches
+  pub held : moment.held.items ≡ held_in c (seen_at c bank moment).state
+
+-- a kernel with these records over this bank is where a moment's steps lead over the bank of callers
+abbrev pub StandsAt : Callers → List Handler → State → List Handler → Moment → Type 0
+StandsAt c bank s known moment = (s ≡ trailed c (state_begun c bank) moment.trail.items) × (known ≡ bank)

@@ -1,11 +1,12 @@
 //! What came of what is asked alone, without the answers of callers of whom nobody asks.
-ghost use Rattle.std.specs.Prelude.{◌≡◌, ◌+◌, ◌*◌, ◌<◌, ◌⊎◌, [], cond, false, IfOk, length, map, string_bytes, sum_by, true};
+ghost use Rattle.std.specs.Prelude.{◌≡◌, ◌+◌, ◌*◌, ◌<◌, ◌⊎◌, [], cond, false, IfOk, length, map, string_bytes, sum_by, true, ◌≤◌, IfErr};
 ghost use Rattle.std.specs.List.{list_any};
 ghost use Rattle.std.specs.Str.{bytes_eq};
-ghost use Rattle.lab_orders.specs.Weights.{weight};
+ghost use Rattle.lab_orders.specs.Weights.{count_limit, weight};
 ghost use Rattle.lab_scenario_orders.specs.AskingAlone.{IsVerdict, asked_of, is_asked_of};
 ghost use Rattle.lab_scenario_orders.specs.Asks.{caller_text, is_against};
 ghost use Rattle.lab_scenario_orders.specs.Moments.{seen_at};
+ghost use Rattle.lab_scenario_orders.specs.Outcomes.{CanNotTell};
 ghost use Rattle.lab_scenario_orders.specs.Told.{told_text};
 
 use crate::asking_alone::Alone;
@@ -68,6 +69,9 @@ fn asked_of(alloc: Global, ask: &Ask, callers: &Callers) -> Result<Vec<bool>, Al
 
 // With the orders of an end more, which is against what is asked or not.
 fn with_orders(sums: Sums, count: u128, is_against: bool) -> Result<Sums, OrdersError>
+    requires { sums.against ≤ sums.orders }
+    ensures within { IfOk result (λ all. all.against ≤ all.orders) }
+    ensures uncounted { IfErr result (λ error. count_limit ≤ sums.orders + count) }
     ensures orders { IfOk result (λ all. all.orders ≡ sums.orders + count) }
     ensures against { IfOk result (λ all. all.against ≡ sums.against + count * cond is_against 1 0) }
 {
@@ -95,6 +99,9 @@ fn with_end<B: BankMaker>(
     sums: Sums,
     end: &Node<Moment>,
 ) -> Result<Sums, OrdersError>
+    requires { sums.against ≤ sums.orders }
+    ensures within { IfOk result (λ all. all.against ≤ all.orders) }
+    ensures uncounted { IfErr result (λ error. error ≡ OrdersError.Count → count_limit ≤ sums.orders + end.now.count) }
     ensures orders { IfOk result (λ all. all.orders ≡ sums.orders + end.now.count) }
     ensures against { IfOk result (λ all. all.against ≡ sums.against + end.now.count * cond (is_against ask.now (told_text callers.now (seen_at callers.now (B.bank bank.now) end.now.at))) 1 0) }
 {
@@ -112,6 +119,7 @@ fn sums_of<B: BankMaker>(
     ask: &Ask,
     ends: &[Node<Moment>],
 ) -> Result<Sums, OrdersError>
+    ensures uncounted { IfErr result (λ error. error ≡ OrdersError.Count → count_limit ≤ sum_by (λ end. end.count) ends.now) }
     ensures orders { IfOk result (λ all. all.orders ≡ sum_by (λ end. end.count) ends.now) }
     ensures against { IfOk result (λ all. all.against ≡ weight (seen_at callers.now (B.bank bank.now)) (λ seen. cond (is_against ask.now (told_text callers.now seen)) 1 0) ends.now) }
 {
@@ -140,7 +148,9 @@ fn verdict_of<B: BankMaker>(
     ensures against { IfOk result (λ verdict. verdict.against ≡ weight (seen_at callers.now (B.bank bank.now)) (λ seen. cond (is_against ask.now (told_text callers.now seen)) 1 0) found.ends.items) }
     ensures firsts { IfOk result (λ verdict. verdict.firsts ≡ found.firsts) }
     ensures steps { IfOk result (λ verdict. verdict.steps ≡ found.steps) }
+    ensures moments { IfOk result (λ verdict. verdict.moments ≡ found.moments) }
     ensures whole { IfOk result (λ verdict. verdict.whole ≡ found.whole) }
+    ensures uncounted { IfErr result (λ error. error ≡ OrdersError.Count → count_limit ≤ sum_by (λ end. end.count) found.ends.items) }
 {
     let Explored {
         ends,
@@ -171,7 +181,8 @@ fn ask_told<B: BankMaker>(
     told: &[bool],
     most: usize,
 ) -> Result<Verdict, OrdersError>
-    ensures { IfOk result (IsVerdict callers.now (B.bank bank.now) ask.now most told.now) }
+    ensures verdict { IfOk result (IsVerdict callers.now (B.bank bank.now) ask.now most told.now) }
+    ensures uncounted { IfErr result (CanNotTell callers.now (B.bank bank.now)) }
 {
     let watches = ask.watches.as_slice();
     let start = match start_of(alloc, callers, bank, watches) {
@@ -206,7 +217,8 @@ pub fn ask_alone<B: BankMaker>(
     ask: &Ask,
     most: usize,
 ) -> Result<Verdict, OrdersError>
-    ensures { IfOk result (IsVerdict callers.now (B.bank bank.now) ask.now most (asked_of ask.now callers.now)) }
+    ensures verdict { IfOk result (IsVerdict callers.now (B.bank bank.now) ask.now most (asked_of ask.now callers.now)) }
+    ensures uncounted { IfErr result (CanNotTell callers.now (B.bank bank.now)) }
 {
     match asked_of(alloc, ask, callers) {
         Ok(told) => ask_told(alloc, callers, bank, ask, told.as_slice(), most),

@@ -2,16 +2,18 @@
 ghost use Rattle.std.specs.Prelude.{ℕ, List, ◌≡◌, IfOk, IfSome, ◌<◌, length, map, option_map, slice_get, string_bytes, true, unwrap_or};
 ghost use Rattle.evl_kernel.specs.state.States.{Handler};
 ghost use Rattle.lab_scenario_orders.specs.AskingAlone.{ForgetsAnswers, asked_go, forget, kept_from, kept_one};
-ghost use Rattle.lab_scenario_orders.specs.Moments.{IsNoted, seen_at};
+ghost use Rattle.lab_scenario_orders.specs.Moments.{IsNoted, StandsAt, seen_at};
 
 use crate::banks::BankMaker;
 use crate::callers::Callers;
 use crate::digests::digest_of;
+use crate::kernels::leave;
 use crate::merging::are_merged;
 use crate::moments::Moment;
 use crate::watches::Watch;
 use crate::worlds::{Driven, next_moment};
-use lab_orders::World;
+use evl_kernel::KernelOf;
+use lab_orders::{Reached, World};
 use std::alloc::{AllocError, Global};
 
 // Whether the answers of the caller with this number are kept.
@@ -48,6 +50,7 @@ fn all_kept(alloc: Global, told: &[bool], answers: Vec<String>) -> Result<Vec<St
 fn forgotten(alloc: Global, told: &[bool], moment: Moment) -> Result<Moment, AllocError>
     ensures seen { IfOk result (λ kept. (c : Callers) (bank : List Handler) → seen_at c bank kept ≡ forget told.now (seen_at c bank moment)) }
     ensures noted { IfOk result (λ kept. (c : Callers) (bank : List Handler) (watches : List Watch) → IsNoted c bank watches moment → IsNoted c bank watches kept) }
+    ensures trail { IfOk result (λ kept. kept.trail ≡ moment.trail) }
 {
     let Moment {
         made,
@@ -55,6 +58,7 @@ fn forgotten(alloc: Global, told: &[bool], moment: Moment) -> Result<Moment, All
         trail,
         standing,
         noted,
+        held,
     } = moment;
     let answers = all_kept(alloc, told, answers)?;
     Ok(Moment {
@@ -63,7 +67,29 @@ fn forgotten(alloc: Global, told: &[bool], moment: Moment) -> Result<Moment, All
         trail,
         standing,
         noted,
+        held,
     })
+}
+
+// A moment that a step led to, with what is kept of the answers, and the kernel there.
+fn kept_there<B: BankMaker>(
+    alloc: Global,
+    told: &[bool],
+    reached: Reached<Moment, KernelOf<B::Made, Global>>,
+) -> Result<Reached<Moment, KernelOf<B::Made, Global>>, AllocError>
+    ensures seen { IfOk result (λ kept. (c : Callers) (bank : List Handler) → seen_at c bank kept.at ≡ forget told.now (seen_at c bank reached.at)) }
+    ensures noted { IfOk result (λ kept. (c : Callers) (bank : List Handler) (watches : List Watch) → IsNoted c bank watches reached.at → IsNoted c bank watches kept.at) }
+    ensures trail { IfOk result (λ kept. kept.at.trail ≡ reached.at.trail) }
+    ensures hand { IfOk result (λ kept. kept.hand ≡ reached.hand) }
+{
+    let Reached { at, hand } = reached;
+    match forgotten(alloc, told, at) {
+        Ok(at) => Ok(Reached { at, hand }),
+        Err(error) => {
+            leave(hand);
+            Err(error)
+        }
+    }
 }
 
 // The moment after a caller's next step, with what is kept of the answers.
@@ -75,14 +101,15 @@ fn next_kept<B: BankMaker>(
     told: &[bool],
     moment: &Moment,
     caller: usize,
-) -> Result<Option<Moment>, AllocError>
+) -> Result<Option<Reached<Moment, KernelOf<B::Made, Global>>>, AllocError>
     requires caller { caller < length callers.now.callers.items }
     requires fits { IsNoted callers.now (B.bank bank.now) watches.now moment.now }
-    ensures next { IfOk result (λ next. option_map (seen_at callers.now (B.bank bank.now)) next ≡ asked_go callers.now told.now (seen_at callers.now (B.bank bank.now) moment.now) caller) }
-    ensures fits { IfOk result (λ next. IfSome next (IsNoted callers.now (B.bank bank.now) watches.now)) }
+    ensures next { IfOk result (λ next. option_map (λ reached. seen_at callers.now (B.bank bank.now) reached.at) next ≡ asked_go callers.now told.now (seen_at callers.now (B.bank bank.now) moment.now) caller) }
+    ensures fits { IfOk result (λ next. IfSome next (λ reached. IsNoted callers.now (B.bank bank.now) watches.now reached.at)) }
+    ensures hand { IfOk result (λ next. IfSome next (λ reached. StandsAt callers.now (B.bank bank.now) reached.hand.history.state reached.hand.history.bank reached.at)) }
 {
     match next_moment(alloc, callers, bank, watches, moment, caller) {
-        Ok(Some(next)) => match forgotten(alloc, told, next) {
+        Ok(Some(next)) => match kept_there::<B>(alloc, told, next) {
             Ok(kept) => Ok(Some(kept)),
             Err(error) => Err(error),
         },
@@ -101,11 +128,13 @@ pub struct Alone<'a, B> {
 
 impl<'a, B: BankMaker> World for Alone<'a, B> {
     ghost use Rattle.lab_scenario_orders.specs.AskingAlone.{asked_machine};
-    ghost use Rattle.lab_scenario_orders.specs.Moments.{IsNoted, seen_at};
+    ghost use Rattle.lab_scenario_orders.specs.Moments.{IsNoted, StandsAt, seen_at};
     ghost use Rattle.lab_scenario_orders.specs.Watches.{is_noted_at};
     ghost use Rattle.std.specs.Prelude.{length};
 
     type Moment = Moment;
+
+    type Hand = KernelOf<B::Made, Global>;
 
     type State = crate::seen::SeenState;
 
@@ -114,6 +143,8 @@ impl<'a, B: BankMaker> World for Alone<'a, B> {
     ghost state = { λ alone moment. seen_at alone.driven.callers.now (B.bank alone.driven.bank.now) moment };
 
     ghost fits = { λ alone moment. IsNoted alone.driven.callers.now (B.bank alone.driven.bank.now) alone.driven.watches.now moment };
+
+    ghost is_at_hand = { λ alone hand moment. StandsAt alone.driven.callers.now (B.bank alone.driven.bank.now) hand.history.state hand.history.bank moment };
 
     ghost holds = { λ alone question seen. is_noted_at alone.driven.watches.now question seen.state };
 
@@ -132,7 +163,7 @@ impl<'a, B: BankMaker> World for Alone<'a, B> {
         alloc: Global,
         moment: &Moment,
         caller: u16,
-    ) -> Result<Option<Moment>, AllocError> {
+    ) -> Result<Option<Reached<Moment, KernelOf<B::Made, Global>>>, AllocError> {
         next_kept(
             alloc,
             self.driven.callers,
@@ -148,13 +179,14 @@ impl<'a, B: BankMaker> World for Alone<'a, B> {
         digest_of(moment)
     }
 
-    fn is_same(&self, one: &Moment, other: &Moment) -> bool {
+    fn is_same(&self, one: &Moment, other: &Reached<Moment, KernelOf<B::Made, Global>>) -> bool {
         are_merged(
             self.driven.alloc,
             self.driven.callers,
             self.driven.bank,
             one,
-            other,
+            &other.at,
+            &other.hand,
         )
     }
 

@@ -1,11 +1,12 @@
 //! A kernel that is led along steps.
 ghost use Rattle.std.specs.Prelude.{◌≡◌, IfOk, OnOk, option_map};
+ghost use Rattle.evl_base.specs.Call.{boxes_in_call};
 ghost use Rattle.evl_kernel.specs.state.Callbacks.{AnswersByPlan};
 ghost use Rattle.evl_kernel.specs.state.KernelViews.{makes_entry};
 ghost use Rattle.evl_kernel.specs.state.Openings.{opening};
 ghost use Rattle.evl_kernel.specs.histories.Replays.{step_outcome};
 ghost use Rattle.lab_scenario_orders.specs.Callers.{state_begun, goes_on, has_turn, is_held, is_turn, set_up};
-ghost use Rattle.lab_scenario_orders.specs.Moments.{made_at, trailed};
+ghost use Rattle.lab_scenario_orders.specs.Moments.{held_in, made_at, trailed};
 
 use crate::banks::BankMaker;
 use crate::callers::Callers;
@@ -40,12 +41,22 @@ fn copied_board(board: &Board) -> Board
     }
 }
 
+// How many boxes the bytes of a call take.
+fn boxes_in(call: &Call) -> usize
+    ensures { result ≡ boxes_in_call call.now }
+{
+    match call {
+        Call::Write { .. } | Call::BeginWrite { .. } => 1,
+        _ => 0,
+    }
+}
+
 // The same call once more. `AllocError` where there is no memory for its bytes.
 fn copied_call(alloc: Global, call: &Call) -> Result<Call, AllocError>
     ensures { IfOk result (λ same. same ≡ call.now) }
 {
     let mut spares = Spares::new(alloc, alloc);
-    match spares.keep(1) {
+    match spares.keep(boxes_in(call)) {
         Ok(()) => Ok(call.copied(&mut spares)),
         Err(_) => Err(AllocError),
     }
@@ -87,6 +98,21 @@ pub(crate) fn is_held<C>(kernel: &KernelOf<C, Global>, as_picked: bool, who: Thr
     ensures { result ≡ is_held as_picked kernel.now.history.state who.0 }
 {
     goes_on(kernel, who) || (as_picked && !has_turn(kernel, who))
+}
+
+/// Of each caller whether it can make no step.
+pub(crate) fn held_of<C>(
+    alloc: Global,
+    kernel: &KernelOf<C, Global>,
+    callers: &Callers,
+) -> Result<Vec<bool>, AllocError>
+    ensures { IfOk result (λ all. all.items ≡ held_in callers.now kernel.now.history.state) }
+{
+    let mut all = Vec::with_capacity(alloc, callers.callers.len())?;
+    for caller in &callers.callers {
+        all.push(is_held(kernel, callers.as_picked, caller.who))?;
+    }
+    Ok(all)
 }
 
 // Whether a call that was answered so has an entry.
@@ -221,6 +247,21 @@ fn lead<C: Handler>(
         Ok(()) => make_all(alloc, kernel, callers, places),
         Err(error) => Err(error),
     }
+}
+
+// So many bytes: kernels of a text take fewer.
+const MUCH: usize = 16_777_216;
+
+// Room for so many.
+#[inline(never)]
+fn much_room(alloc: Global) -> Result<Vec<u8>, AllocError> {
+    Vec::with_capacity(alloc, MUCH)
+}
+
+/// Takes much room and leaves it: from then on the C library keeps what kernels leave for the next ones, up to twice as much,
+/// where it would give it back to the system each time. Where there isn't so much nothing comes of it.
+pub(crate) fn keep_room(alloc: Global) {
+    drop(much_room(alloc));
 }
 
 /// Lets a kernel go. All that goes with it is proved here once, and not wherever a kernel is done with.

@@ -1,7 +1,7 @@
 //! Moments that are one state of callers and kernel.
 ghost use Rattle.std.specs.Prelude.{◌≡◌, true};
 ghost use Rattle.lab_scenario_orders.specs.Callers.{state_begun};
-ghost use Rattle.lab_scenario_orders.specs.Moments.{seen_at, trailed};
+ghost use Rattle.lab_scenario_orders.specs.Moments.{StandsAt, seen_at, trailed};
 
 use crate::banks::BankMaker;
 use crate::callers::Callers;
@@ -31,51 +31,36 @@ fn is_led_alike<B: BankMaker>(
     }
 }
 
-// Whether the steps at these places lead to kernels that stand alike.
-fn are_led_alike<B: BankMaker>(
-    alloc: Global,
-    callers: &Callers,
-    bank: &B,
-    one: &[usize],
-    other: &[usize],
-) -> bool
-    ensures { result ≡ true → trailed callers.now (state_begun callers.now (B.bank bank.now)) one.now ≡ trailed callers.now (state_begun callers.now (B.bank bank.now)) other.now }
-{
-    match led(alloc, callers, bank, one) {
-        Ok(kernel) => {
-            let alike = is_led_alike(alloc, callers, bank, &kernel, other);
-            leave(kernel);
-            alike
-        }
-        Err(_) => false,
-    }
-}
-
-// Whether steps in these two orders lead to kernels that stand alike.
+// Whether the steps of one moment lead to a kernel that stands like the one at hand at another.
 fn do_trails_meet<B: BankMaker>(
     alloc: Global,
     callers: &Callers,
     bank: &B,
     one: &[usize],
     other: &[usize],
+    kernel: &KernelOf<B::Made, Global>,
 ) -> bool
+    requires state { kernel.now.history.state ≡ trailed callers.now (state_begun callers.now (B.bank bank.now)) other.now }
+    requires bank { kernel.now.history.bank ≡ B.bank bank.now }
     ensures { result ≡ true → trailed callers.now (state_begun callers.now (B.bank bank.now)) one.now ≡ trailed callers.now (state_begun callers.now (B.bank bank.now)) other.now }
 {
     if are_same_numbers(one, other) {
         return true;
     }
-    are_led_alike(alloc, callers, bank, one, other)
+    is_led_alike(alloc, callers, bank, kernel, one)
 }
 
 /// Whether two moments are one state: each caller has made as many steps and was answered alike, and the kernels stand
-/// alike, in whatever order they were led there. No, where memory couldn't grow.
+/// alike, in whatever order they were led there. The second one's kernel is at hand. No, where memory couldn't grow.
 pub(crate) fn are_merged<B: BankMaker>(
     alloc: Global,
     callers: &Callers,
     bank: &B,
     one: &Moment,
     other: &Moment,
+    kernel: &KernelOf<B::Made, Global>,
 ) -> bool
+    requires { StandsAt callers.now (B.bank bank.now) kernel.now.history.state kernel.now.history.bank other.now }
     ensures { result ≡ true → seen_at callers.now (B.bank bank.now) one.now ≡ seen_at callers.now (B.bank bank.now) other.now }
 {
     if one.standing != other.standing {
@@ -90,5 +75,6 @@ pub(crate) fn are_merged<B: BankMaker>(
         bank,
         one.trail.as_slice(),
         other.trail.as_slice(),
+        kernel,
     )
 }

@@ -22,6 +22,8 @@ pub struct Moment {
     pub(crate) standing: u64,
     /// Of each question about moments whether the kernel stands as it looks for.
     pub(crate) noted: Vec<bool>,
+    /// Of each caller whether it is held there: its thread can make no step.
+    pub(crate) held: Vec<bool>,
 }
 
 /// As many zeros as callers.
@@ -46,16 +48,18 @@ fn no_answers(alloc: Global, callers: &[Caller]) -> Result<Vec<String>, AllocErr
     Ok(answers)
 }
 
-/// The moment before the first caller's step, with what is noted there.
+/// The moment before the first caller's step, with what is noted and who is held there.
 pub(crate) fn first_moment(
     alloc: Global,
     callers: &Callers,
     noted: Vec<bool>,
+    held: Vec<bool>,
 ) -> Result<Moment, AllocError>
     ensures made { IfOk result (λ moment. moment.made.items ≡ map (λ caller. 0) callers.now.callers.items) }
     ensures answers { IfOk result (λ moment. map string_bytes moment.answers.items ≡ map (λ caller. []) callers.now.callers.items) }
     ensures trail { IfOk result (λ moment. moment.trail.items ≡ []) }
     ensures noted { IfOk result (λ moment. moment.noted ≡ noted) }
+    ensures held { IfOk result (λ moment. moment.held ≡ held) }
 {
     let made = none_made(alloc, callers.callers.as_slice())?;
     let answers = no_answers(alloc, callers.callers.as_slice())?;
@@ -65,6 +69,7 @@ pub(crate) fn first_moment(
         trail: Vec::new(alloc),
         standing: 0,
         noted,
+        held,
     })
 }
 
@@ -150,7 +155,7 @@ fn trail_with(
 }
 
 /// The moment after a step of a caller that has made so many, with what it was answered, where the kernel stands as a
-/// digest tells and as is noted.
+/// digest tells and as is noted, and who is held there.
 pub(crate) fn moment_after(
     alloc: Global,
     before: &Moment,
@@ -160,6 +165,7 @@ pub(crate) fn moment_after(
     answer: &StepAnswer,
     standing: u64,
     noted: Vec<bool>,
+    held: Vec<bool>,
 ) -> Result<Moment, AllocError>
     requires made { caller < length before.now.made.items }
     requires answers { caller < length before.now.answers.items }
@@ -167,6 +173,7 @@ pub(crate) fn moment_after(
     ensures answers { IfOk result (λ moment. map string_bytes moment.answers.items ≡ slice_set (map string_bytes before.now.answers.items) caller (answer_line (slice_index_or (map string_bytes before.now.answers.items) caller []) answer.now.0)) }
     ensures trail { IfOk result (λ moment. moment.trail.items ≡ trail_after before.now.trail.items place answer.now.0) }
     ensures noted { IfOk result (λ moment. moment.noted ≡ noted) }
+    ensures held { IfOk result (λ moment. moment.held ≡ held) }
 {
     let made = made_with(alloc, before.made.as_slice(), caller, count)?;
     let answers = answers_with(alloc, before.answers.as_slice(), caller, answer)?;
@@ -177,6 +184,7 @@ pub(crate) fn moment_after(
         trail,
         standing,
         noted,
+        held,
     })
 }
 

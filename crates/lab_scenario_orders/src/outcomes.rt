@@ -17,7 +17,7 @@ ghost use Rattle.lab_scenario_orders.specs.Watches.{is_noted_at};
 use crate::asks::tells_stuck;
 use crate::banks::BankMaker;
 use crate::callers::Callers;
-use crate::kernels::{leave, led};
+use crate::kernels::{held_of, keep_room, leave, led};
 use crate::moments::{Moment, first_moment};
 use crate::told::told_of;
 use crate::watches::{Watch, noted};
@@ -174,8 +174,12 @@ fn start_at<C>(
     ensures start { IfOk result (λ start. (bank : List Handler) → seen_at callers.now bank start ≡ first_seen callers.now bank) }
     ensures noted { IfOk result (λ start. (bank : List Handler) → kernel.now.history.state ≡ state_begun callers.now bank → IsNoted callers.now bank watches.now start) }
 {
+    let held = match held_of(alloc, kernel, callers) {
+        Ok(held) => held,
+        Err(error) => return Err(error),
+    };
     match noted(alloc, kernel, watches) {
-        Ok(noted) => first_moment(alloc, callers, noted),
+        Ok(noted) => first_moment(alloc, callers, noted, held),
         Err(error) => Err(error),
     }
 }
@@ -190,6 +194,7 @@ pub(crate) fn start_of<B: BankMaker>(
     ensures start { IfOk result (λ start. seen_at callers.now (B.bank bank.now) start ≡ first_seen callers.now (B.bank bank.now)) }
     ensures noted { IfOk result (IsNoted callers.now (B.bank bank.now) watches.now) }
 {
+    keep_room(alloc);
     match led(alloc, callers, bank, &[]) {
         Ok(kernel) => {
             let start = start_at(alloc, &kernel, callers, watches);

@@ -2,7 +2,7 @@
 ghost use Rattle.std.specs.Prelude.{◌≡◌, ◌≤◌};
 ghost use Rattle.test_scenario.specs.Free.{worth};
 
-use lab_orders::{Explored, World, explore};
+use lab_orders::{Explored, Reached, World, explore};
 use std::alloc::{AllocError, Global};
 
 // The callers.
@@ -28,6 +28,8 @@ impl World for Free {
 
     type Moment = u32;
 
+    type Hand = ();
+
     type State = u32;
 
     ghost machine = { λ callers. machine };
@@ -35,6 +37,8 @@ impl World for Free {
     ghost state = { λ callers moment. moment };
 
     ghost fits = { λ callers moment. ⊤ };
+
+    ghost is_at_hand = { λ callers hand moment. ⊤ };
 
     ghost holds = { λ callers question moment. false };
 
@@ -48,11 +52,16 @@ impl World for Free {
         4
     }
 
-    fn step(&self, _alloc: Global, moment: &u32, caller: u16) -> Result<Option<u32>, AllocError> {
+    fn step(
+        &self,
+        _alloc: Global,
+        moment: &u32,
+        caller: u16,
+    ) -> Result<Option<Reached<u32, ()>>, AllocError> {
         let step = worth(caller);
         if (*moment / step) % 7 < 6 {
             match moment.checked_add(step) {
-                Some(next) => Ok(Some(next)),
+                Some(at) => Ok(Some(Reached { at, hand: () })),
                 None => Err(AllocError),
             }
         } else {
@@ -64,8 +73,8 @@ impl World for Free {
         u64::from(*moment)
     }
 
-    fn is_same(&self, one: &u32, other: &u32) -> bool {
-        one == other
+    fn is_same(&self, one: &u32, other: &Reached<u32, ()>) -> bool {
+        *one == other.at
     }
 
     fn questions(&self) -> usize {

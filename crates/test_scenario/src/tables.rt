@@ -2,7 +2,7 @@
 ghost use Rattle.std.specs.Prelude.{◌≡◌};
 ghost use Rattle.test_scenario.specs.Tables.{if_somewhere};
 
-use lab_orders::World;
+use lab_orders::{Reached, World};
 use std::alloc::{AllocError, Global};
 
 /// Nowhere.
@@ -27,6 +27,8 @@ impl World for Table {
 
     type Moment = u8;
 
+    type Hand = ();
+
     type State = u8;
 
     ghost machine = { λ table. machine table.rows.items };
@@ -34,6 +36,8 @@ impl World for Table {
     ghost state = { λ table moment. moment };
 
     ghost fits = { λ table moment. ⊤ };
+
+    ghost is_at_hand = { λ table hand moment. ⊤ };
 
     ghost holds = { λ table question moment. false };
 
@@ -47,11 +51,19 @@ impl World for Table {
         2
     }
 
-    fn step(&self, _alloc: Global, moment: &u8, caller: u16) -> Result<Option<u8>, AllocError> {
+    fn step(
+        &self,
+        _alloc: Global,
+        moment: &u8,
+        caller: u16,
+    ) -> Result<Option<Reached<u8, ()>>, AllocError> {
         match self.rows.get(usize::from(*moment)) {
             Some(row) => {
                 let next = if caller == 0 { row.0 } else { row.1 };
-                Ok(if_somewhere(next))
+                match if_somewhere(next) {
+                    Some(at) => Ok(Some(Reached { at, hand: () })),
+                    None => Ok(None),
+                }
             }
             None => Ok(None),
         }
@@ -61,8 +73,8 @@ impl World for Table {
         u64::from(*moment % 4)
     }
 
-    fn is_same(&self, one: &u8, other: &u8) -> bool {
-        one == other
+    fn is_same(&self, one: &u8, other: &Reached<u8, ()>) -> bool {
+        *one == other.at
     }
 
     fn questions(&self) -> usize {

@@ -8,7 +8,7 @@ loop-made-preserved g c =
     let w = c.args.world.now in
     let state = g.W.World.state w in
     record {
-      fits = subst (λ o. IfSome o (g.W.World.fits w)) c.in-Some.is c.in-Ok.ensures.fits;
-      leads = led_next (g.W.World.machine w) (state c.args.start) (state c.loop-made.at) (state c.in-Some.next) c.args.order.now c.loop-made.made _ c.loop-made-test.true refl
-          c.loop-made.invariant.leads (sym c.in-Ok.ensures.next ∙ ap (option_map state) c.in-Some.is);
+      fits = subst (λ o. IfSome o (λ reached. g.W.World.fits w reached.at)) c.in-Some.is c.in-Ok.ensures.fits;
+      leads = led_next (g.W.World.machine w) (state c.args.start) (state c.loop-made.at) (state c.in-Some.next.at) c.args.order.now c.loop-made.made _ c.loop-made-test.true refl
+          c.loop-made.invariant.leads (sym c.in-Ok.ensures.next ∙ ap (option_map (λ reached. state reached.at)) c.in-Some.is);
     }

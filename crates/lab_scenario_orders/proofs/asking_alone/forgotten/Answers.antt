@@ -14,4 +14,5 @@ returns-clause-noted c = λ callers bank watches was. record {
         ∙ (mapped string_bytes c.args.moment.answers.items ∙ was.places.answers)));
   };
   noted = was.noted;
+  held = was.held;
 }

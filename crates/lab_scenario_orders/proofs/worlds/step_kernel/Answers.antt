@@ -31,4 +31,13 @@ returns-in-Ok-clause-fits g c =
     let callers = c.args.callers.now in
     let step = c.args.step.now in
     noted_after callers bank c.args.watches.now (seen_at callers bank c.args.moment.now) c.in-Ok.next c.args.caller (step_outcome c.args.kernel.now.history.state step.who.0 step.call)
-    (c.in-Ok.ensures.next (state_begun callers bank) c.requires.state) c.in-Ok.ensures.fits c.in-Ok.ensures.noted
+    (c.in-Ok.ensures.next (state_begun callers bank) c.requires.state) c.in-Ok.ensures.fits c.in-Ok.ensures.noted c.in-Ok.ensures.held
+
+pub returns-in-Ok-clause-hand : goal.returns-in-Ok-clause-hand
+returns-in-Ok-clause-hand g c =
+    let bank = g.B.BankMaker.bank c.args.bank.now in
+    let callers = c.args.callers.now in
+    let step = c.args.step.now in (
+      c.in-Ok.ensures.there ∙ sym (ap (λ (s : Seen). s.state) (c.in-Ok.ensures.next (state_begun callers bank) c.requires.state)),
+      c.in-Ok.ensures.bank ∙ c.requires.bank,
+    )
