@@ -11,3 +11,7 @@ pub mod TextLaws
 pub mod ToldLaws
 pub mod TrailLaws
 pub mod Turns
+pub mod WholeFrees
+pub mod WholeLaws
+pub mod WholeSteps
+pub mod WholeTurns

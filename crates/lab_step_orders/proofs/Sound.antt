@@ -14,6 +14,7 @@ use Rattle.evl_words.specs.MutexWorld.{MutexWorld, owns}
 use Rattle.evl_words.specs.declared.gate.GateHold.{GateHold}
 use Rattle.evl_words.specs.declared.mutex.MutexRole.TheVariants.{Bystander}
 use Rattle.lab_orders.specs.Machines.{led_along}
+use Rattle.lab_step_orders.specs.Cores.{use_of}
 use Rattle.lab_step_orders.specs.Programs.{limit_of, stage_of, next_call}
 use Rattle.lab_step_orders.specs.Seen.{Seen, after, changed_at, gates_after, mutexes_after, go, machine, next_turn, place_after}
 use Rattle.lab_step_orders.specs.StepLaws.{LiesAtGate, LiesAtMutex, held_stage}
@@ -143,10 +144,11 @@ module _ (c : Crew) (s : Seen) (sound : IsSound c s) (k : ℕ) (lt : k < length 
   own_may : (step : Option WordStep) (next : Then) → ThenMay c s.gates s.mutexes k step next
       → PlaceMay c (gates_after c k step s.gates) (mutexes_after k step s.mutexes) k (place_after next)
   own_may step (Answers answer) may = tt
-  own_may step (Stands Begins) may = tt
-  own_may step (Stands (LeftStax stax)) may = tt
-  own_may step (Stands (Claimed mutex)) may =
-      subst (λ (o : Option WordStep). PlaceMay c (gates_after c k o s.gates) (mutexes_after k o s.mutexes) k (Claimed mutex)) (sym may.0) (λ m e.
+  own_may None (Stands place) may = may
+  own_may (Some step) (Stands Begins) may = tt
+  own_may (Some step) (Stands (LeftStax stax)) may = tt
+  own_may (Some step) (Stands (Claimed mutex)) may =
+      subst (λ (o : WordStep). PlaceMay c (gates_after c k (Some o) s.gates) (mutexes_after k (Some o) s.mutexes) k (Claimed mutex)) (sym may.0) (λ m e.
       elim (changed_is (mutex_after k Unlock) s.mutexes mutex.0 mutex.0 m e) as (λ v. holds m k ≡ true) [
         | inl h ↦
             let had = may.1 h.0 h.1 in
@@ -157,8 +159,8 @@ module _ (c : Crew) (s : Seen) (sound : IsSound c s) (k : ℕ) (lt : k < length 
             ∙ ap (λ b. owns (mutex_view b).held.role) had.0))
         | inr h ↦ (may.1 m h.1).0
       ])
-  own_may step (Stands (Found stax old)) may =
-      subst (λ (o : Option WordStep). PlaceMay c (gates_after c k o s.gates) (mutexes_after k o s.mutexes) k (Found stax old)) (sym may.0) (λ g e.
+  own_may (Some step) (Stands (Found stax old)) may =
+      subst (λ (o : WordStep). PlaceMay c (gates_after c k (Some o) s.gates) (mutexes_after k (Some o) s.mutexes) k (Found stax old)) (sym may.0) (λ g e.
       elim (changed_is (gate_after (limit_of c stax.0) (stage_of c k) k Look) s.gates stax.0 stax.0 g e) as (λ v. (holds g k ≡ false) × (word_refusal (limit_of c stax.0) old (stage_of c k) ≡ None)) [
         | inl h ↦
             let had = may.1 h.0 h.1 in
@@ -187,7 +189,7 @@ module _ (c : Crew) (s : Seen) (sound : IsSound c s) (k : ℕ) (lt : k < length 
     by : (o : Option Turn) → next_turn c s k ≡ o → option_map (after c s k) o ≡ Some t → IsSound c t
     by None at h = cc
     by (Some turn) at h = subst (λ (u : Seen). IsSound c u) (same_Some (after c s k turn) t h)
-        (turn_sound turn (turn_may c s.gates s.mutexes k s.state (slice_index_or s.waits k None) (slice_index_or s.places k Begins) (sound.places k) (next_call c k (slice_index s.made k)) turn at))
+        (turn_sound turn (turn_may c s.gates s.mutexes k s.state (use_of c k (slice_index s.made k)) s.core (slice_index_or s.waits k None) (slice_index_or s.places k Begins) (sound.places k) (next_call c k (slice_index s.made k)) turn at))
 
 -- along any order
 pub led_sound : (c : Crew) (order : List ℕ) (s t : Seen) → IsSound c s → All (λ k. k < length c.callers.items) order → led_along (machine c) s order ≡ Some t → IsSound c t

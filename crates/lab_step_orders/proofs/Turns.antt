@@ -1,6 +1,6 @@
 -- Each turn's step is one that the caller may make.
 use Rattle.std.proofs.Common.{◌≡◌, ℕ, ◌+◌, ◌==◌, ◌||◌, Bool, true, false, List, length, Ok, Err, refl, subst, ap, ◌∙◌}
-use Rattle.std.specs.Prelude.{Option, Some, None, Result, nat_lt, option_map, slice_get, if◌then◌else◌}
+use Rattle.std.specs.Prelude.{Option, Some, None, Result, is_some, nat_lt, option_map, slice_get, if◌then◌else◌}
 use Rattle.std.specs.Bool.{beq}
 use Rattle.std.specs.Option.{option_map_or}
 use Rattle.std.proofs.lemmas.Bool.{eqb-true, ltb-true}
@@ -9,7 +9,7 @@ use Rattle.evl_base.specs.declared.numbers.MutexId.{MutexId}
 use Rattle.evl_base.specs.declared.numbers.StaxId.{StaxId}
 use Rattle.evl_base.specs.declared.numbers.ThreadId.{ThreadId}
 use Rattle.evl_base.specs.declared.refusal.Refusal.{Refusal}
-use Rattle.evl_base.specs.declared.refusal.Refusal.TheVariants.{Again, Busy, Deadlock, Invalid, NotOwner, Unknown}
+use Rattle.evl_base.specs.declared.refusal.Refusal.TheVariants.{Again, Busy, CoreBusy, Deadlock, Invalid, NotOwner, Unknown}
 use Rattle.evl_base.specs.declared.reply.Reply.{Reply}
 use Rattle.evl_base.specs.declared.reply.Reply.TheVariants as reply
 use Rattle.evl_base.specs.declared.stage.Stage.{Stage}
@@ -21,7 +21,9 @@ use Rattle.evl_words.specs.MutexBits.{offers_to}
 use Rattle.evl_words.specs.declared.gate.Left.{Left}
 use Rattle.evl_words.specs.declared.gate.Left.TheVariants as left
 use Rattle.lab_step_orders.specs.Programs.{limit_of, stage_of, goes, ends, refuses, look_turn, try_stax, exchange_turn, leave_turn, unlock_stax, lock_refusal, spend_refusal, refused_missing, try_mutex, unlock_turn, unlock_fast, unlock_mutex, begin_mutex, end_mutex, finish_mutex, finish_wait, holds_some, first_ahead, ahead_at}
-use Rattle.lab_step_orders.specs.Visits.{visits, answered, handed, handed_to, claimed, claim, owner_in, queued, begun, ended, told, goes_on, visit_turn, turn_of}
+use Rattle.lab_step_orders.specs.Cores.{has_core, is_done, core_turn, with_core, is_early, take_turn, visit_begun, begun_turn, ended_by, held_turn, turn_of}
+use Rattle.lab_step_orders.specs.Visits.{visits, answered, handed, handed_to, claimed, claim, owner_in, queued, begun, ended, told, goes_on, visit_turn}
+use Rattle.lab_step_orders.specs.Wrongs.{stepped_wrong, then_wrong, step_made, made_so}
 use Rattle.lab_step_orders.specs.Words.{Shared, holds}
 use Rattle.lab_step_orders.proofs.Standing.{MutexMay}
 use Rattle.lab_step_orders.specs.declared.calls.Answer.TheVariants.{Passed, Done, Refused}
@@ -35,9 +37,14 @@ use Rattle.lab_step_orders.specs.declared.steps.Asked.{Asked}
 use Rattle.lab_step_orders.specs.declared.steps.Asked.TheVariants as asked
 use Rattle.lab_step_orders.specs.declared.steps.GateStep.{GateStep}
 use Rattle.lab_step_orders.specs.declared.steps.GateStep.TheVariants.{Look, Exchange, Leave, Claim, Unclaim}
-use Rattle.lab_step_orders.specs.declared.steps.MutexStep.TheVariants.{Try, Unlock, Win, Offer, Accept}
+use Rattle.lab_step_orders.specs.declared.steps.CoreChange.{CoreChange}
+use Rattle.lab_step_orders.specs.declared.steps.CoreChange.TheVariants.{Takes, Ends as EndsVisit, Gives}
+use Rattle.lab_step_orders.specs.declared.steps.CoreUse.{CoreUse}
+use Rattle.lab_step_orders.specs.declared.steps.CoreUse.TheVariants.{Whole, Lasts, Tries}
+use Rattle.lab_step_orders.specs.declared.steps.MutexStep.TheVariants.{Try, Unlock, Win, Mark, Offer, Free, Accept, Forget}
 use Rattle.lab_step_orders.specs.declared.steps.Place.{Place}
 use Rattle.lab_step_orders.specs.declared.steps.Place.TheVariants.{Begins, Found, Left as LeftStax, Claimed}
+use Rattle.lab_step_orders.specs.declared.steps.Taken.{Taken}
 use Rattle.lab_step_orders.specs.declared.steps.Then.{Then}
 use Rattle.lab_step_orders.specs.declared.steps.Then.TheVariants.{Stands, Answers}
 use Rattle.lab_step_orders.specs.declared.steps.Turn.{Turn}
@@ -46,6 +53,8 @@ use Rattle.lab_step_orders.specs.declared.steps.Visit.TheVariants.{Release, Fini
 use Rattle.lab_step_orders.specs.declared.steps.WaitChange.TheVariants.{Same, Ends}
 use Rattle.lab_step_orders.specs.declared.steps.Waiting.{Waiting}
 use Rattle.lab_step_orders.specs.declared.steps.Waiting.TheVariants as wait
+use Rattle.lab_step_orders.specs.declared.steps.WhatIf.{WhatIf}
+use Rattle.lab_step_orders.specs.declared.steps.WhatIf.TheVariants.{OfferDropsMark, ClaimSetsNoMark, UnlockSkipsKernel, LeaveKeepsMark}
 use Rattle.lab_step_orders.specs.declared.steps.WordStep.{WordStep}
 use Rattle.lab_step_orders.specs.declared.steps.WordStep.TheVariants.{AtGate, AtMutex}
 
@@ -71,12 +80,16 @@ module _ (c : Crew) (gates mutexes : List Shared) (k : ℕ) where
   PlaceMay (Claimed mutex) = (m : Shared) → slice_get mutexes mutex.0 ≡ Some m → holds m k ≡ true
 
   -- and it finds one by a look alone
+  abbrev pub StoodMay : WordStep → Place → Type 0
+  StoodMay step Begins = Unit {0}
+  StoodMay step (Found stax old) = (step ≡ AtGate stax Look) × PlaceMay (Found stax old)
+  StoodMay step (LeftStax stax) = Unit {0}
+  StoodMay step (Claimed mutex) = (step ≡ AtMutex mutex Unlock) × ((m : Shared) → slice_get mutexes mutex.0 ≡ Some m → (holds m k ≡ true) × ((m.word == k + 1) ≡ false))
+
   abbrev pub ThenMay : Option WordStep → Then → Type 0
-  ThenMay step (Stands Begins) = Unit {0}
-  ThenMay step (Stands (Found stax old)) = (step ≡ Some (AtGate stax Look)) × PlaceMay (Found stax old)
-  ThenMay step (Stands (LeftStax stax)) = Unit {0}
-  ThenMay step (Stands (Claimed mutex)) = (step ≡ Some (AtMutex mutex Unlock)) × ((m : Shared) → slice_get mutexes mutex.0 ≡ Some m → (holds m k ≡ true) × ((m.word == k + 1) ≡ false))
   ThenMay step (Answers answer) = Unit {0}
+  ThenMay None (Stands place) = PlaceMay place
+  ThenMay (Some step) (Stands place) = StoodMay step place
 
   abbrev pub May : Turn → Type 0
   May turn = StepMay turn.step × ThenMay turn.step turn.then
@@ -275,10 +288,121 @@ module _ (c : Crew) (gates mutexes : List Shared) (k : ℕ) where
   ahead_may w (LeftStax stax) may call ahead e = subst AheadMay (same_Some _ ahead e) ((λ z there. tt), tt)
   ahead_may w (Claimed mutex) may call ahead e = subst AheadMay (same_Some _ ahead e) may
 
+  -- ---- the core
+
+  take_may : (way : CoreUse) (taken : Bool) (place : Place) → PlaceMay place → (turn : Turn) → take_turn way taken place ≡ Some turn → May turn
+  take_may way false place may turn e = subst May (same_Some (core_turn Takes place) turn e) (tt, may)
+  take_may Tries true place may turn e = subst May (same_Some (refuses CoreBusy) turn e) (tt, tt)
+  take_may Lasts true place may turn e = cc
+  take_may Whole true place may turn e = cc
+
+  begins_may : (s : State) (way : CoreUse) (taken : Bool) (place : Place) → PlaceMay place → (visit : Asked) → AskedMay visit → (turn : Turn) → visit_begun c s k way taken place visit ≡ Some turn → May turn
+  begins_may s Whole taken place may visit asks turn e = by taken e where
+    by : (b : Bool) → (if b then None else visit_turn c s k visit) ≡ Some turn → May turn
+    by true h = cc
+    by false h = visit_may s visit asks turn h
+  begins_may s Lasts taken place may visit asks turn e = by (is_early s k visit) e where
+    by : (b : Bool) → (if b then None else take_turn Lasts taken place) ≡ Some turn → May turn
+    by true h = cc
+    by false h = take_may Lasts taken place may turn h
+  begins_may s Tries taken place may visit asks turn e = by (is_early s k visit) e where
+    by : (b : Bool) → (if b then None else take_turn Tries taken place) ≡ Some turn → May turn
+    by true h = cc
+    by false h = take_may Tries taken place may turn h
+
+  begun_turn_may : (s : State) (way : CoreUse) (taken : Bool) (place : Place) → PlaceMay place → (o : Option Ahead) → ((ahead : Ahead) → o ≡ Some ahead → AheadMay ahead) → (turn : Turn) → begun_turn c s k way taken place o ≡ Some turn → May turn
+  begun_turn_may s way taken place may None all turn e = cc
+  begun_turn_may s way taken place may (Some (Turns t)) all turn e = subst May (same_Some t turn e) (all (Turns t) refl)
+  begun_turn_may s way taken place may (Some (Visits visit)) all turn e = begins_may s way taken place may visit (all (Visits visit) refl) turn e
+
+  changes_may : (change : CoreChange) (o : Option Turn) → ((t : Turn) → o ≡ Some t → May t) → (turn : Turn) → option_map (with_core change) o ≡ Some turn → May turn
+  changes_may change None all turn e = cc
+  changes_may change (Some t) all turn e = subst May (same_Some (with_core change t) turn e) (all t refl)
+
+  held_may : (s : State) (done : Bool) (o : Option Ahead) → ((ahead : Ahead) → o ≡ Some ahead → AheadMay ahead) → (turn : Turn) → held_turn c s k done o ≡ Some turn → May turn
+  held_may s true o all turn e = subst May (same_Some (core_turn Gives Begins) turn e) (tt, tt)
+  held_may s false None all turn e = cc
+  held_may s false (Some (Turns t)) all turn e = subst May (same_Some (with_core EndsVisit t) turn e) (all (Turns t) refl)
+  held_may s false (Some (Visits visit)) all turn e = changes_may (ended_by visit) (visit_turn c s k visit) (visit_may s visit (all (Visits visit) refl)) turn e
+
   -- where it stands as it may
-  pub turn_may : (s : State) (w : Option Waiting) (place : Place) → PlaceMay place → (call : Option WordCall) (turn : Turn) → turn_of c s k (ahead_at c gates mutexes k w place call) ≡ Some turn → May turn
-  turn_may s w place may call turn e = by (ahead_at c gates mutexes k w place call) refl e where
-    by : (o : Option Ahead) → ahead_at c gates mutexes k w place call ≡ o → turn_of c s k o ≡ Some turn → May turn
+  right_may : (s : State) (way : CoreUse) (core : Option Taken) (w : Option Waiting) (place : Place) → PlaceMay place → (call : Option WordCall) (turn : Turn) → turn_of c s k way core place (ahead_at c gates mutexes k w place call) ≡ Some turn → May turn
+  right_may s way core w place may call turn e = by (has_core core k) e where
+    by : (b : Bool) → (if b then held_turn c s k (is_done core) (ahead_at c gates mutexes k w place call) else begun_turn c s k way (is_some core) place (ahead_at c gates mutexes k w place call)) ≡ Some turn → May turn
+    by true h = held_may s (is_done core) (ahead_at c gates mutexes k w place call) (ahead_may w place may call) turn h
+    by false h = begun_turn_may s way (is_some core) place may (ahead_at c gates mutexes k w place call) (ahead_may w place may call) turn h
+
+  -- ---- wrong steps
+
+  offered_stands : (mutex : MutexId) (next : ℕ) (more : Bool) (place : Place) → StoodMay (AtMutex mutex (Offer next more)) place → StoodMay (AtMutex mutex (Offer next false)) place
+  offered_stands mutex next more Begins may = tt
+  offered_stands mutex next more (Found stax old) may = let e = may.0 in cc
+  offered_stands mutex next more (LeftStax stax) may = tt
+  offered_stands mutex next more (Claimed other) may = let e = may.0 in cc
+
+  offered_then : (mutex : MutexId) (next : ℕ) (more : Bool) (stand : Then) → ThenMay (Some (AtMutex mutex (Offer next more))) stand → ThenMay (Some (AtMutex mutex (Offer next false))) stand
+  offered_then mutex next more (Answers answer) may = tt
+  offered_then mutex next more (Stands place) may = offered_stands mutex next more place may
+
+  unmarked_stands : (mutex : MutexId) (place : Place) → StoodMay (AtMutex mutex Mark) place → PlaceMay place
+  unmarked_stands mutex Begins may = tt
+  unmarked_stands mutex (Found stax old) may = let e = may.0 in cc
+  unmarked_stands mutex (LeftStax stax) may = tt
+  unmarked_stands mutex (Claimed other) may = let e = may.0 in cc
+
+  unmarked_then : (mutex : MutexId) (stand : Then) → ThenMay (Some (AtMutex mutex Mark)) stand → ThenMay None stand
+  unmarked_then mutex (Answers answer) may = tt
+  unmarked_then mutex (Stands place) may = unmarked_stands mutex place may
+
+  step_wrong_may : (what : WhatIf) (step : WordStep) (stand : Then) → StepMay (Some step) → ThenMay (Some step) stand → StepMay (stepped_wrong what step) × ThenMay (stepped_wrong what step) stand
+  step_wrong_may OfferDropsMark (AtGate stax step) stand may next = (may, next)
+  step_wrong_may OfferDropsMark (AtMutex mutex Try) stand may next = (may, next)
+  step_wrong_may OfferDropsMark (AtMutex mutex Unlock) stand may next = (may, next)
+  step_wrong_may OfferDropsMark (AtMutex mutex Win) stand may next = (may, next)
+  step_wrong_may OfferDropsMark (AtMutex mutex Mark) stand may next = (may, next)
+  step_wrong_may OfferDropsMark (AtMutex mutex (Offer to more)) stand may next = (may, offered_then mutex to more stand next)
+  step_wrong_may OfferDropsMark (AtMutex mutex Free) stand may next = (may, next)
+  step_wrong_may OfferDropsMark (AtMutex mutex Accept) stand may next = (may, next)
+  step_wrong_may OfferDropsMark (AtMutex mutex Forget) stand may next = (may, next)
+  step_wrong_may ClaimSetsNoMark (AtGate stax step) stand may next = (may, next)
+  step_wrong_may ClaimSetsNoMark (AtMutex mutex Try) stand may next = (may, next)
+  step_wrong_may ClaimSetsNoMark (AtMutex mutex Unlock) stand may next = (may, next)
+  step_wrong_may ClaimSetsNoMark (AtMutex mutex Win) stand may next = (may, next)
+  step_wrong_may ClaimSetsNoMark (AtMutex mutex Mark) stand may next = (tt, unmarked_then mutex stand next)
+  step_wrong_may ClaimSetsNoMark (AtMutex mutex (Offer to more)) stand may next = (may, next)
+  step_wrong_may ClaimSetsNoMark (AtMutex mutex Free) stand may next = (may, next)
+  step_wrong_may ClaimSetsNoMark (AtMutex mutex Accept) stand may next = (may, next)
+  step_wrong_may ClaimSetsNoMark (AtMutex mutex Forget) stand may next = (may, next)
+  step_wrong_may UnlockSkipsKernel step stand may next = (may, next)
+  step_wrong_may LeaveKeepsMark step stand may next = (may, next)
+
+  some_then_may : (what : WhatIf) (step : Option WordStep) (stand : Then) → ThenMay step stand → ThenMay step (then_wrong what stand)
+  some_then_may OfferDropsMark step stand may = may
+  some_then_may ClaimSetsNoMark step stand may = may
+  some_then_may UnlockSkipsKernel step (Answers answer) may = may
+  some_then_may UnlockSkipsKernel step (Stands Begins) may = may
+  some_then_may UnlockSkipsKernel step (Stands (Found stax old)) may = may
+  some_then_may UnlockSkipsKernel step (Stands (LeftStax stax)) may = may
+  some_then_may UnlockSkipsKernel step (Stands (Claimed mutex)) may = tt
+  some_then_may LeaveKeepsMark step (Answers answer) may = may
+  some_then_may LeaveKeepsMark step (Stands Begins) may = may
+  some_then_may LeaveKeepsMark step (Stands (Found stax old)) may = may
+  some_then_may LeaveKeepsMark step (Stands (LeftStax stax)) may = tt
+  some_then_may LeaveKeepsMark step (Stands (Claimed mutex)) may = may
+
+  made_may : (what : Option WhatIf) (turn : Turn) → May turn → May (made_so what turn)
+  made_may None turn may = may
+  made_may (Some what) turn may = by turn.step may.0 may.1 where
+    by : (step : Option WordStep) → StepMay step → ThenMay step turn.then → StepMay (step_made (Some what) step) × ThenMay (step_made (Some what) step) (then_wrong what turn.then)
+    by None steps next = (tt, some_then_may what None turn.then next)
+    by (Some step) steps next =
+        let both = step_wrong_may what step turn.then steps next in
+        (both.0, some_then_may what (stepped_wrong what step) turn.then both.1)
+
+  -- a turn that callers make
+  pub turn_may : (s : State) (way : CoreUse) (core : Option Taken) (w : Option Waiting) (place : Place) → PlaceMay place → (call : Option WordCall) (turn : Turn)
+      → option_map (made_so c.what_if) (turn_of c s k way core place (ahead_at c gates mutexes k w place call)) ≡ Some turn → May turn
+  turn_may s way core w place may call turn e = by (turn_of c s k way core place (ahead_at c gates mutexes k w place call)) refl e where
+    by : (o : Option Turn) → turn_of c s k way core place (ahead_at c gates mutexes k w place call) ≡ o → option_map (made_so c.what_if) o ≡ Some turn → May turn
     by None at h = cc
-    by (Some (Turns t)) at h = subst May (same_Some t turn h) (ahead_may w place may call (Turns t) at)
-    by (Some (Visits visit)) at h = visit_may s visit (ahead_may w place may call (Visits visit) at) turn h
+    by (Some t) at h = subst May (same_Some (made_so c.what_if t) turn h) (made_may c.what_if t (right_may s way core w place may call t at))

@@ -1,3 +1,4 @@
+pub mod Cores
 pub mod Moments
 pub mod Outcomes
 pub mod Programs
@@ -6,4 +7,6 @@ pub mod Seen
 pub mod StepLaws
 pub mod Told
 pub mod Visits
+pub mod WholeVisits
 pub mod Words
+pub mod Wrongs

@@ -21,6 +21,7 @@ use Rattle.lab_step_orders.specs.declared.crews.Crew.{Crew}
 use Rattle.lab_step_orders.specs.declared.steps.Ahead.{Ahead}
 use Rattle.lab_step_orders.specs.declared.steps.Ahead.TheVariants.{Turns, Visits}
 use Rattle.lab_step_orders.specs.declared.steps.Asked.TheVariants as asked
+use Rattle.lab_step_orders.specs.declared.steps.CoreChange.TheVariants as core
 use Rattle.lab_step_orders.specs.declared.steps.GateStep.TheVariants.{Look, Exchange, Leave, Claim, Unclaim}
 use Rattle.lab_step_orders.specs.declared.steps.MutexStep.TheVariants.{Try, Unlock}
 use Rattle.lab_step_orders.specs.declared.steps.Place.{Place}
@@ -46,7 +47,7 @@ next_call c k made = option_and_then (λ caller. slice_get caller.calls.items ma
 
 -- a turn with no step; a step after which the call goes on; and a step with which it is answered
 abbrev pub turn_with : Option WordStep → Then → Turn
-turn_with step next = record { step = step; visit = None; wait = Same; then = next }
+turn_with step next = record { step = step; visit = None; core = core.Same; wait = Same; then = next }
 
 abbrev pub says : Answer → Turn
 says answer = turn_with None (Answers answer)

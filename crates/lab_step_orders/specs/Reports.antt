@@ -7,6 +7,8 @@ use Rattle.lab_orders.specs.declared.tallies.Tally.{Tally}
 use Rattle.lab_step_orders.specs.Seen.{Seen, after, first_seen, next_turn}
 use Rattle.lab_step_orders.specs.declared.crews.Crew.{Crew}
 use Rattle.lab_step_orders.specs.declared.outcomes.StepOutcomes.{StepOutcomes}
+use Rattle.lab_step_orders.specs.declared.steps.CoreChange.{CoreChange}
+use Rattle.lab_step_orders.specs.declared.steps.CoreChange.TheVariants.{Same, Takes, Ends, Gives}
 use Rattle.lab_step_orders.specs.declared.steps.GateStep.{GateStep}
 use Rattle.lab_step_orders.specs.declared.steps.GateStep.TheVariants.{Look, Exchange, Leave, Claim, Unclaim}
 use Rattle.lab_step_orders.specs.declared.steps.MutexStep.{MutexStep}
@@ -44,9 +46,15 @@ step_word None = codes "refused"
 step_word (Some (AtGate stax step)) = gate_word step
 step_word (Some (AtMutex mutex step)) = mutex_word step
 
--- a turn with the kernel in hand is a visit
+-- a turn takes the core, or gives it, or visits the kernel, or makes a step alone
+abbrev pub core_word : CoreChange → Turn → List ℕ
+core_word Takes turn = codes "take"
+core_word Gives turn = if is_some turn.visit then codes "visit" else codes "give"
+core_word Ends turn = codes "visit"
+core_word Same turn = if is_some turn.visit then codes "visit" else step_word turn.step
+
 abbrev pub turn_word : Turn → List ℕ
-turn_word turn = if is_some turn.visit then codes "visit" else step_word turn.step
+turn_word turn = core_word turn.core turn
 
 -- a turn of a caller, behind what parts it from the one before
 abbrev pub turn_text : List ℕ → ℕ → Turn → List ℕ

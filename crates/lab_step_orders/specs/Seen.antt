@@ -6,11 +6,14 @@ use Rattle.lab_orders.specs.Machines.{Machine}
 use Rattle.lab_step_orders.specs.Words.{Shared, gate_after, mutex_after}
 use Rattle.lab_step_orders.specs.Programs.{ahead_at, limit_of, stage_of, next_call}
 use Rattle.lab_step_orders.specs.Told.{answer_line}
-use Rattle.lab_step_orders.specs.Visits.{state_after, state_begun, turn_of}
+use Rattle.lab_step_orders.specs.Cores.{core_after, turn_of, use_of}
+use Rattle.lab_step_orders.specs.Visits.{state_after, state_begun}
+use Rattle.lab_step_orders.specs.Wrongs.{made_so}
 use Rattle.lab_step_orders.specs.declared.crews.Crew.{Crew}
 use Rattle.lab_step_orders.specs.declared.steps.Ahead.{Ahead}
 use Rattle.lab_step_orders.specs.declared.steps.Place.{Place}
 use Rattle.lab_step_orders.specs.declared.steps.Place.TheVariants.{Begins}
+use Rattle.lab_step_orders.specs.declared.steps.Taken.{Taken}
 use Rattle.lab_step_orders.specs.declared.steps.Then.{Then}
 use Rattle.lab_step_orders.specs.declared.steps.Then.TheVariants.{Stands, Answers}
 use Rattle.lab_step_orders.specs.declared.steps.Turn.{Turn}
@@ -20,8 +23,8 @@ use Rattle.lab_step_orders.specs.declared.steps.Waiting.{Waiting}
 use Rattle.lab_step_orders.specs.declared.steps.WordStep.{WordStep}
 use Rattle.lab_step_orders.specs.declared.steps.WordStep.TheVariants.{AtGate, AtMutex}
 
--- the words; of each caller where it stands, how many of its calls are over, what it was answered and for what it waits; and
--- the records of the kernel
+-- the words; of each caller where it stands, how many of its calls are over, what it was answered and for what it waits; who
+-- has the core, and the records of the kernel
 pub record Seen : Type 0 where
   pub gates : List Shared
   pub mutexes : List Shared
@@ -29,6 +32,7 @@ pub record Seen : Type 0 where
   pub made : List ℕ
   pub answers : List (List ℕ)
   pub waits : List (Option Waiting)
+  pub core : Option Taken
   pub state : State
 
 -- nobody holds it
@@ -43,6 +47,7 @@ first_seen c = record {
   made = map (λ caller. 0) c.callers.items;
   answers = map (λ caller. []) c.callers.items;
   waits = map (λ caller. None) c.callers.items;
+  core = None;
   state = state_begun c;
 }
 
@@ -88,6 +93,7 @@ after c s k turn = record {
   made = slice_set s.made k (made_after turn.then (slice_index s.made k));
   answers = slice_set s.answers k (answers_after turn.then (slice_index_or s.answers k []));
   waits = slice_set s.waits k (wait_after turn.wait (slice_index_or s.waits k None));
+  core = core_after turn.core k s.core;
   state = state_after c s.state k turn.visit;
 }
 
@@ -96,7 +102,8 @@ abbrev pub next_ahead : Crew → Seen → ℕ → Option Ahead
 next_ahead c s k = ahead_at c s.gates s.mutexes k (slice_index_or s.waits k None) (slice_index_or s.places k Begins) (next_call c k (slice_index s.made k))
 
 abbrev pub next_turn : Crew → Seen → ℕ → Option Turn
-next_turn c s k = turn_of c s.state k (next_ahead c s k)
+next_turn c s k =
+    option_map (made_so c.what_if) (turn_of c s.state k (use_of c k (slice_index s.made k)) s.core (slice_index_or s.places k Begins) (next_ahead c s k))
 
 abbrev pub go : Crew → Seen → ℕ → Option Seen
 go c s k = option_map (after c s k) (next_turn c s k)

@@ -21,10 +21,9 @@ use Rattle.lab_step_orders.specs.declared.calls.Answer.{Answer}
 use Rattle.lab_step_orders.specs.declared.calls.Answer.TheVariants as answer
 use Rattle.lab_step_orders.specs.declared.crews.Crew.{Crew}
 use Rattle.lab_step_orders.specs.declared.kernels.Visited.{Visited}
-use Rattle.lab_step_orders.specs.declared.steps.Ahead.{Ahead}
-use Rattle.lab_step_orders.specs.declared.steps.Ahead.TheVariants.{Turns, Visits}
 use Rattle.lab_step_orders.specs.declared.steps.Asked.{Asked}
 use Rattle.lab_step_orders.specs.declared.steps.Asked.TheVariants as asked
+use Rattle.lab_step_orders.specs.declared.steps.CoreChange.TheVariants as core
 use Rattle.lab_step_orders.specs.declared.steps.MutexStep.{MutexStep}
 use Rattle.lab_step_orders.specs.declared.steps.MutexStep.TheVariants.{Win, Mark, Offer, Free, Accept, Forget}
 use Rattle.lab_step_orders.specs.declared.steps.Then.TheVariants.{Answers}
@@ -68,7 +67,7 @@ goes_on s who = is_waiting s who && not (has_ended s who)
 
 -- a turn that steps on a mutex with the kernel in hand, and what the kernel is called
 abbrev pub visits : MutexId → MutexStep → Option Visit → WaitChange → Answer → Turn
-visits mutex step visit wait answer = record { step = Some (AtMutex mutex step); visit = visit; wait = wait; then = Answers answer }
+visits mutex step visit wait answer = record { step = Some (AtMutex mutex step); visit = visit; core = core.Same; wait = wait; then = Answers answer }
 
 -- what the kernel answers to a visit of a thread
 abbrev pub answered : Crew → State → ℕ → Visit → Result Reply Refusal
@@ -124,7 +123,7 @@ wait_told r Finish = Ends
 wait_told r visit = Same
 
 abbrev pub told : Visit → Result Reply Refusal → Turn
-told visit (Ok r) = record { step = None; visit = Some visit; wait = wait_told r visit; then = Answers (answer_of r) }
+told visit (Ok r) = record { step = None; visit = Some visit; core = core.Same; wait = wait_told r visit; then = Answers (answer_of r) }
 told visit (Err refusal) = refuses refusal
 
 -- a mutex with this word is claimed; where it is free the caller has it, and the kernel knows nothing of it
@@ -138,12 +137,6 @@ visit_turn c s k (asked.Begin mutex until word) = Some (begun c s k mutex until 
 visit_turn c s k (asked.End mutex word) = if goes_on s k then None else Some (ended mutex word k (has_timed_out s k))
 visit_turn c s k (asked.Step place) = Some (told (StepAt place) (answered c s k (StepAt place)))
 visit_turn c s k asked.Finish = if goes_on s k then None else Some (told Finish (answered c s k Finish))
-
--- the turn of a caller for whom this is ahead
-abbrev pub turn_of : Crew → State → ℕ → Option Ahead → Option Turn
-turn_of c s k None = None
-turn_of c s k (Some (Turns turn)) = Some turn
-turn_of c s k (Some (Visits visit)) = visit_turn c s k visit
 
 -- the records after a turn
 abbrev pub state_after : Crew → State → ℕ → Option Visit → State

@@ -5,6 +5,7 @@ ghost use Rattle.evl_base.specs.Limits.{stax_fits, thread_limit};
 ghost use Rattle.evl_base.specs.declared.refusal.Refusal.TheVariants.{Range};
 
 use crate::calls::WordCall;
+use crate::steps::{CoreUse, WhatIf};
 use evl_base::{Board, MAX_THREADS, Refusal, Stage};
 use evl_scenario::Step;
 
@@ -13,6 +14,8 @@ use evl_scenario::Step;
 pub struct CrewCaller {
     pub stage: Stage,
     pub calls: Vec<WordCall>,
+    /// How each call comes by the core; one that isn't there is whole.
+    pub uses: Vec<CoreUse>,
 }
 
 /// A board, what is set up, and the callers that come then, by the numbers of their threads.
@@ -27,6 +30,8 @@ pub struct Crew {
     /// The calls of the kernel that callers make, in no order.
     pub steps: Vec<Step>,
     pub callers: Vec<CrewCaller>,
+    /// The wrong step that they make, if any.
+    pub what_if: Option<WhatIf>,
     // How many callers there are.
     count: u16,
     ghost counted: { count ≡ length callers.items },
@@ -50,12 +55,14 @@ impl Crew {
         setup: Vec<Step>,
         steps: Vec<Step>,
         callers: Vec<CrewCaller>,
+        what_if: Option<WhatIf>,
     ) -> Result<Crew, Refusal>
         ensures board { IfOk result (λ crew. crew.board ≡ board) }
         ensures limit { IfOk result (λ crew. crew.limit ≡ limit) }
         ensures setup { IfOk result (λ crew. crew.setup ≡ setup) }
         ensures steps { IfOk result (λ crew. crew.steps ≡ steps) }
         ensures callers { IfOk result (λ crew. crew.callers ≡ callers) }
+        ensures what_if { IfOk result (λ crew. crew.what_if ≡ what_if) }
         ensures range { (result ≡ Err Range) ↔ ¬ ((length callers.items ≤ thread_limit) × (list_all stax_fits board.staxes.items ≡ true)) }
         ensures err { IfErr result (λ refusal. refusal ≡ Range) }
     {
@@ -69,6 +76,7 @@ impl Crew {
             setup,
             steps,
             callers,
+            what_if,
             count,
         })
     }

@@ -1,7 +1,7 @@
 //! Digests of moments.
 use crate::moments::Moment;
 use crate::shared::SharedWord;
-use crate::steps::Place;
+use crate::steps::{Place, Taken};
 
 // The start of a digest.
 const START: u64 = 14_695_981_039_346_656_037;
@@ -33,6 +33,14 @@ fn of_place(place: Place) -> u64 {
     }
 }
 
+// What tells who has the core.
+fn of_core(core: Option<Taken>) -> u64 {
+    match core {
+        Some(taken) => u64::from(taken.who) + if taken.is_done { 65_536 } else { 1 },
+        None => 0,
+    }
+}
+
 // A digest with the callers' places more.
 fn with_places(digest: u64, places: &[Place]) -> u64 {
     let mut all = digest;
@@ -55,7 +63,8 @@ fn with_text(digest: u64, text: &str) -> u64 {
 pub(crate) fn digest_of(moment: &Moment) -> u64 {
     let gates = with_words(START, moment.gates.as_slice());
     let words = with_words(gates, moment.mutexes.as_slice());
-    let mut all = with_places(words, moment.places.as_slice());
+    let taken = with_number(words, of_core(moment.core));
+    let mut all = with_places(taken, moment.places.as_slice());
     for text in &moment.answers {
         all = with_text(all, text.as_str());
     }

@@ -1,5 +1,6 @@
 //! What all orders of atomic steps keep. Each law is the contract of a function without a body.
 ghost use Rattle.lab_step_orders.specs.StepLaws.{NoStaxIsShared, OneHasTheMutex, WordsStand};
+ghost use Rattle.lab_step_orders.specs.WholeVisits.{VisitsAreWhole};
 
 /// Wherever the callers' steps lead, a world of `evl_words` stands behind each word: events of its seats lead there, each
 /// an atomic step that its seat may make.
@@ -15,4 +16,10 @@ pub fn no_stax_is_shared()
 /// Wherever the callers' steps lead, no two have one mutex.
 pub fn one_has_the_mutex()
     ensures { OneHasTheMutex }
+{}
+
+/// Callers that take the core for each visit by a turn of its own, and wait for it, end in the ways in which they do where
+/// each visit is one turn. If some give up where another has the core, they may end in more ways.
+pub fn visits_are_whole()
+    ensures { VisitsAreWhole }
 {}

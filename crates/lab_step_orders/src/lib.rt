@@ -3,8 +3,10 @@
 #![tactic(auto)]
 
 mod calls;
+mod cores;
 mod crews;
 mod digests;
+mod going;
 mod kernels;
 mod laws;
 mod moments;
@@ -18,15 +20,17 @@ mod told;
 mod visits;
 mod words;
 mod worlds;
+mod wrongs;
 
 pub use calls::{Answer, WordCall};
 pub use crews::{Crew, CrewCaller};
-pub use laws::{no_stax_is_shared, one_has_the_mutex, words_stand};
+pub use laws::{no_stax_is_shared, one_has_the_mutex, visits_are_whole, words_stand};
 pub use moments::Moment;
 pub use outcomes::{StepOutcomes, step_outcomes_of};
 pub use reports::{write_step_outcome, write_step_report};
 pub use seen::SeenSteps;
 pub use steps::{
-    Ahead, Asked, GateStep, MutexStep, Place, Then, Turn, Visit, WaitChange, Waiting, WordStep,
+    Ahead, Asked, CoreChange, CoreUse, GateStep, MutexStep, Place, Taken, Then, Turn, Visit,
+    WaitChange, Waiting, WhatIf, WordStep,
 };
 pub use worlds::Stepping;

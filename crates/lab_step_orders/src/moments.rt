@@ -1,22 +1,21 @@
 //! What is kept of callers at one moment.
-ghost use Rattle.std.specs.Prelude.{◌≡◌, ◌+◌, [], ◌<◌, ◌≤◌, true, replicate, IfOk, IfSome, OnOk, length, map, option_map, slice_get, slice_index, slice_index_or, slice_set, string_bytes};
+ghost use Rattle.std.specs.Prelude.{◌≡◌, ◌+◌, [], ◌<◌, ◌≤◌, true, None, replicate, IfOk, OnOk, length, map, slice_get, slice_index, slice_index_or, slice_set, string_bytes};
 ghost use Rattle.lab_step_orders.specs.Moments.{IsMoment, seen_of, shared_of, trail_after};
-ghost use Rattle.lab_step_orders.specs.Seen.{after, answers_after, changed_at, first_seen, free_word, gates_after, go, made_after, mutexes_after, next_ahead, next_turn, place_after, wait_after};
+ghost use Rattle.lab_step_orders.specs.Seen.{after, answers_after, changed_at, first_seen, free_word, gates_after, made_after, mutexes_after, place_after, wait_after};
 ghost use Rattle.lab_step_orders.specs.Programs.{limit_of, stage_of};
 ghost use Rattle.lab_step_orders.specs.Told.{answer_line};
-ghost use Rattle.lab_step_orders.specs.Visits.{visit_turn};
 ghost use Rattle.lab_step_orders.specs.Words as shared;
 ghost use Rattle.lab_step_orders.specs.declared.steps.Place.TheVariants.{Begins};
 
 use crate::calls::Answer;
+use crate::cores::core_after;
 use crate::crews::{Crew, CrewCaller};
-use crate::kernels::{NoPlans, Visited, do_trails_meet, leave, led};
-use crate::programs::{ahead_at, next_call, stage_of};
+use crate::kernels::{NoPlans, Visited, do_trails_meet};
+use crate::programs::stage_of;
 use crate::shared::{SharedWord, are_same_words, copied_words, free_word, words_with};
 use crate::steps::{
-    Ahead, Asked, GateStep, MutexStep, Place, Then, Turn, Visit, WaitChange, Waiting, WordStep,
+    GateStep, MutexStep, Place, Taken, Then, Turn, Visit, WaitChange, Waiting, WordStep,
 };
-use crate::visits::visit_turn;
 use crate::words::{gate_after, mutex_after};
 use evl_base::{MutexId, StaxId};
 use std::alloc::{AllocError, Global};
@@ -34,6 +33,8 @@ pub struct Moment {
     pub(crate) answers: Vec<String>,
     /// What each caller waits for.
     pub(crate) waits: Vec<Option<Waiting>>,
+    /// Who has the core.
+    pub(crate) core: Option<Taken>,
     /// The kernel's calls in visits, in their order, but for those that were refused: a refusal leaves the kernel as it
     /// was.
     pub(crate) trail: Vec<Visited>,
@@ -113,6 +114,7 @@ pub(crate) fn first_moment(alloc: Global, crew: &Crew) -> Result<Moment, AllocEr
         made,
         answers,
         waits,
+        core: None,
         trail: Vec::new(alloc),
     })
 }
@@ -371,6 +373,7 @@ pub(crate) fn moment_after(
     let made = made_after(alloc, before.made.as_slice(), place, turn.then)?;
     let answers = answers_after(alloc, before.answers.as_slice(), place, turn.then)?;
     let waits = waits_after(alloc, before.waits.as_slice(), place, turn.wait)?;
+    let core = core_after(turn.core, caller, before.core);
     let trail = trail_after(alloc, before.trail.as_slice(), caller, turn.visit)?;
     Ok(Moment {
         gates,
@@ -379,81 +382,9 @@ pub(crate) fn moment_after(
         made,
         answers,
         waits,
+        core,
         trail,
     })
-}
-
-// What is ahead of a caller.
-fn next_ahead(crew: &Crew, moment: &Moment, caller: u16) -> Option<Ahead>
-    requires caller { caller < length crew.now.callers.items }
-    requires fits { IsMoment crew.now moment.now }
-    ensures { result ≡ next_ahead crew.now (seen_of crew.now moment.now) caller }
-{
-    let place = usize::from(caller);
-    ahead_at(
-        crew,
-        moment.gates.as_slice(),
-        moment.mutexes.as_slice(),
-        caller,
-        moment.waits[place],
-        moment.places[place],
-        next_call(crew, caller, moment.made[place]),
-    )
-}
-
-// The turn of a caller that visits the kernel.
-fn visiting(
-    alloc: Global,
-    crew: &Crew,
-    moment: &Moment,
-    caller: u16,
-    asked: Asked,
-) -> Result<Option<Turn>, AllocError>
-    ensures { IfOk result (λ turn. turn ≡ visit_turn crew.now (seen_of crew.now moment.now).state caller asked) }
-{
-    let mut kernel = led(alloc, crew, &NoPlans, moment.trail.as_slice())?;
-    let turn = visit_turn(alloc, crew, &mut kernel, caller, asked);
-    leave(kernel);
-    turn
-}
-
-/// The next turn of a caller.
-pub(crate) fn next_turn(
-    alloc: Global,
-    crew: &Crew,
-    moment: &Moment,
-    caller: u16,
-) -> Result<Option<Turn>, AllocError>
-    requires caller { caller < length crew.now.callers.items }
-    requires fits { IsMoment crew.now moment.now }
-    ensures { IfOk result (λ turn. turn ≡ next_turn crew.now (seen_of crew.now moment.now) caller) }
-{
-    match next_ahead(crew, moment, caller) {
-        Some(Ahead::Turns(turn)) => Ok(Some(turn)),
-        Some(Ahead::Visits(asked)) => visiting(alloc, crew, moment, caller, asked),
-        None => Ok(None),
-    }
-}
-
-/// The moment after a caller's next turn, if it makes one.
-pub(crate) fn next_moment(
-    alloc: Global,
-    crew: &Crew,
-    moment: &Moment,
-    caller: u16,
-) -> Result<Option<Moment>, AllocError>
-    requires caller { caller < length crew.now.callers.items }
-    requires fits { IsMoment crew.now moment.now }
-    ensures next { IfOk result (λ next. option_map (seen_of crew.now) next ≡ go crew.now (seen_of crew.now moment.now) caller) }
-    ensures fits { IfOk result (λ next. IfSome next (IsMoment crew.now)) }
-{
-    let Some(turn) = next_turn(alloc, crew, moment, caller)? else {
-        return Ok(None);
-    };
-    match moment_after(alloc, crew, moment, caller, turn) {
-        Ok(next) => Ok(Some(next)),
-        Err(error) => Err(error),
-    }
 }
 
 // Whether two lists of texts are the same.
@@ -484,8 +415,28 @@ fn are_same_waits(one: &[Option<Waiting>], other: &[Option<Waiting>]) -> bool
     one == other
 }
 
+// Whether it is the same caller, as far.
+fn is_same_taken(one: Taken, other: Taken) -> bool
+    ensures { result ≡ true → one ≡ other }
+{
+    one.who == other.who && one.is_done == other.is_done
+}
+
+// Whether the same caller has the core, or none.
+fn is_same_core(one: Option<Taken>, other: Option<Taken>) -> bool
+    ensures { result ≡ true → one ≡ other }
+{
+    match one {
+        Some(taken) => match other {
+            Some(also) => is_same_taken(taken, also),
+            None => false,
+        },
+        None => other.is_none(),
+    }
+}
+
 /// Whether two moments are the same: the words and who holds them, where each caller stands, for what it waits, its
-/// answers, and how the kernel stands.
+/// answers, who has the core, and how the kernel stands.
 pub(crate) fn are_same(alloc: Global, crew: &Crew, one: &Moment, other: &Moment) -> bool
     ensures { result ≡ true → seen_of crew.now one.now ≡ seen_of crew.now other.now }
 {
@@ -495,6 +446,7 @@ pub(crate) fn are_same(alloc: Global, crew: &Crew, one: &Moment, other: &Moment)
         && are_same_numbers(one.made.as_slice(), other.made.as_slice())
         && are_same_texts(one.answers.as_slice(), other.answers.as_slice())
         && are_same_waits(one.waits.as_slice(), other.waits.as_slice())
+        && is_same_core(one.core, other.core)
         && do_trails_meet(
             alloc,
             crew,

@@ -12,7 +12,7 @@ use crate::calls::{Answer, WordCall};
 use crate::crews::Crew;
 use crate::shared::{SharedWord, holds};
 use crate::steps::{
-    Ahead, Asked, GateStep, MutexStep, Place, Then, Turn, WaitChange, Waiting, WordStep,
+    Ahead, Asked, CoreChange, GateStep, MutexStep, Place, Then, Turn, WaitChange, Waiting, WordStep,
 };
 use crate::words::{left_at, refusal_at};
 use evl_base::{MutexId, Refusal, Stage, StaxId};
@@ -54,6 +54,7 @@ pub(crate) fn refuses(refusal: Refusal) -> Turn
     Turn {
         step: None,
         visit: None,
+        core: CoreChange::Same,
         wait: WaitChange::Same,
         then: Then::Answers(Answer::Refused(refusal)),
     }
@@ -66,6 +67,7 @@ fn goes(step: WordStep, place: Place) -> Turn
     Turn {
         step: Some(step),
         visit: None,
+        core: CoreChange::Same,
         wait: WaitChange::Same,
         then: Then::Stands(place),
     }
@@ -78,6 +80,7 @@ fn ends(step: WordStep, answer: Answer) -> Turn
     Turn {
         step: Some(step),
         visit: None,
+        core: CoreChange::Same,
         wait: WaitChange::Same,
         then: Then::Answers(answer),
     }

@@ -7,9 +7,10 @@ ghost use Rattle.lab_step_orders.specs.Seen.{next_turn};
 ghost use Rattle.lab_step_orders.specs.Reports.{comment, counts_text, number_text, order_text, orders_text, outcome_text, outcomes_text, report_text, turn_text, turns_text};
 
 use crate::crews::Crew;
-use crate::moments::{Moment, first_moment, moment_after, next_turn};
+use crate::going::next_turn;
+use crate::moments::{Moment, first_moment, moment_after};
 use crate::outcomes::StepOutcomes;
-use crate::steps::{GateStep, MutexStep, Turn, WordStep};
+use crate::steps::{CoreChange, GateStep, MutexStep, Turn, WordStep};
 use lab_orders::Tally;
 use std::alloc::{AllocError, Global};
 
@@ -54,10 +55,23 @@ fn step_word(step: Option<WordStep>) -> &'static str
 fn turn_word(turn: Turn) -> &'static str
     ensures { result.now ≡ reports.turn_word turn }
 {
-    if turn.visit.is_some() {
-        "visit"
-    } else {
-        step_word(turn.step)
+    match turn.core {
+        CoreChange::Takes => "take",
+        CoreChange::Gives => {
+            if turn.visit.is_some() {
+                "visit"
+            } else {
+                "give"
+            }
+        }
+        CoreChange::Ends => "visit",
+        CoreChange::Same => {
+            if turn.visit.is_some() {
+                "visit"
+            } else {
+                step_word(turn.step)
+            }
+        }
     }
 }
 

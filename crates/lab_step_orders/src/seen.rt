@@ -2,12 +2,12 @@
 use std::marker::Model;
 
 /// The words; of each caller where it stands in its call, how many calls are over, what it was answered and for what it
-/// waits; and the records of the kernel: for contracts alone, no program makes one.
+/// waits; who has the core, and the records of the kernel: for contracts alone, no program makes one.
 #[derive(Drop)]
 pub struct SeenSteps {}
 
 impl Model for SeenSteps {
-    ghost use Rattle.std.specs.Prelude.{[]};
+    ghost use Rattle.std.specs.Prelude.{[], None};
     ghost use Rattle.evl_kernel.specs.state.Openings.{opening};
     ghost use Rattle.lab_step_orders.specs.Seen.{Seen};
 
@@ -20,6 +20,7 @@ impl Model for SeenSteps {
       made = [];
       answers = [];
       waits = [];
+      core = None;
       state = opening (record {
         threads = 0;
         sems = record { items = [] };

@@ -91,12 +91,54 @@ pub enum Then {
     Answers(Answer),
 }
 
+/// What a turn does to the core's lock.
+#[derive(Clone, Copy, Debug, PartialEq, Eq)]
+pub enum CoreChange {
+    Same,
+    Takes,
+    /// The caller has visited the kernel, and gives the core by its next turn.
+    Ends,
+    Gives,
+}
+
+/// Who has the core, and whether that has visited the kernel.
+#[derive(Clone, Copy, Debug, PartialEq, Eq)]
+pub struct Taken {
+    pub who: u16,
+    pub is_done: bool,
+}
+
+/// How a call that visits the kernel comes by the core.
+#[derive(Clone, Copy, Debug, PartialEq, Eq)]
+pub enum CoreUse {
+    /// The visit is one turn, which waits until nobody has the core.
+    Whole,
+    /// A turn before it takes the core, and waits until nobody has it; one behind it gives the core.
+    Lasts,
+    /// The same, but the call is answered `CoreBusy` where another has the core.
+    Tries,
+}
+
+/// A wrong step that callers make in place of the right one.
+#[derive(Clone, Copy, Debug, PartialEq, Eq)]
+pub enum WhatIf {
+    /// A mutex is offered without the mark of those that still wait.
+    OfferDropsMark,
+    /// A wait for a mutex begins, and its word isn't marked.
+    ClaimSetsNoMark,
+    /// Who finds its mutex claimed as it unlocks it leaves it so.
+    UnlockSkipsKernel,
+    /// The last one out of a stax leaves the mark there.
+    LeaveKeepsMark,
+}
+
 /// A caller's turn: the step that it makes, if any, and what it comes to.
 #[derive(Clone, Copy, Debug, PartialEq, Eq)]
 pub struct Turn {
     pub step: Option<WordStep>,
     /// What the kernel is called.
     pub visit: Option<Visit>,
+    pub core: CoreChange,
     pub wait: WaitChange,
     pub then: Then,
 }

@@ -10,7 +10,9 @@ use crate::calls::Answer;
 use crate::crews::Crew;
 use crate::kernels::{Visited, goes_on, visit_by};
 use crate::programs::refuses;
-use crate::steps::{Asked, MutexStep, Then, Turn, Visit, WaitChange, Waiting, WordStep};
+use crate::steps::{
+    Asked, CoreChange, MutexStep, Then, Turn, Visit, WaitChange, Waiting, WordStep,
+};
 use crate::words::{offers_to, owner_in};
 use evl_base::{MutexId, Refusal, Reply, ThreadId};
 use evl_kernel::KernelOf;
@@ -30,6 +32,7 @@ fn visits(
     Turn {
         step: Some(WordStep::AtMutex(mutex, step)),
         visit,
+        core: CoreChange::Same,
         wait,
         then: Then::Answers(answer),
     }
@@ -222,6 +225,7 @@ fn told(visit: Visit, answer: Result<Reply, Refusal>) -> Turn
         Ok(reply) => Turn {
             step: None,
             visit: Some(visit),
+            core: CoreChange::Same,
             wait: wait_told(&reply, visit),
             then: Then::Answers(answer_of(&reply)),
         },

@@ -1,9 +1,10 @@
 //! Callers that step on words, as a world.
 use crate::crews::Crew;
 use crate::digests::digest_of;
-use crate::moments::{Moment, are_same, next_moment};
+use crate::going::next_moment;
+use crate::moments::{Moment, are_same};
 use crate::seen::SeenSteps;
-use lab_orders::World;
+use lab_orders::{Reached, World};
 use std::alloc::{AllocError, Global};
 
 /// Callers whose steps are gone through.
@@ -14,11 +15,13 @@ pub struct Stepping<'a> {
 }
 
 impl<'a> World for Stepping<'a> {
-    ghost use Rattle.std.specs.Prelude.{false};
+    ghost use Rattle.std.specs.Prelude.{false, ⊤};
     ghost use Rattle.lab_step_orders.specs.Moments.{IsMoment, seen_of};
     ghost use Rattle.lab_step_orders.specs.Seen.{Seen, machine};
 
     type Moment = Moment;
+
+    type Hand = ();
 
     type State = SeenSteps;
 
@@ -27,6 +30,8 @@ impl<'a> World for Stepping<'a> {
     ghost state = { λ stepping moment. seen_of stepping.crew.now moment };
 
     ghost fits = { λ stepping moment. IsMoment stepping.crew.now moment };
+
+    ghost is_at_hand = { λ stepping hand moment. ⊤ };
 
     ghost holds = { λ stepping question seen. false };
 
@@ -45,16 +50,20 @@ impl<'a> World for Stepping<'a> {
         alloc: Global,
         moment: &Moment,
         caller: u16,
-    ) -> Result<Option<Moment>, AllocError> {
-        next_moment(alloc, self.crew, moment, caller)
+    ) -> Result<Option<Reached<Moment, ()>>, AllocError> {
+        match next_moment(alloc, self.crew, moment, caller) {
+            Ok(Some(at)) => Ok(Some(Reached { at, hand: () })),
+            Ok(None) => Ok(None),
+            Err(error) => Err(error),
+        }
     }
 
     fn digest(&self, moment: &Moment) -> u64 {
         digest_of(moment)
     }
 
-    fn is_same(&self, one: &Moment, other: &Moment) -> bool {
-        are_same(self.alloc, self.crew, one, other)
+    fn is_same(&self, one: &Moment, other: &Reached<Moment, ()>) -> bool {
+        are_same(self.alloc, self.crew, one, &other.at)
     }
 
     fn questions(&self) -> usize {

@@ -1,37 +1,56 @@
 -- Which texts are gone through step by step, and what is read of one, or why it isn't.
-use Rattle.std.proofs.Common.{◌≡◌, ℕ, ◌&&◌, Bool, true, List, None, Result, Ok, Err, IfOk, IfErr, sym, ap, ◌∙◌, subst}
+use Rattle.std.proofs.Common.{◌≡◌, ℕ, ◌&&◌, Bool, true, false, List, None, Result, Ok, Err, IfOk, IfErr, sym, ap, ◌∙◌, subst}
 use Rattle.std.specs.Str.{is_utf8}
+use Rattle.std.specs.Str.Lines.{lines}
 use Rattle.lab_callers_text.specs.Readings.{IsRead}
 use Rattle.lab_callers_text.specs.declared.reading.CallersText.{CallersText}
 use Rattle.lab_kinds.specs.Kinds.{kind_of}
-use Rattle.lab_scenario_orders.specs.Splits.{scenario_part, setup_count}
+use Rattle.lab_scenario_orders.specs.Splits.{is_mixed, scenario_part, setup_count}
 use Rattle.lab_step_orders.specs.declared.crews.Crew.{Crew}
-use Rattle.lab_step_texts.specs.Crews.{IsCrewOf, IsKept, IsKeptOf, IsReadOf, IsRefused, set_up}
+use Rattle.lab_step_texts.specs.Crews.{AreExtras, IsCrewOf, IsKept, IsKeptOf, IsReadAs, IsReadOf, IsRefused, set_up}
+use Rattle.lab_step_texts.specs.Extras.{is_unclear, plain_part}
 use Rattle.lab_step_texts.specs.Kinds.{asks_steps, is_of_callers}
+use Rattle.lab_step_texts.specs.declared.extras.Extras.{Extras}
 use Rattle.lab_step_texts.specs.declared.faults.StepsFault.{StepsFault}
-use Rattle.lab_step_texts.specs.declared.faults.StepsFault.TheVariants.{Text, Mixed, Mutex, Step}
+use Rattle.lab_step_texts.specs.declared.faults.StepsFault.TheVariants.{Text, Mixed, Mutex, Step, WhatIf}
 
 -- a text that is UTF-8, by the scenario in it
-pub asks_as : (E : Type 0) (r : Result Bool E) (bytes text scenario : List ℕ) → is_utf8 bytes ≡ true → text ≡ bytes → scenario ≡ scenario_part text
+pub asks_as : (E : Type 0) (r : Result Bool E) (bytes text scenario : List ℕ) → is_utf8 bytes ≡ true → text ≡ bytes → scenario ≡ scenario_part (plain_part text)
     → IfOk r (λ is. is ≡ is_of_callers (kind_of scenario)) → IfOk r (λ asks. asks ≡ asks_steps bytes)
 unfolding asks_steps
 asks_as E (Ok b) bytes text scenario known same part is =
-    is ∙ (ap (λ (s : List ℕ). is_of_callers (kind_of s)) (part ∙ ap (λ (t : List ℕ). scenario_part t) same)
-    ∙ sym (ap (λ (u : Bool). u && is_of_callers (kind_of (scenario_part bytes))) known))
+    is ∙ (ap (λ (s : List ℕ). is_of_callers (kind_of s)) (part ∙ ap (λ (t : List ℕ). scenario_part (plain_part t)) same)
+    ∙ sym (ap (λ (u : Bool). u && is_of_callers (kind_of (scenario_part (plain_part bytes)))) known))
 asks_as E (Err e) bytes text scenario known same part is = tt
 
 -- the callers of a scenario that was read
-pub crew_read : (r : Result Crew StepsFault) (scenario text : List ℕ) (count n : ℕ) (read : CallersText) → text ≡ scenario → IsRead None text read → n ≡ set_up count read
-    → IfOk r (IsCrewOf read n) → IfOk r (IsReadOf scenario count)
-crew_read (Ok crew) scenario text count n read same is all h =
-    record { read = read; is_read = subst (λ (t : List ℕ). IsRead None t read) same is; crew_of = subst (λ (m : ℕ). IsCrewOf read m crew) all h }
-crew_read (Err e) scenario text count n read same is all h = tt
+pub crew_read : (r : Result Crew StepsFault) (extras : Extras) (scenario text : List ℕ) (count n : ℕ) (read : CallersText) → text ≡ scenario → IsRead None text read → n ≡ set_up count read
+    → IfOk r (IsCrewOf extras read n) → IfOk r (IsReadOf extras scenario count)
+crew_read (Ok crew) extras scenario text count n read same is all h =
+    record { read = read; is_read = subst (λ (t : List ℕ). IsRead None t read) same is; crew_of = subst (λ (m : ℕ). IsCrewOf extras read m crew) all h }
+crew_read (Err e) extras scenario text count n read same is all h = tt
+
+-- those of a text that was split
+pub crew_split : (r : Result Crew StepsFault) (extras : Extras) (bytes text plain scenario : List ℕ) (count : ℕ) → text ≡ bytes → is_unclear text ≡ false → AreExtras text extras
+    → plain ≡ plain_part text → is_mixed (lines plain) ≡ false → scenario ≡ scenario_part plain → count ≡ setup_count plain
+    → IfOk r (IsReadOf extras scenario count) → IfOk r (IsReadAs bytes)
+crew_split (Ok crew) extras bytes text plain scenario count same clear are whole unmixed part all h =
+    subst (λ (b : List ℕ). IsReadAs b crew) same (record {
+      clear = clear;
+      unmixed = subst (λ (p : List ℕ). is_mixed (lines p) ≡ false) whole unmixed;
+      extras = extras;
+      are = are;
+      is_of = subst (λ (p : List ℕ). IsReadOf extras (scenario_part p) (setup_count p) crew) whole
+          (subst (λ (s : List ℕ). IsReadOf extras s (setup_count plain) crew) part (subst (λ (m : ℕ). IsReadOf extras scenario m crew) all h));
+    })
+crew_split (Err e) extras bytes text plain scenario count same clear are whole unmixed part all h = tt
 
 -- or why there are none
 kept_for : (scenario text : List ℕ) (count n : ℕ) (read : CallersText) → text ≡ scenario → IsRead None text read → n ≡ set_up count read → (fault : StepsFault)
     → IsKept read n fault → IsKeptOf scenario count fault
 kept_for scenario text count n read same is all (Text fault) h = tt
 kept_for scenario text count n read same is all Mixed h = absurd h
+kept_for scenario text count n read same is all WhatIf h = absurd h
 kept_for scenario text count n read same is all Mutex h =
     (read, subst (λ (t : List ℕ). IsRead None t read) same is, h)
 kept_for scenario text count n read same is all (Step k fault) h =
@@ -43,17 +62,21 @@ kept_read (Ok crew) scenario text count n read same is all h = tt
 kept_read (Err fault) scenario text count n read same is all h = kept_for scenario text count n read same is all fault h
 
 -- so of a text that was split
-refused_for : (bytes text scenario : List ℕ) (count : ℕ) → text ≡ bytes → scenario ≡ scenario_part text → count ≡ setup_count text → (fault : StepsFault)
+refused_for : (bytes text plain scenario : List ℕ) (count : ℕ) → text ≡ bytes → plain ≡ plain_part text → scenario ≡ scenario_part plain → count ≡ setup_count plain → (fault : StepsFault)
     → IsKeptOf scenario count fault → IsRefused bytes fault
-refused_for bytes text scenario count same part all (Text fault) h = tt
-refused_for bytes text scenario count same part all Mixed h = absurd h.2
-refused_for bytes text scenario count same part all Mutex h =
-    subst (λ (b : List ℕ). IsRefused b Mutex) same (subst (λ (s : List ℕ). IsKeptOf s (setup_count text) Mutex) part (subst (λ (m : ℕ). IsKeptOf scenario m Mutex) all h))
-refused_for bytes text scenario count same part all (Step k fault) h =
+refused_for bytes text plain scenario count same whole part all (Text fault) h = tt
+refused_for bytes text plain scenario count same whole part all Mixed h = absurd h.2
+refused_for bytes text plain scenario count same whole part all WhatIf h = absurd h.2
+refused_for bytes text plain scenario count same whole part all Mutex h =
+    subst (λ (b : List ℕ). IsRefused b Mutex) same
+    (subst (λ (p : List ℕ). IsKeptOf (scenario_part p) (setup_count p) Mutex) whole
+    (subst (λ (s : List ℕ). IsKeptOf s (setup_count plain) Mutex) part (subst (λ (m : ℕ). IsKeptOf scenario m Mutex) all h)))
+refused_for bytes text plain scenario count same whole part all (Step k fault) h =
     subst (λ (b : List ℕ). IsRefused b (Step k fault)) same
-    (subst (λ (s : List ℕ). IsKeptOf s (setup_count text) (Step k fault)) part (subst (λ (m : ℕ). IsKeptOf scenario m (Step k fault)) all h))
+    (subst (λ (p : List ℕ). IsKeptOf (scenario_part p) (setup_count p) (Step k fault)) whole
+    (subst (λ (s : List ℕ). IsKeptOf s (setup_count plain) (Step k fault)) part (subst (λ (m : ℕ). IsKeptOf scenario m (Step k fault)) all h)))
 
-pub refused_read : (r : Result Crew StepsFault) (bytes text scenario : List ℕ) (count : ℕ) → text ≡ bytes → scenario ≡ scenario_part text → count ≡ setup_count text
+pub refused_read : (r : Result Crew StepsFault) (bytes text plain scenario : List ℕ) (count : ℕ) → text ≡ bytes → plain ≡ plain_part text → scenario ≡ scenario_part plain → count ≡ setup_count plain
     → IfErr r (IsKeptOf scenario count) → IfErr r (IsRefused bytes)
-refused_read (Ok crew) bytes text scenario count same part all h = tt
-refused_read (Err fault) bytes text scenario count same part all h = refused_for bytes text scenario count same part all fault h
+refused_read (Ok crew) bytes text plain scenario count same whole part all h = tt
+refused_read (Err fault) bytes text plain scenario count same whole part all h = refused_for bytes text plain scenario count same whole part all fault h

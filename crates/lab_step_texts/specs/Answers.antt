@@ -12,7 +12,7 @@ use Rattle.lab_step_orders.specs.declared.crews.CrewCaller.{CrewCaller}
 abbrev pub kernel_answers : List (List ℕ)
 kernel_answers =
     codes "done" ∷ codes "begun" ∷ codes "timed out" ∷ codes "Unknown" ∷ codes "Invalid" ∷ codes "Again" ∷ codes "Busy" ∷ codes "NotOwner"
-    ∷ codes "Deadlock" ∷ codes "Limit" ∷ codes "Range" ∷ codes "TooBig" ∷ codes "WrongStage" ∷ []
+    ∷ codes "Deadlock" ∷ codes "Limit" ∷ codes "Range" ∷ codes "TooBig" ∷ codes "WrongStage" ∷ codes "CoreBusy" ∷ []
 
 abbrev pub answers_of : WordCall → List (List ℕ)
 answers_of (TryLockStax stax) = codes "pass" ∷ codes "Again" ∷ codes "Limit" ∷ codes "Raced" ∷ codes "Unknown" ∷ codes "Busy" ∷ []
@@ -20,9 +20,9 @@ answers_of (UnlockStax stax) = codes "done" ∷ codes "done, others want in" ∷
 answers_of (ClaimStax stax) = codes "done" ∷ codes "Unknown" ∷ []
 answers_of (TryLockMutex mutex) = codes "pass" ∷ codes "Busy" ∷ codes "Unknown" ∷ codes "WrongStage" ∷ codes "Deadlock" ∷ []
 answers_of (UnlockMutexFast mutex) = codes "done" ∷ codes "Busy" ∷ codes "NotOwner" ∷ []
-answers_of (TryUnlockMutex mutex) = codes "done" ∷ codes "Busy" ∷ codes "NotOwner" ∷ []
-answers_of (BeginLockMutex mutex until) = codes "pass" ∷ codes "begun" ∷ codes "Busy" ∷ codes "Unknown" ∷ codes "WrongStage" ∷ codes "Deadlock" ∷ []
-answers_of FinishLockMutex = codes "pass" ∷ codes "timed out" ∷ codes "Invalid" ∷ []
+answers_of (TryUnlockMutex mutex) = codes "done" ∷ codes "Busy" ∷ codes "NotOwner" ∷ codes "CoreBusy" ∷ []
+answers_of (BeginLockMutex mutex until) = codes "pass" ∷ codes "begun" ∷ codes "Busy" ∷ codes "Unknown" ∷ codes "WrongStage" ∷ codes "Deadlock" ∷ codes "CoreBusy" ∷ []
+answers_of FinishLockMutex = codes "pass" ∷ codes "timed out" ∷ codes "Invalid" ∷ codes "CoreBusy" ∷ []
 answers_of (Kernel place) = kernel_answers
 answers_of (Finish keep) = kernel_answers
 

@@ -21,11 +21,19 @@ fn answers_of(call: WordCall) -> &'static [&'static str]
         WordCall::ClaimStax(_) => &["done", "Unknown"],
         WordCall::TryLockMutex(_) => &["pass", "Busy", "Unknown", "WrongStage", "Deadlock"],
         WordCall::UnlockMutexFast(_) => &["done", "Busy", "NotOwner"],
-        WordCall::TryUnlockMutex(_) => &["done", "Busy", "NotOwner"],
+        WordCall::TryUnlockMutex(_) => &["done", "Busy", "NotOwner", "CoreBusy"],
         WordCall::BeginLockMutex(_, _) => {
-            &["pass", "begun", "Busy", "Unknown", "WrongStage", "Deadlock"]
+            &[
+                "pass",
+                "begun",
+                "Busy",
+                "Unknown",
+                "WrongStage",
+                "Deadlock",
+                "CoreBusy",
+            ]
         }
-        WordCall::FinishLockMutex => &["pass", "timed out", "Invalid"],
+        WordCall::FinishLockMutex => &["pass", "timed out", "Invalid", "CoreBusy"],
         WordCall::Kernel(_) | WordCall::Finish(_) => {
             &[
                 "done",
@@ -41,6 +49,7 @@ fn answers_of(call: WordCall) -> &'static [&'static str]
                 "Range",
                 "TooBig",
                 "WrongStage",
+                "CoreBusy",
             ]
         }
     }

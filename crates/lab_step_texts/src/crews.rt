@@ -1,18 +1,20 @@
 //! The callers of a text that was read, with their calls.
-ghost use Rattle.std.specs.Prelude.{ℕ, ◌≡◌, ◌≤◌, [], IfErr, IfOk, Some, find, length, map, option_map, slice_get, take};
+ghost use Rattle.std.specs.Prelude.{ℕ, ◌≡◌, ◌≤◌, [], IfErr, IfOk, Some, drop, find, length, map, option_map, slice_get, slice_index_or, take};
 ghost use Rattle.std.specs.List.{list_all, list_any};
 ghost use Rattle.lab_step_texts.specs.Calls as texts;
 ghost use Rattle.lab_step_texts.specs.Calls.{attaches, is_of, own_calls, stage_in, unattached};
 ghost use Rattle.lab_step_texts.specs.Crews as crews;
 ghost use Rattle.lab_step_texts.specs.Crews.{IsCrewOf, IsKept, caller_of};
+ghost use Rattle.lab_step_texts.specs.Extras.{own_ways};
 ghost use Rattle.lab_step_orders.specs.declared.crews.CrewCaller.{CrewCaller};
 
 use crate::calls::{CallerCall, CallsFault, calls_of};
+use crate::extras::Extras;
 use crate::faults::{StepFault, StepsFault};
 use evl_base::{Call, MutexKind, Policy, Stage, ThreadId};
 use evl_scenario::{Fault, Step};
 use lab_callers_text::{Act, CallersStep, CallersText};
-use lab_step_orders::{Crew, CrewCaller, WordCall};
+use lab_step_orders::{CoreUse, Crew, CrewCaller, WordCall};
 use std::alloc::{AllocError, Global};
 
 // Whether a mutex neither nests nor has a ceiling.
@@ -114,18 +116,49 @@ fn own_calls(alloc: Global, calls: &[CallerCall], who: u16) -> Result<Vec<WordCa
     Ok(own)
 }
 
+// How the step with this number comes by the core.
+fn way_at(ways: &[CoreUse], number: usize) -> CoreUse
+    ensures { result ≡ slice_index_or ways.now number CoreUse.Whole }
+{
+    match ways.get(number) {
+        Some(way) => *way,
+        None => CoreUse::Whole,
+    }
+}
+
+// How the calls of one caller come by the core.
+fn own_ways(
+    alloc: Global,
+    ways: &[CoreUse],
+    steps: &[CallersStep],
+    who: u16,
+) -> Result<Vec<CoreUse>, AllocError>
+    ensures { IfOk result (λ own. own.items ≡ own_ways who ways.now 0 steps.now) }
+{
+    let mut own = Vec::new(alloc);
+    for (number, step) in steps.iter().enumerate() {
+        if step.who.0 == who {
+            own.push(way_at(ways, number))?;
+        }
+    }
+    Ok(own)
+}
+
 // A thread on its stage, with its calls.
 fn caller_of(
     alloc: Global,
     setup: &[CallersStep],
+    steps: &[CallersStep],
+    ways: &[CoreUse],
     calls: &[CallerCall],
     who: u16,
 ) -> Result<CrewCaller, AllocError>
-    ensures { IfOk result (caller_of setup.now calls.now who) }
+    ensures { IfOk result (caller_of setup.now steps.now ways.now calls.now who) }
 {
     let stage = stage_in(setup, who);
     let calls = own_calls(alloc, calls, who)?;
-    Ok(CrewCaller { stage, calls })
+    let uses = own_ways(alloc, ways, steps, who)?;
+    Ok(CrewCaller { stage, calls, uses })
 }
 
 // So many threads.
@@ -133,14 +166,16 @@ fn callers_of(
     alloc: Global,
     threads: u16,
     setup: &[CallersStep],
+    steps: &[CallersStep],
+    ways: &[CoreUse],
     calls: &[CallerCall],
 ) -> Result<Vec<CrewCaller>, AllocError>
     ensures each { IfOk result (λ all. length all.items ≡ threads) }
-    ensures callers { IfOk result (λ all. (k : ℕ) (caller : CrewCaller) → slice_get all.items k ≡ Some caller → caller_of setup.now calls.now k caller) }
+    ensures callers { IfOk result (λ all. (k : ℕ) (caller : CrewCaller) → slice_get all.items k ≡ Some caller → caller_of setup.now steps.now ways.now calls.now k caller) }
 {
     let mut all = Vec::new(alloc);
     for who in 0..threads {
-        let caller = caller_of(alloc, setup, calls, who)?;
+        let caller = caller_of(alloc, setup, steps, ways, calls, who)?;
         all.push(caller)?;
     }
     Ok(all)
@@ -196,6 +231,7 @@ fn crew_with(
     alloc: Global,
     read: CallersText,
     count: usize,
+    extras: &Extras,
     calls: &[CallerCall],
 ) -> Result<Crew, Fault>
     requires { count ≤ length read.steps.items }
@@ -204,7 +240,8 @@ fn crew_with(
     ensures setup { IfOk result (λ crew. crew.setup.items ≡ attaches (take count read.steps.items)) }
     ensures steps { IfOk result (λ crew. crew.steps.items ≡ map texts.kernel_step read.steps.items) }
     ensures each { IfOk result (λ crew. length crew.callers.items ≡ read.board.threads) }
-    ensures callers { IfOk result (λ crew. (k : ℕ) (caller : CrewCaller) → slice_get crew.callers.items k ≡ Some caller → caller_of (take count read.steps.items) calls.now k caller) }
+    ensures callers { IfOk result (λ crew. (k : ℕ) (caller : CrewCaller) → slice_get crew.callers.items k ≡ Some caller → caller_of (take count read.steps.items) (drop count read.steps.items) extras.now.ways.items calls.now k caller) }
+    ensures what_if { IfOk result (λ crew. crew.what_if ≡ extras.now.what_if) }
 {
     let CallersText {
         board,
@@ -212,25 +249,32 @@ fn crew_with(
         steps,
     } = read;
     let first = &steps.as_slice()[..count];
+    let behind = &steps.as_slice()[count..];
+    let ways = extras.ways.as_slice();
     let Ok(setup) = setup_of(alloc, first) else {
         return Err(Fault::Memory);
     };
-    let Ok(callers) = callers_of(alloc, board.threads, first, calls) else {
+    let Ok(callers) = callers_of(alloc, board.threads, first, behind, ways, calls) else {
         return Err(Fault::Memory);
     };
     let Ok(all) = steps_of(alloc, steps) else {
         return Err(Fault::Memory);
     };
-    match Crew::new(board, limit, setup, all, callers) {
+    match Crew::new(board, limit, setup, all, callers, extras.what_if) {
         Ok(crew) => Ok(crew),
         Err(_) => Err(Fault::Board),
     }
 }
 
 /// The callers of a text that was read, of which so many steps are set up.
-pub(crate) fn crew_of(alloc: Global, read: CallersText, count: usize) -> Result<Crew, StepsFault>
+pub(crate) fn crew_of(
+    alloc: Global,
+    read: CallersText,
+    count: usize,
+    extras: &Extras,
+) -> Result<Crew, StepsFault>
     requires { count ≤ length read.steps.items }
-    ensures crew { IfOk result (IsCrewOf read count) }
+    ensures crew { IfOk result (IsCrewOf extras.now read count) }
     ensures kept { IfErr result (IsKept read count) }
 {
     if !are_plain(read.board.mutexes.as_slice()) {
@@ -245,7 +289,7 @@ pub(crate) fn crew_of(alloc: Global, read: CallersText, count: usize) -> Result<
         Err(CallsFault::Step(number, fault)) => return Err(StepsFault::Step(number, fault)),
         Err(CallsFault::Memory) => return Err(StepsFault::Text(Fault::Memory)),
     };
-    match crew_with(alloc, read, count, calls.as_slice()) {
+    match crew_with(alloc, read, count, extras, calls.as_slice()) {
         Ok(crew) => Ok(crew),
         Err(fault) => Err(StepsFault::Text(fault)),
     }

@@ -43,6 +43,8 @@ pub enum StepsFault {
     Mixed,
     /// A mutex of the board nests, or has a ceiling.
     Mutex,
+    /// A line of `[what_if]` names no wrong step, or not as `true`.
+    WhatIf,
     /// The step with this number, from 1, those that are set up counted too.
     Step(usize, StepFault),
 }

@@ -5,6 +5,7 @@ mod answers;
 mod asks;
 mod calls;
 mod crews;
+mod extras;
 mod faults;
 mod reading;
 

@@ -5,6 +5,7 @@ ghost use Rattle.lab_step_texts.specs.Crews.{IsKeptOf, IsReadAs, IsReadOf, IsRef
 ghost use Rattle.lab_step_texts.specs.Kinds.{asks_steps, is_of_callers};
 
 use crate::crews::crew_of;
+use crate::extras::{Extras, extras_of};
 use crate::faults::StepsFault;
 use evl_scenario::Fault;
 use lab_callers_text::{CallersText, read_callers};
@@ -31,13 +32,14 @@ pub fn asks_steps(alloc: Global, bytes: &[u8]) -> Result<bool, AllocError>
     let Ok(text) = str::from_utf8(bytes) else {
         return Ok(false);
     };
-    let split = split_text(alloc, text)?;
+    let extras = extras_of(alloc, text)?;
+    let split = split_text(alloc, extras.plain.as_str())?;
     is_of_callers(alloc, split.scenario.as_str().as_bytes())
 }
 
 // The callers of a text that was split.
-fn read_split(alloc: Global, split: &Split) -> Result<Crew, StepsFault>
-    ensures crew { IfOk result (IsReadOf (string_bytes split.now.scenario) split.now.setup) }
+fn read_split(alloc: Global, extras: &Extras, split: &Split) -> Result<Crew, StepsFault>
+    ensures crew { IfOk result (IsReadOf extras.now (string_bytes split.now.scenario) split.now.setup) }
     ensures kept { IfErr result (IsKeptOf (string_bytes split.now.scenario) split.now.setup) }
 {
     let read = match read_callers(alloc, split.scenario.as_str().as_bytes(), None) {
@@ -46,11 +48,11 @@ fn read_split(alloc: Global, split: &Split) -> Result<Crew, StepsFault>
     };
     let steps = read.steps.as_slice();
     let count = split.setup.min(steps.len());
-    crew_of(alloc, read, count)
+    crew_of(alloc, read, count, extras)
 }
 
 /// The callers of a text, with their calls on words: a text of callers, in which `[[setup]]` stands for a step that comes
-/// first.
+/// first, `lasts` in a step says how it comes by the core, and a table `[what_if]` names a wrong step.
 pub fn read_steps(alloc: Global, bytes: &[u8]) -> Result<Crew, StepsFault>
     ensures crew { IfOk result (IsReadAs bytes.now) }
     ensures refused { IfErr result (IsRefused bytes.now) }
@@ -58,11 +60,17 @@ pub fn read_steps(alloc: Global, bytes: &[u8]) -> Result<Crew, StepsFault>
     let Ok(text) = str::from_utf8(bytes) else {
         return Err(StepsFault::Text(Fault::Text));
     };
-    let Ok(split) = split_text(alloc, text) else {
+    let Ok(extras) = extras_of(alloc, text) else {
+        return Err(StepsFault::Text(Fault::Memory));
+    };
+    if extras.is_unclear {
+        return Err(StepsFault::WhatIf);
+    }
+    let Ok(split) = split_text(alloc, extras.plain.as_str()) else {
         return Err(StepsFault::Text(Fault::Memory));
     };
     if split.is_mixed {
         return Err(StepsFault::Mixed);
     }
-    read_split(alloc, &split)
+    read_split(alloc, &extras, &split)
 }

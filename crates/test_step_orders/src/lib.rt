@@ -2,4 +2,6 @@
 #![tactic(auto)]
 
 #[cfg(test)]
+mod turns;
+#[cfg(test)]
 mod words;

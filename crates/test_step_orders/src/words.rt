@@ -3,7 +3,7 @@ use arrayvec::ArrayVec;
 use evl_base::{Board, Call, MutexId, MutexKind, Policy, Refusal, Stage, StaxId, ThreadId};
 use evl_scenario::Step;
 use lab_step_orders::{
-    Crew, CrewCaller, StepOutcomes, WordCall, step_outcomes_of, write_step_report,
+    CoreUse, Crew, CrewCaller, StepOutcomes, WhatIf, WordCall, step_outcomes_of, write_step_report,
 };
 use std::alloc::{AllocError, Global};
 
@@ -18,10 +18,19 @@ const LOCK: WordCall = WordCall::TryLockMutex(MutexId(0));
 const UNLOCK: WordCall = WordCall::UnlockMutexFast(MutexId(0));
 
 // A caller on a stage, with its calls.
-type Row = (Stage, &'static [WordCall]);
+pub(crate) type Row = (Stage, &'static [WordCall]);
 
-// These callers over one stax that two may hold, and one mutex.
-fn callers_of(alloc: Global, rows: &[Row]) -> Result<Vec<CrewCaller>, AllocError> {
+// So many calls that come by the core in one way.
+fn uses_of(alloc: Global, way: CoreUse, count: usize) -> Result<Vec<CoreUse>, AllocError> {
+    let mut uses = Vec::new(alloc);
+    for _ in 0..count {
+        uses.push(way)?;
+    }
+    Ok(uses)
+}
+
+// These callers over one stax that two may hold, and one mutex; their calls come by the core in one way.
+fn callers_of(alloc: Global, rows: &[Row], way: CoreUse) -> Result<Vec<CrewCaller>, AllocError> {
     let mut callers = Vec::new(alloc);
     for (stage, row) in rows {
         let mut calls = Vec::new(alloc);
@@ -29,6 +38,7 @@ fn callers_of(alloc: Global, rows: &[Row]) -> Result<Vec<CrewCaller>, AllocError
         callers.push(CrewCaller {
             stage: *stage,
             calls,
+            uses: uses_of(alloc, way, row.len())?,
         })?;
     }
     Ok(callers)
@@ -55,7 +65,7 @@ fn board_of(limit: u16, two: bool, threads: u16) -> Board {
 }
 
 fn crew_of(alloc: Global, limit: u16, rows: &[Row]) -> Result<Crew, Refusal> {
-    let Ok(callers) = callers_of(alloc, rows) else {
+    let Ok(callers) = callers_of(alloc, rows, CoreUse::Whole) else {
         return Err(Refusal::NoMemory);
     };
     Crew::new(
@@ -64,12 +74,13 @@ fn crew_of(alloc: Global, limit: u16, rows: &[Row]) -> Result<Crew, Refusal> {
         Vec::new(alloc),
         Vec::new(alloc),
         callers,
+        None,
     )
 }
 
 // How many orders there are, how many outcomes, how many moments, and how many orders have such an answer.
 #[derive(Clone, Copy, PartialEq, Eq)]
-struct Counts {
+pub(crate) struct Counts {
     orders: u128,
     outcomes: usize,
     moments: usize,
@@ -255,7 +266,7 @@ fn limits_are_those_of_a_board(rt: HostRuntime) {
     assert!(rt; is_refused(rt.alloc(), 1001));
 }
 
-const M0: MutexId = MutexId(0);
+pub(crate) const M0: MutexId = MutexId(0);
 
 const M1: MutexId = MutexId(1);
 
@@ -286,8 +297,14 @@ fn ticks(alloc: Global) -> Result<Vec<Step>, AllocError> {
     Ok(steps)
 }
 
-fn crew_with(alloc: Global, ranks: &[u8], rows: &[Row]) -> Option<Crew> {
-    let Ok(callers) = callers_of(alloc, rows) else {
+fn crew_by(
+    alloc: Global,
+    ranks: &[u8],
+    rows: &[Row],
+    way: CoreUse,
+    what_if: Option<WhatIf>,
+) -> Option<Crew> {
+    let Ok(callers) = callers_of(alloc, rows, way) else {
         return None;
     };
     let Ok(setup) = attached(alloc, ranks) else {
@@ -297,11 +314,18 @@ fn crew_with(alloc: Global, ranks: &[u8], rows: &[Row]) -> Option<Crew> {
         return None;
     };
     let board = board_of(1, true, 4);
-    Crew::new(board, 1000, setup, steps, callers).ok()
+    Crew::new(board, 1000, setup, steps, callers, what_if).ok()
 }
 
-fn counts_with(alloc: Global, ranks: &[u8], rows: &[Row], answer: &str) -> Option<Counts> {
-    let Some(crew) = crew_with(alloc, ranks, rows) else {
+pub(crate) fn counts_by(
+    alloc: Global,
+    ranks: &[u8],
+    rows: &[Row],
+    way: CoreUse,
+    what_if: Option<WhatIf>,
+    answer: &str,
+) -> Option<Counts> {
+    let Some(crew) = crew_by(alloc, ranks, rows, way, what_if) else {
         return None;
     };
     match step_outcomes_of(alloc, &crew, 100_000) {
@@ -310,7 +334,16 @@ fn counts_with(alloc: Global, ranks: &[u8], rows: &[Row], answer: &str) -> Optio
     }
 }
 
-fn wanted(orders: u128, outcomes: usize, moments: usize, with_answer: u128) -> Option<Counts> {
+fn counts_with(alloc: Global, ranks: &[u8], rows: &[Row], answer: &str) -> Option<Counts> {
+    counts_by(alloc, ranks, rows, CoreUse::Whole, None, answer)
+}
+
+pub(crate) fn wanted(
+    orders: u128,
+    outcomes: usize,
+    moments: usize,
+    with_answer: u128,
+) -> Option<Counts> {
     Some(Counts {
         orders,
         outcomes,
@@ -319,7 +352,7 @@ fn wanted(orders: u128, outcomes: usize, moments: usize, with_answer: u128) -> O
     })
 }
 
-const LOCKING: &[WordCall] = &[
+pub(crate) const LOCKING: &[WordCall] = &[
     WordCall::BeginLockMutex(M0, None),
     WordCall::FinishLockMutex,
     WordCall::TryUnlockMutex(M0),

@@ -13,6 +13,6 @@ loop-who-preserved c =
     record {
       each = omega (arith, ap (λ (l : List CrewCaller). length l) items, length-append xs (x ∷ []), c.loop-who.invariant.each);
       callers = λ k y e.
-          one_more (caller_of c.args.setup.now c.args.calls.now) xs c.loop-who.who x c.loop-who.invariant.each c.in_ok-caller.ensures c.loop-who.invariant.callers k y
+          one_more (caller_of c.args.setup.now c.args.steps.now c.args.ways.now c.args.calls.now) xs c.loop-who.who x c.loop-who.invariant.each c.in_ok-caller.ensures c.loop-who.invariant.callers k y
           (subst (λ (l : List CrewCaller). slice_get l k ≡ Some y) items e);
     }

@@ -7,5 +7,5 @@ use Rattle.lab_step_texts.proofs.crews.callers_of.Given as goal
 abbrev pub invariant-loop-who : goal.invariant-loop-who
 invariant-loop-who l = record {
   each : length l.all.items ≡ l.who;
-  callers : (k : ℕ) (caller : CrewCaller) → slice_get l.all.items k ≡ Some caller → caller_of l.setup l.calls k caller;
+  callers : (k : ℕ) (caller : CrewCaller) → slice_get l.all.items k ≡ Some caller → caller_of l.setup l.steps l.ways l.calls k caller;
 }
