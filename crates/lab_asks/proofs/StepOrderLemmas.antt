@@ -1,11 +1,11 @@
 -- One of two things that a truth value chooses; what is told of a step, and of the number of outcomes.
 use Rattle.std.proofs.Common.{◌≡◌, ℕ, ◌++◌, Bool, true, false, List, Option, Some, codes, decimal, length, refl, sym, ap, ◌∙◌, append_assoc}
 use Rattle.std.specs.Prelude.{MatchBool}
+use Rattle.lab_scenario_orders.specs.Verdicts.{is_count_against}
 use Rattle.lab_scenario_orders.specs.declared.asks.Ask.{Ask}
 use Rattle.lab_step_orders.specs.declared.outcomes.StepOutcomes.{StepOutcomes}
 use Rattle.lab_streams.specs.Endings.{line_about}
 use Rattle.lab_asks.specs.StepOrders.{wanted_text}
-use Rattle.lab_asks.specs.Verdicts.{is_count_against}
 
 pub is_first : (b : Bool) (A B : Type 0) → b ≡ true → A → MatchBool b A B
 is_first true A B e a = a

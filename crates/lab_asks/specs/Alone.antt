@@ -1,14 +1,17 @@
 -- What `lab orders --ask` tells of what is asked alone.
 use Rattle.std.specs.Prelude.{◌≡◌, ◌⊎◌, ◌+◌, ◌-◌, ◌^◌, ◌==◌, ℕ, Bool, nat_lt, is_some, min, if◌then◌else◌, MatchBool, List, ◌++◌, codes, decimal, Option, Some, None}
 use Rattle.evl_kernel.specs.state.States.{Handler}
+use Rattle.lab_orders.specs.declared.levels.OrdersError.TheVariants.{Count}
 use Rattle.lab_scenario_orders.specs.AskingAlone.{IsVerdict, asked_of}
+use Rattle.lab_scenario_orders.specs.Outcomes.{CanNotTell}
+use Rattle.lab_scenario_orders.specs.Verdicts.{asks_anything, state_against}
 use Rattle.lab_scenario_orders.specs.declared.alone.Verdict.{Verdict}
 use Rattle.lab_scenario_orders.specs.declared.asks.Ask.{Ask}
 use Rattle.lab_scenario_orders.specs.declared.callers.Callers.{Callers}
 use Rattle.lab_streams.specs.Endings.{line_about}
 use Rattle.lab_streams.specs.Outputs.{Output, refuses}
 use Rattle.lab_asks.specs.OneOrder.{unasked_text}
-use Rattle.lab_asks.specs.Verdicts.{holds_text, is_asked, state_against, unanswered_text}
+use Rattle.lab_asks.specs.Verdicts.{holds_text, unanswered_text}
 
 -- how many orders there are, and how many are against what is asked
 abbrev pub order_word : ℕ → List ℕ
@@ -57,9 +60,9 @@ verdict_told name asks found = record { printed = head_text found; said = alone_
 abbrev pub TellsVerdict : List Handler → ℕ → List ℕ → Callers → Ask → Output → Type 0
 TellsVerdict bank most name callers asks output =
     ((found : Verdict) × IsVerdict callers bank asks most (asked_of asks callers) found × (output ≡ verdict_told name asks found))
-    ⊎ (output ≡ refuses 2 (line_about name (codes "more orders than can be counted")))
+    ⊎ (CanNotTell callers bank Count × (output ≡ refuses 2 (line_about name (codes "more orders than can be counted"))))
 
 -- where anything is asked
 abbrev pub TellsAlone : List Handler → ℕ → List ℕ → Callers → Ask → Output → Type 0
 TellsAlone bank most name callers asks output =
-    MatchBool (is_asked asks) (TellsVerdict bank most name callers asks output) (output ≡ refuses 2 (line_about name (codes "nothing is asked")))
+    MatchBool (asks_anything asks) (TellsVerdict bank most name callers asks output) (output ≡ refuses 2 (line_about name (codes "nothing is asked")))

@@ -12,6 +12,7 @@ use Rattle.lab_scenario_orders.specs.Outcomes.{CanNotTell}
 use Rattle.lab_scenario_orders.specs.OrderTexts.{CanBeMade, IsUnmade, IsUnread, caller_name}
 use Rattle.lab_scenario_orders.specs.Scenarios.{order_scenario}
 use Rattle.lab_scenario_orders.specs.Seeking.{IsSought}
+use Rattle.lab_scenario_orders.specs.Verdicts.{asks_anything}
 use Rattle.lab_scenario_orders.specs.declared.asks.Ask.{Ask}
 use Rattle.lab_scenario_orders.specs.declared.callers.Callers.{Callers}
 use Rattle.lab_scenario_orders.specs.declared.order_texts.OrderFault.{OrderFault}
@@ -21,7 +22,7 @@ use Rattle.lab_scenario_orders.specs.declared.watches.When.TheVariants.{Never, S
 use Rattle.lab_streams.specs.Endings.{line_about}
 use Rattle.lab_streams.specs.Outputs.{Output, prints, refuses}
 use Rattle.lab_streams.specs.declared.words.Asked.{Asked}
-use Rattle.lab_asks.specs.Verdicts.{held_text, is_asked, unanswered_text}
+use Rattle.lab_asks.specs.Verdicts.{held_text, unanswered_text}
 
 -- how the text is called in messages
 abbrev pub text_name : Asked → List ℕ
@@ -75,7 +76,7 @@ TellsSought bank most name callers asks output =
 -- where anything is asked
 abbrev pub TellsFirst : List Handler → ℕ → List ℕ → Callers → Ask → Output → Type 0
 TellsFirst bank most name callers asks output =
-    MatchBool (is_asked asks) (TellsSought bank most name callers asks output) (output ≡ refuses 2 (line_about name (codes "nothing is asked")))
+    MatchBool (asks_anything asks) (TellsSought bank most name callers asks output) (output ≡ refuses 2 (line_about name (codes "nothing is asked")))
 
 -- ---- the order that a text tells
 

@@ -6,6 +6,7 @@ use Rattle.lab_orders.specs.declared.tallies.Tally.{Tally}
 use Rattle.lab_scenario_orders.specs.Asks.{Asks, ask_table, is_against}
 use Rattle.lab_scenario_orders.specs.KeyLines.{IsPlaced}
 use Rattle.lab_scenario_orders.specs.Splits.{ask_part}
+use Rattle.lab_scenario_orders.specs.Verdicts.{asks_anything, is_count_against}
 use Rattle.lab_scenario_orders.specs.declared.asks.Ask.{Ask}
 use Rattle.lab_scenario_orders.specs.declared.asks.AskFault.{AskFault}
 use Rattle.lab_scenario_orders.specs.declared.asks.Never.{Never}
@@ -17,11 +18,11 @@ use Rattle.lab_step_texts.specs.Answers.{first_impossible}
 use Rattle.lab_step_texts.specs.Crews.{IsReadAs, IsRefused}
 use Rattle.lab_step_texts.specs.Faults.{step_words}
 use Rattle.lab_step_texts.specs.declared.faults.StepsFault.{StepsFault}
-use Rattle.lab_step_texts.specs.declared.faults.StepsFault.TheVariants.{Text, Mixed, Mutex, Step}
+use Rattle.lab_step_texts.specs.declared.faults.StepsFault.TheVariants.{Text, Mixed, Mutex, Step, WhatIf}
 use Rattle.lab_streams.specs.Endings.{fault_words, line_about}
 use Rattle.lab_asks.specs.Asks.{ask_fault_line, impossible_text}
 use Rattle.lab_streams.specs.Outputs.{Output, refuses}
-use Rattle.lab_asks.specs.Verdicts.{holds_text, is_asked, is_count_against, unanswered_text}
+use Rattle.lab_asks.specs.Verdicts.{holds_text, unanswered_text}
 use Rattle.lab_streams.specs.declared.words.Shown.{Shown}
 use Rattle.lab_streams.specs.declared.words.Shown.TheVariants.{Report, Json, Outcome, State, Alone, First, Order}
 
@@ -41,10 +42,10 @@ outcome_of crew number outcome = outcome_text crew number outcome
 
 -- no outcome is against what is asked: where nothing is asked, nothing is said
 abbrev pub none_text : List ℕ → Ask → StepOutcomes → List ℕ
-none_text name asks found = if is_asked asks then (if found.whole then holds_text name asks found.count else unanswered_text name found.steps) else codes ""
+none_text name asks found = if asks_anything asks then (if found.whole then holds_text name asks found.count else unanswered_text name found.steps) else codes ""
 
 abbrev pub none_status : Ask → StepOutcomes → ℕ
-none_status asks found = if is_asked asks then (if found.whole then 0 else 5) else 0
+none_status asks found = if asks_anything asks then (if found.whole then 0 else 5) else 0
 
 -- or there are other outcomes than so many
 abbrev pub wanted_text : List ℕ → Ask → StepOutcomes → Option ℕ → List ℕ
@@ -129,6 +130,7 @@ abbrev pub steps_fault_words : StepsFault → Option (List ℕ)
 steps_fault_words (Text fault) = fault_words fault
 steps_fault_words Mixed = Some (codes "a [[setup]] behind a [[step]]")
 steps_fault_words Mutex = Some (codes "bad board: a mutex that nests or has a ceiling goes through the core's lock")
+steps_fault_words WhatIf = Some (codes "[what_if] has one line, with true: offer_drops_mark, claim_sets_no_mark, unlock_skips_kernel or leave_keeps_mark")
 steps_fault_words (Step number fault) = Some (codes "bad step " ++ (decimal number ++ (codes ": " ++ step_words fault)))
 
 abbrev pub TellsSteps : ℕ → Shown → List ℕ → List ℕ → Output → Type 0

@@ -1,17 +1,8 @@
 -- What came of what is asked of all orders.
-use Rattle.std.specs.Prelude.{◌+◌, ◌-◌, ◌^◌, ◌==◌, min, ℕ, Bool, true, false, ◌&&◌, ◌||◌, nat_lt, if◌then◌else◌, is_some, List, [], ◌∷◌, ◌++◌, codes, length, decimal, slice_get, Option, Some, None}
-use Rattle.std.specs.Option.{option_map_or}
-use Rattle.lab_orders.specs.declared.firsts.First.{First}
-use Rattle.lab_orders.specs.declared.firsts.First.TheVariants.{Nowhere, After}
+use Rattle.std.specs.Prelude.{◌+◌, ◌-◌, ◌^◌, ◌==◌, min, ℕ, if◌then◌else◌, is_some, List, ◌++◌, codes, length, decimal, Option, Some, None}
+use Rattle.lab_scenario_orders.specs.Verdicts.{asks_anything, is_count_against, state_against}
 use Rattle.lab_scenario_orders.specs.declared.asks.Ask.{Ask}
 use Rattle.lab_scenario_orders.specs.declared.outcomes.Outcomes.{Outcomes}
-use Rattle.lab_scenario_orders.specs.declared.watches.Watch.{Watch}
-use Rattle.lab_scenario_orders.specs.declared.watches.When.{When}
-use Rattle.lab_scenario_orders.specs.declared.watches.When.TheVariants.{Never, Sometimes, Always}
-
-abbrev pub is_asked : Ask → Bool
-is_asked asks =
-    (((asks.always_ends || asks.ends_waits) || nat_lt 0 (length asks.never.items)) || nat_lt 0 (length asks.watches.items)) || is_some asks.outcomes
 
 abbrev pub ends_words : Ask → List ℕ
 ends_words asks =
@@ -56,14 +47,10 @@ unanswered_text name steps = codes "lab: " ++ (name ++ (codes ": not answered: c
 
 -- no outcome is against what is asked: where nothing is asked, nothing is said
 abbrev pub none_text : List ℕ → Ask → Outcomes → List ℕ
-none_text name asks found = if is_asked asks then (if found.whole then holds_text name asks found.count else unanswered_text name found.steps) else codes ""
+none_text name asks found = if asks_anything asks then (if found.whole then holds_text name asks found.count else unanswered_text name found.steps) else codes ""
 
 abbrev pub none_status : Ask → Outcomes → ℕ
-none_status asks found = if is_asked asks then (if found.whole then 0 else 5) else 0
-
--- other outcomes are found than as many as are asked for; where longer orders were cut off, more
-abbrev pub is_count_against : ℕ → Bool → ℕ → Bool
-is_count_against wanted whole count = nat_lt wanted count || (whole && nat_lt count wanted)
+none_status asks found = if asks_anything asks then (if found.whole then 0 else 5) else 0
 
 abbrev pub wanted_text : List ℕ → Ask → Outcomes → Option ℕ → List ℕ
 wanted_text name asks found None = none_text name asks found
@@ -81,24 +68,6 @@ number_text name asks found = wanted_text name asks found asks.outcomes
 
 abbrev pub number_status : Ask → Outcomes → ℕ
 number_status asks found = wanted_status asks found asks.outcomes
-
--- What was found of a question about moments is against it: a moment as it looks for, but where it is asked that there is
--- one; there, that there is none, if nothing was cut off.
-abbrev pub is_found_against : When → Bool → First → Bool
-is_found_against Never whole (After order) = true
-is_found_against Sometimes whole (After order) = false
-is_found_against Always whole (After order) = true
-is_found_against Never whole Nowhere = false
-is_found_against Sometimes whole Nowhere = whole
-is_found_against Always whole Nowhere = false
-
-abbrev pub is_state_against : List First → Bool → ℕ → When → Bool
-is_state_against firsts whole place when = option_map_or (is_found_against when whole) (slice_get firsts place) false
-
--- the place of the first of these, from this place on
-abbrev pub state_against : List First → Bool → ℕ → List Watch → Option ℕ
-state_against firsts whole place [] = None
-state_against firsts whole place (watch ∷ rest) = if is_state_against firsts whole place watch.when then Some place else state_against firsts whole (place + 1) rest
 
 abbrev pub first_state : Ask → Outcomes → Option ℕ
 first_state asks found = state_against found.firsts.items found.whole 0 asks.watches.items

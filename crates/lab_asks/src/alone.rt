@@ -4,15 +4,15 @@ ghost use Rattle.std.specs.Io.KnownBytes.{Appends};
 ghost use Rattle.evl_plans.specs.Told.{handler_of};
 ghost use Rattle.lab_asks.specs.Alone.{TellsAlone, TellsVerdict, against_head, against_line, against_words, alone_status, alone_text, head_text, order_word, orders_head, place_status, place_text, quiet_status, quiet_text, verdict_told};
 ghost use Rattle.lab_asks.specs.OneOrder.{text_name};
-ghost use Rattle.lab_asks.specs.Verdicts as verdicts;
+ghost use Rattle.lab_scenario_orders.specs.Verdicts as verdicts;
 ghost use Rattle.lab_streams.specs.Outputs.{Writes};
 ghost use Rattle.lab_streams.specs.Streams.{EndsEarly};
 
 use crate::copies::Copies;
 use crate::one_order::tell_unasked;
-use crate::verdicts::{is_asked, state_against, tell_holds, tell_unanswered};
+use crate::verdicts::{tell_holds, tell_unanswered};
 use lab_orders::OrdersError;
-use lab_scenario_orders::{Ask, Callers, Verdict, ask_alone};
+use lab_scenario_orders::{Ask, Callers, Verdict, ask_alone, asks_anything, state_against};
 use lab_streams::{AGAINST, Asked, Stream, refused, tell_refused};
 use std::alloc::{AllocError, Global};
 use std::io;
@@ -170,7 +170,7 @@ pub(crate) fn tell_alone<O: Stream, E: Stream>(
     ensures writes { IfOk result (Writes (TellsAlone (map handler_of bank.now.plans.now) asked.now.most (text_name asked.now) callers.now ask.now) (O.contents out.old) (O.contents out.new) (E.contents err.old) (E.contents err.new)) }
     ensures early { IfErr result (EndsEarly false (O.has_failed out.new) (E.has_failed err.new)) }
 {
-    if is_asked(ask) {
+    if asks_anything(ask) {
         go_alone(alloc, asked, callers, ask, bank, out, err)
     } else {
         let told = tell_refused(err, asked.name(), "nothing is asked");

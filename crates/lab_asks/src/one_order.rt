@@ -9,10 +9,10 @@ ghost use Rattle.lab_streams.specs.Outputs.{Writes};
 ghost use Rattle.lab_streams.specs.Streams.{EndsEarly};
 
 use crate::copies::Copies;
-use crate::verdicts::{is_asked, tell_held, tell_unanswered};
+use crate::verdicts::{tell_held, tell_unanswered};
 use lab_orders::{First, OrdersError, Sought};
 use lab_scenario_orders::{
-    Ask, Callers, OrderFault, Watch, When, play_order, read_order, scenario_of, seek,
+    Ask, Callers, OrderFault, Watch, When, asks_anything, play_order, read_order, scenario_of, seek,
 };
 use lab_streams::{AGAINST, AT_FAULT, Asked, Stream, UNANSWERED, refused, tell_refused};
 use std::alloc::{AllocError, Global};
@@ -179,7 +179,7 @@ pub(crate) fn tell_first<O: Stream, E: Stream>(
     ensures writes { IfOk result (Writes (TellsFirst (map handler_of bank.now.plans.now) asked.now.most (text_name asked.now) callers.now ask.now) (O.contents out.old) (O.contents out.new) (E.contents err.old) (E.contents err.new)) }
     ensures early { IfErr result (EndsEarly false (O.has_failed out.new) (E.has_failed err.new)) }
 {
-    if is_asked(ask) {
+    if asks_anything(ask) {
         go_to_first(alloc, asked, callers, ask, bank, out, err)
     } else {
         let told = tell_refused(err, asked.name(), "nothing is asked");

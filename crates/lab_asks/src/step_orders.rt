@@ -10,9 +10,9 @@ ghost use Rattle.lab_streams.specs.declared.words.Shown.TheVariants.{Report};
 
 use crate::order_faults::{tell_ask_fault, tell_meant};
 use crate::orders::{outcome_at, tell_no_outcome, tell_no_state};
-use crate::verdicts::{is_asked, is_count_against, tell_holds, tell_unanswered};
+use crate::verdicts::{tell_holds, tell_unanswered};
 use lab_orders::{OrdersError, Tally};
-use lab_scenario_orders::{Ask, Never, first_against};
+use lab_scenario_orders::{Ask, Never, asks_anything, first_against, is_count_against};
 use lab_step_orders::{
     Crew, StepOutcomes, step_outcomes_of, write_step_outcome, write_step_report,
 };
@@ -27,7 +27,7 @@ fn tell_none<E: Stream>(err: &mut E, name: &str, ask: &Ask, found: &StepOutcomes
     ensures line { OnOk result (Appends (E.contents err.old) (E.contents err.new) (none_text name.now ask.now found.now)) }
     ensures early { IfErr result (EndsEarly false false (E.has_failed err.new)) }
 {
-    if !is_asked(ask) {
+    if !asks_anything(ask) {
         return Ok(0);
     }
     if found.whole {
@@ -388,6 +388,13 @@ fn tell_steps_fault<E: Stream>(err: &mut E, name: &str, fault: StepsFault) -> io
                 err,
                 name,
                 "bad board: a mutex that nests or has a ceiling goes through the core's lock",
+            )
+        }
+        StepsFault::WhatIf => {
+            tell_refused(
+                err,
+                name,
+                "[what_if] has one line, with true: offer_drops_mark, claim_sets_no_mark, unlock_skips_kernel or leave_keeps_mark",
             )
         }
         StepsFault::Step(number, fault) => tell_step(err, name, number, fault),

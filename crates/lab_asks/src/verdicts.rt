@@ -2,23 +2,13 @@
 ghost use Rattle.std.specs.Prelude.{◌≡◌, IfErr, IfOk, OnOk, Some, false};
 ghost use Rattle.std.specs.Io.KnownBytes.{Appends};
 ghost use Rattle.lab_streams.specs.Streams.{EndsEarly};
-ghost use Rattle.lab_asks.specs.Verdicts.{all_text, asked_status, asked_text, count_text, count_words, ends_text, ends_words, held_text, holds_text, is_asked, is_count_against, is_found_against, is_state_against, moments_text, none_status, none_text, number_status, number_text, picked_words, state_against, states_status, states_text, unanswered_text};
+ghost use Rattle.lab_asks.specs.Verdicts.{all_text, asked_status, asked_text, count_text, count_words, ends_text, ends_words, held_text, holds_text, moments_text, none_status, none_text, number_status, number_text, picked_words, states_status, states_text, unanswered_text};
 
-use lab_orders::First;
-use lab_scenario_orders::{Ask, Asked as Answered, Outcomes, Watch, When};
+use lab_scenario_orders::{
+    Ask, Asked as Answered, Outcomes, asks_anything, is_count_against, state_against,
+};
 use lab_streams::{AGAINST, Stream, UNANSWERED};
 use std::{fmt, io};
-
-/// Whether something is asked.
-pub fn is_asked(ask: &Ask) -> bool
-    ensures { result ≡ is_asked ask.now }
-{
-    ask.always_ends
-        || ask.ends_waits
-        || ask.never.len() > 0
-        || ask.watches.len() > 0
-        || ask.outcomes.is_some()
-}
 
 // What is said before the number of answers that may never be.
 fn ends_words(ask: &Ask) -> &'static str
@@ -161,7 +151,7 @@ fn tell_none<E: Stream>(err: &mut E, name: &str, ask: &Ask, found: &Outcomes) ->
     ensures line { OnOk result (Appends (E.contents err.old) (E.contents err.new) (none_text name.now ask.now found.now)) }
     ensures early { IfErr result (EndsEarly false false (E.has_failed err.new)) }
 {
-    if !is_asked(ask) {
+    if !asks_anything(ask) {
         return Ok(0);
     }
     if found.whole {
@@ -169,53 +159,6 @@ fn tell_none<E: Stream>(err: &mut E, name: &str, ask: &Ask, found: &Outcomes) ->
     } else {
         tell_unanswered(err, name, found.steps)
     }
-}
-
-// Whether what was found of a question about moments is against it.
-fn is_found_against(when: When, is_whole: bool, first: &First) -> bool
-    ensures { result ≡ is_found_against when is_whole first.now }
-{
-    match first {
-        First::After(_) => match when {
-            When::Never => true,
-            When::Sometimes => false,
-            When::Always => true,
-        },
-        First::Nowhere => match when {
-            When::Never => false,
-            When::Sometimes => is_whole,
-            When::Always => false,
-        },
-    }
-}
-
-// Whether what was found of the question about moments at this place is against it.
-fn is_state_against(firsts: &[First], is_whole: bool, place: usize, when: When) -> bool
-    ensures { result ≡ is_state_against firsts.now is_whole place when }
-{
-    match firsts.get(place) {
-        Some(first) => is_found_against(when, is_whole, first),
-        None => false,
-    }
-}
-
-/// The place of the first question about moments against which it is what was found.
-pub(crate) fn state_against(watches: &[Watch], firsts: &[First], is_whole: bool) -> Option<usize>
-    ensures { result ≡ state_against firsts.now is_whole 0 watches.now }
-{
-    for (place, watch) in watches.iter().enumerate() {
-        if is_state_against(firsts, is_whole, place, watch.when) {
-            return Some(place);
-        }
-    }
-    None
-}
-
-/// Whether there are other outcomes than so many, or may be where longer orders were cut off.
-pub fn is_count_against(wanted: usize, is_whole: bool, count: usize) -> bool
-    ensures { result ≡ is_count_against wanted is_whole count }
-{
-    wanted < count || (is_whole && count < wanted)
 }
 
 // Tells whether there are as many outcomes as are asked for, and else what holds, and answers the status.

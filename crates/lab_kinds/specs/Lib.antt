@@ -3,6 +3,7 @@ pub mod Banks
 pub mod Callers
 pub mod Kinds
 pub mod Orders
+pub mod Plains
 pub mod Reports
 pub mod Tables
 pub mod Words

@@ -24,6 +24,7 @@ use Rattle.lab_callers_text.specs.declared.reading.CallersText.{CallersText}
 use Rattle.lab_kinds.specs.Asking.{AskedLast}
 use Rattle.lab_kinds.specs.Callers.{CallersTell}
 use Rattle.lab_kinds.specs.Kinds.{is_headed, kind_of}
+use Rattle.lab_kinds.specs.Plains.{plain_within}
 use Rattle.lab_kinds.specs.Tables.{field_faults}
 use Rattle.lab_kinds.specs.Words.{ask_keys, is_word, step_ask_keys}
 use Rattle.lab_kinds.specs.declared.kinds.TextKind.{TextKind}
@@ -112,6 +113,10 @@ refusal_answers =
     codes "HistoryFull" ∷ codes "Unknown" ∷ codes "Invalid" ∷ codes "Again" ∷ codes "Busy" ∷ codes "NotOwner" ∷ codes "Deadlock" ∷ codes "Limit"
     ∷ codes "Range" ∷ codes "TooBig" ∷ codes "WrongStage" ∷ []
 
+-- what steps of callers alone are answered
+unfoldable pub step_answers : List (List ℕ)
+step_answers = codes "pass" ∷ codes "Raced" ∷ codes "done, others want in" ∷ []
+
 abbrev pub has_front : List ℕ → List ℕ → Bool
 has_front answer front = begins front answer
 
@@ -129,10 +134,15 @@ near_answer_text answer = hint_text answer plain_answers ++ hint_text answer ref
 unfoldable pub no_answer_text : List ℕ → List ℕ
 no_answer_text answer = codes "never: no call is answered \"" ++ (answer ++ (codes "\"" ++ near_answer_text answer))
 
+-- some call is answered so, or, where steps of callers are gone through, some step
+abbrev pub is_answer_of : Bool → List ℕ → Bool
+is_answer_of is_of_steps answer = is_answer answer || (is_of_steps && is_among step_answers answer)
+
 -- of a text with this name and answer
-abbrev pub answer_faults : List ℕ → Token → List ℕ → Option (List ℕ) → List Told
-answer_faults text piece name None = told_at text Board piece.from (no_caller_text name) ∷ []
-answer_faults text piece name (Some answer) = if is_answer answer then [] else told_at text Board piece.from (no_answer_text answer) ∷ []
+abbrev pub answer_faults : List ℕ → Bool → Token → List ℕ → Option (List ℕ) → List Told
+answer_faults text is_of_steps piece name None = told_at text Board piece.from (no_caller_text name) ∷ []
+answer_faults text is_of_steps piece name (Some answer) =
+    if is_answer_of is_of_steps answer then [] else told_at text Board piece.from (no_answer_text answer) ∷ []
 
 -- a text in a list
 abbrev pub is_listed : ℕ × ℕ → Token → Bool
@@ -142,10 +152,10 @@ is_listed value piece = is_word piece.kind && (nat_le value.0 piece.from && nat_
 abbrev pub keys_for : Bool → List (List ℕ)
 keys_for is_of_steps = if is_of_steps then step_ask_keys else ask_keys
 
-module _ (text : List ℕ) (callers : List (List ℕ)) where
+module _ (text : List ℕ) (callers : List (List ℕ)) (is_of_steps : Bool) where
   unfoldable pub never_faults : Token → List Told
   never_faults piece =
-      let name = name_between text (piece.from, piece.to) in answer_faults text piece name (answer_of name callers)
+      let name = name_between text (piece.from, piece.to) in answer_faults text is_of_steps piece name (answer_of name callers)
 
   abbrev pub listed_faults : ℕ × ℕ → Token → List Told
   listed_faults value piece = if is_listed value piece then never_faults piece else []
@@ -154,11 +164,11 @@ module _ (text : List ℕ) (callers : List (List ℕ)) where
   never_item_faults pieces item = if bytes_eq (name_between text item.key) (codes "never") then flat_map (listed_faults item.value) pieces else []
 
   -- of a key of what is asked
-  unfoldable pub ask_item_faults : Bool → List Token → Item → List Told
-  ask_item_faults is_of_steps pieces item = field_faults text Board (codes "[ask]: ") (keys_for is_of_steps) item ++ never_item_faults pieces item
+  unfoldable pub ask_item_faults : List Token → Item → List Told
+  ask_item_faults pieces item = field_faults text Board (codes "[ask]: ") (keys_for is_of_steps) item ++ never_item_faults pieces item
 
-  unfoldable pub ask_faults : Bool → List Told
-  ask_faults is_of_steps = flat_map (ask_item_faults is_of_steps (pieces text)) (text_keys text)
+  unfoldable pub ask_faults : List Told
+  ask_faults = flat_map (ask_item_faults (pieces text)) (text_keys text)
 
 -- ---- all
 
@@ -189,22 +199,23 @@ abbrev pub StepsTell : List ℕ → List ℕ → ℕ → List ℕ → List Told 
 StepsTell text scenario setup asked faults =
     ((read : CallersText) × IsRead None scenario read × AskedTells text scenario setup asked faults) ⊎ ((fault : Fault) × CallersTell scenario fault faults)
 
-abbrev pub PartsTell : List ℕ → List ℕ → ℕ → List ℕ → List Told → Type 0
-PartsTell text scenario setup asked faults =
-    MatchBool (is_of_steps scenario) (StepsTell text scenario setup asked faults) (TextTells text scenario setup asked faults)
+abbrev pub PartsTell : List ℕ → List ℕ → List ℕ → ℕ → List ℕ → List Told → Type 0
+PartsTell text scenario plain setup asked faults =
+    MatchBool (is_of_steps scenario) (StepsTell text plain setup asked faults) (TextTells text scenario setup asked faults)
 
 -- where nothing is found in its parts, the orders of whole calls can be asked for, or are refused for what reads them
 abbrev pub Behind : List ℕ → Bool → List Told → List Told → Type 0
 Behind text is_of_steps (one ∷ rest) faults = faults ≡ one ∷ rest
 Behind text is_of_steps [] faults = MatchBool is_of_steps (faults ≡ []) (AskedLast text faults)
 
-pub record PartedTells (text scenario : List ℕ) (setup : ℕ) (asked : List ℕ) (faults : List Told) : Type 0 where
+-- in a text of steps those of the text of callers in it
+pub record PartedTells (text scenario plain : List ℕ) (setup : ℕ) (asked : List ℕ) (faults : List Told) : Type 0 where
   pub found : List Told
-  pub parts : PartsTell text scenario setup asked found
+  pub parts : PartsTell text scenario plain setup asked found
   pub behind : Behind text (is_of_steps scenario) found faults
 
 abbrev pub LinesTell : List ℕ → List Told → Type 0
-LinesTell text faults = PartedTells text (scenario_within text) (setup_count text) (asked_within text) faults
+LinesTell text faults = PartedTells text (scenario_within text) (plain_within text) (setup_count text) (asked_within text) faults
 
 -- of bytes that may be no text
 pub record OrdersTell (text : List ℕ) (faults : List Told) : Type 0 where

@@ -19,6 +19,8 @@ const PLAIN_ANSWERS: [&str; 5] = ["done", "begun", "timed out", "thread none", "
 
 const NUMBER_ANSWERS: [&str; 6] = ["count ", "bits ", "number ", "bytes ", "thread ", "next "];
 
+const STEP_ANSWERS: [&str; 3] = ["pass", "Raced", "done, others want in"];
+
 const REFUSAL_ANSWERS: [&str; 11] = [
     "HistoryFull",
     "Unknown",
@@ -143,6 +145,13 @@ fn number_answers() -> &'static [&'static str]
     &NUMBER_ANSWERS
 }
 
+#[tactic(auto, unfolding(crate::specs::Orders::step_answers))]
+fn step_answers() -> &'static [&'static str]
+    ensures { map (λ answer. answer.now) result.now ≡ orders.step_answers }
+{
+    &STEP_ANSWERS
+}
+
 // Whether an answer begins with one of these.
 fn has_front(answer: &str, fronts: &[&str]) -> bool
     ensures { result ≡ list_any (orders.has_front answer.now) (map (λ front. front.now) fronts.now) }
@@ -162,6 +171,13 @@ fn is_answer(answer: &str) -> bool
     is_among(plain_answers(), answer)
         || is_among(refusal_answers(), answer)
         || has_front(answer, number_answers())
+}
+
+// Whether some call is answered so, or, where steps of callers are gone through, some step.
+fn is_answer_of(is_of_steps: bool, answer: &str) -> bool
+    ensures { result ≡ orders.is_answer_of is_of_steps answer.now }
+{
+    is_answer(answer) || (is_of_steps && is_among(step_answers(), answer))
 }
 
 // What is said of a text of no caller.
@@ -197,11 +213,12 @@ fn no_answer_words(alloc: Global, answer: &str) -> Result<String, AllocError>
 fn check_answer(
     alloc: Global,
     finding: &mut Finding<'_>,
+    is_of_steps: bool,
     piece: Token,
     name: &str,
     answer: Option<&str>,
 ) -> Result<(), AllocError>
-    ensures { OnOk result (Adds finding.old finding.new (orders.answer_faults finding.old.text.now piece name.now (option_map (λ text. text.now) answer.entry))) }
+    ensures { OnOk result (Adds finding.old finding.new (orders.answer_faults finding.old.text.now is_of_steps piece name.now (option_map (λ text. text.now) answer.entry))) }
 {
     match answer {
         None => {
@@ -209,7 +226,7 @@ fn check_answer(
             finding.note(Fault::Board, piece.from, words)
         }
         Some(answer) => {
-            if is_answer(answer) {
+            if is_answer_of(is_of_steps, answer) {
                 return Ok(());
             }
             let words = no_answer_words(alloc, answer)?;
@@ -224,13 +241,14 @@ fn check_never(
     alloc: Global,
     finding: &mut Finding<'_>,
     callers: &[&str],
+    is_of_steps: bool,
     piece: Token,
 ) -> Result<(), AllocError>
-    ensures { OnOk result (Adds finding.old finding.new (never_faults finding.old.text.now (map (λ who. who.now) callers.now) piece)) }
+    ensures { OnOk result (Adds finding.old finding.new (never_faults finding.old.text.now (map (λ who. who.now) callers.now) is_of_steps piece)) }
 {
     let name = named(finding.text, (piece.from, piece.to));
     let answer = answer_of(alloc, name, callers)?;
-    check_answer(alloc, finding, piece, name, answer)
+    check_answer(alloc, finding, is_of_steps, piece, name, answer)
 }
 
 // Whether a piece is a text in a list.
@@ -244,13 +262,14 @@ fn check_listed(
     alloc: Global,
     finding: &mut Finding<'_>,
     callers: &[&str],
+    is_of_steps: bool,
     value: (usize, usize),
     piece: Token,
 ) -> Result<(), AllocError>
-    ensures { OnOk result (Adds finding.old finding.new (listed_faults finding.old.text.now (map (λ who. who.now) callers.now) value piece)) }
+    ensures { OnOk result (Adds finding.old finding.new (listed_faults finding.old.text.now (map (λ who. who.now) callers.now) is_of_steps value piece)) }
 {
     if is_listed(value, piece) {
-        return check_never(alloc, finding, callers, piece);
+        return check_never(alloc, finding, callers, is_of_steps, piece);
     }
     Ok(())
 }
@@ -259,13 +278,14 @@ fn check_pieces(
     alloc: Global,
     finding: &mut Finding<'_>,
     callers: &[&str],
+    is_of_steps: bool,
     value: (usize, usize),
     pieces: &[Token],
 ) -> Result<(), AllocError>
-    ensures { OnOk result (Adds finding.old finding.new (flat_map (listed_faults finding.old.text.now (map (λ who. who.now) callers.now) value) pieces.now)) }
+    ensures { OnOk result (Adds finding.old finding.new (flat_map (listed_faults finding.old.text.now (map (λ who. who.now) callers.now) is_of_steps value) pieces.now)) }
 {
     for piece in pieces {
-        check_listed(alloc, finding, callers, value, *piece)?;
+        check_listed(alloc, finding, callers, is_of_steps, value, *piece)?;
     }
     Ok(())
 }
@@ -275,13 +295,14 @@ fn check_nevers(
     alloc: Global,
     finding: &mut Finding<'_>,
     callers: &[&str],
+    is_of_steps: bool,
     pieces: &[Token],
     item: Item,
 ) -> Result<(), AllocError>
-    ensures { OnOk result (Adds finding.old finding.new (never_item_faults finding.old.text.now (map (λ who. who.now) callers.now) pieces.now item)) }
+    ensures { OnOk result (Adds finding.old finding.new (never_item_faults finding.old.text.now (map (λ who. who.now) callers.now) is_of_steps pieces.now item)) }
 {
     if named(finding.text, item.key) == "never" {
-        return check_pieces(alloc, finding, callers, item.value, pieces);
+        return check_pieces(alloc, finding, callers, is_of_steps, item.value, pieces);
     }
     Ok(())
 }
@@ -311,7 +332,7 @@ fn check_ask_item(
 {
     let keys = keys_for(is_of_steps);
     check_field(alloc, finding, Fault::Board, "[ask]: ", keys, item)?;
-    check_nevers(alloc, finding, callers, pieces, item)
+    check_nevers(alloc, finding, callers, is_of_steps, pieces, item)
 }
 
 fn check_ask_items(

@@ -12,6 +12,7 @@ use crate::asks::{callers_of, check_ask};
 use crate::callers::explain;
 use crate::kinds::{TextKind, is_headed, kind_of};
 use crate::parts::{asked_in, lines_of, scenario_in, setups_in};
+use crate::plains::plain_in;
 use evl_scenario::Fault;
 use lab_callers_text::read_callers;
 use lab_faults::{Finding, Found, Heading, check, found_in_text, items_of};
@@ -195,14 +196,15 @@ fn found_in_parts(
     alloc: Global,
     text: &[u8],
     scenario: &[u8],
+    plain: &[u8],
     setup: usize,
     asked: &str,
     is_of_steps: bool,
 ) -> Result<Vec<Found>, AllocError>
-    ensures { IfOk result (λ found. MatchBool is_of_steps (StepsTell text.now scenario.now setup asked.now (map fault_told found.items)) (TextTells text.now scenario.now setup asked.now (map fault_told found.items))) }
+    ensures { IfOk result (λ found. MatchBool is_of_steps (StepsTell text.now plain.now setup asked.now (map fault_told found.items)) (TextTells text.now scenario.now setup asked.now (map fault_told found.items))) }
 {
     if is_of_steps {
-        let found = found_in_steps(alloc, text, scenario, setup, asked)?;
+        let found = found_in_steps(alloc, text, plain, setup, asked)?;
         return Ok(found);
     }
     let found = found_around(alloc, text, scenario, setup, asked)?;
@@ -240,13 +242,14 @@ fn found_parted(
     alloc: Global,
     text: &str,
     scenario: &[u8],
+    plain: &[u8],
     setup: usize,
     asked: &str,
 ) -> Result<Vec<Found>, AllocError>
-    ensures { IfOk result (λ found. PartedTells text.now scenario.now setup asked.now (map fault_told found.items)) }
+    ensures { IfOk result (λ found. PartedTells text.now scenario.now plain.now setup asked.now (map fault_told found.items)) }
 {
     let steps = is_of_steps(alloc, scenario)?;
-    let found = found_in_parts(alloc, text.as_bytes(), scenario, setup, asked, steps)?;
+    let found = found_in_parts(alloc, text.as_bytes(), scenario, plain, setup, asked, steps)?;
     found_behind(alloc, text, steps, found)
 }
 
@@ -257,11 +260,13 @@ fn found_in_lines(alloc: Global, text: &str) -> Result<Vec<Found>, AllocError>
     let lines = lines_of(alloc, text)?;
     let lines = lines.as_slice();
     let scenario = scenario_in(alloc, lines)?;
+    let plain = plain_in(alloc, lines)?;
     let asked = asked_in(alloc, lines)?;
     found_parted(
         alloc,
         text,
         scenario.as_str().as_bytes(),
+        plain.as_str().as_bytes(),
         setups_in(lines),
         asked.as_str(),
     )

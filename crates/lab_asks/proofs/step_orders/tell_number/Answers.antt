@@ -1,7 +1,7 @@
 use Rattle.std.proofs.Common.{◌≡◌, ℕ, ◌++◌, ◌∙◌, List, ap, codes, decimal, length, subst, sym, true}
 use Rattle.std.specs.Io.KnownBytes.{Appends}
 use Rattle.lab_orders.specs.declared.tallies.Tally.{Tally}
-use Rattle.lab_asks.specs.Verdicts.{is_count_against}
+use Rattle.lab_scenario_orders.specs.Verdicts.{is_count_against}
 use Rattle.lab_asks.proofs.StepOrderLemmas.{counted_text}
 use Rattle.lab_asks.proofs.step_orders.tell_number.Goals as goal
 

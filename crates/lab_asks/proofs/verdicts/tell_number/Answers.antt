@@ -1,5 +1,5 @@
 use Rattle.std.proofs.Common.{◌≡◌, ◌∙◌, length, sym, true}
-use Rattle.lab_asks.specs.Verdicts.{is_count_against}
+use Rattle.lab_scenario_orders.specs.Verdicts.{is_count_against}
 use Rattle.lab_asks.proofs.verdicts.tell_number.Goals as goal
 
 pub returns-then-is_count_against-clause-line : goal.returns-then-is_count_against-clause-line

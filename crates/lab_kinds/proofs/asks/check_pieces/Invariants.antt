@@ -6,5 +6,5 @@ use Rattle.lab_kinds.proofs.asks.check_pieces.Given as goal
 abbrev pub invariant-loop-piece : goal.invariant-loop-piece
 invariant-loop-piece l = record {
   text : l.finding.text ≡ l.initial.finding.text;
-  told : map fault_told l.finding.found.items ++ flat_map (listed_faults l.initial.finding.text.now (map (λ who. who.now) l.callers) l.value) (drop l.piece-index l.pieces) ≡ map fault_told l.initial.finding.found.items ++ flat_map (listed_faults l.initial.finding.text.now (map (λ who. who.now) l.callers) l.value) l.pieces;
+  told : map fault_told l.finding.found.items ++ flat_map (listed_faults l.initial.finding.text.now (map (λ who. who.now) l.callers) l.is_of_steps l.value) (drop l.piece-index l.pieces) ≡ map fault_told l.initial.finding.found.items ++ flat_map (listed_faults l.initial.finding.text.now (map (λ who. who.now) l.callers) l.is_of_steps l.value) l.pieces;
 }
