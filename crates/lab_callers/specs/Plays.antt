@@ -1,5 +1,5 @@
 -- What is told of the steps of a text of callers, one after another.
-use Rattle.std.specs.Prelude.{◌≡◌, ◌+◌, ℕ, ⊤, List, [], ◌∷◌, ◌++◌, codes, length, Option, Some, is_some, Result, Ok, Err, string_bytes}
+use Rattle.std.specs.Prelude.{◌≡◌, ◌+◌, ℕ, ⊤, List, [], ◌∷◌, ◌++◌, codes, length, Option, Some, None, is_some, Result, Ok, Err, string_bytes}
 use Rattle.evl_base.specs.declared.refusal.Refusal.{Refusal}
 use Rattle.lab_callers.specs.Answers.{Makes}
 use Rattle.lab_callers.specs.Crews.{CrewState, crew_of, holder_of}
@@ -25,19 +25,20 @@ use Rattle.evl_machine.specs.callers.Handles.{CallerState, MachineState, newcome
 use Rattle.evl_pipeline.specs.declared.plan.Plan.{Plan}
 use Rattle.evl_scenario.specs.Lines.{board_line_of, board_line_text, line_feed, play_lines}
 
--- the callers, what names hold and who waits, how many staxes the board has, and how many plays were told
+-- the callers, what names hold and who waits, how many staxes the board has, how many plays were told, and how many calls of the kernel were entered behind each step
 pub record Run (C : Type 0) : Type 0 where
   pub crew : CrewState C
   pub holdings : Holdings
   pub staxes : ℕ
   pub plays : ℕ
+  pub entered : List ℕ
 
 abbrev pub run_of : {C : Type 0} → CrewState C → ReportState → Run C
-run_of crew report = record { crew = crew; holdings = report.holdings; staxes = report.staxes; plays = report.plays }
+run_of crew report = record { crew = crew; holdings = report.holdings; staxes = report.staxes; plays = report.plays; entered = report.entered }
 
--- before the first step nobody has the core, no name holds a pass, nobody waits, and no play was told
+-- before the first step nobody has the core, no name holds a pass, nobody waits, no play was told, and no call was entered
 abbrev pub start_at : {C : Type 0} → MachineState C → List (CallerState C) → ℕ → Run C
-start_at machine callers staxes = record { crew = crew_of machine callers; holdings = nothing_held; staxes = staxes; plays = 0 }
+start_at machine callers staxes = record { crew = crew_of machine callers; holdings = nothing_held; staxes = staxes; plays = 0; entered = [] }
 
 abbrev pub whose : {C : Type 0} → CrewState C → Option ℕ
 whose crew = holder_of (is_some crew.held) crew.holder
@@ -53,6 +54,7 @@ pub record ShowsAfter {C : Type 0} (old : Run C) (who : ℕ) (told : List ℕ) (
   pub holdings : new.holdings ≡ old.holdings
   pub staxes : new.staxes ≡ old.staxes
   pub plays : new.plays ≡ view.made
+  pub entered : new.entered ≡ old.entered ++ view.entered ∷ []
   pub text_is : text ≡ codes " -> " ++ (told ++ (shown_text old.staxes old.holdings (whose new.crew) view shown ++ (line_feed ++ play_lines view.plays.items)))
 
 -- the step of this number is made, and told by these lines
@@ -63,7 +65,7 @@ pub record MakesStep {C : Type 0} (limit : ℕ) (old : Run C) (number : ℕ) (st
   pub has : Holdings
   pub makes : Makes limit step.act old.crew old.holdings step.who told shown made has
   pub behind : List ℕ
-  pub shows : ShowsAfter (record { crew = made; holdings = has; staxes = old.staxes; plays = old.plays }) step.who.0 told shown behind new
+  pub shows : ShowsAfter (record { crew = made; holdings = has; staxes = old.staxes; plays = old.plays; entered = old.entered }) step.who.0 told shown behind new
   pub lines_is : lines ≡ step_text number step ++ behind
 
 -- these steps are made one after another, from this number on
@@ -105,25 +107,30 @@ abbrev pub IsStopped : ℕ → Stop → Played → Type 0
 IsStopped number (stop.Fault fault) told = (told.ending ≡ ending.Fault number fault) × (string_bytes told.closing ≡ [])
 IsStopped number stop.Memory told = ⊥
 
--- all steps are made, and these callers haven't the core then
-pub record MakesEach {C : Type 0} (limit : ℕ) (start : Run C) (steps : List CallersStep) (before text : List ℕ) (callers : List (CallerState C)) : Type 0 where
+-- all steps are made, so many calls of the kernel were entered behind each, and these callers haven't the core then
+pub record MakesEach {C : Type 0} (limit : ℕ) (start : Run C) (steps : List CallersStep) (before text : List ℕ) (callers : List (CallerState C)) (entered : List ℕ) : Type 0 where
   pub last : Run C
   pub made : HaveMade limit start steps before text last (length steps) []
   pub callers_are : callers ≡ last.crew.callers
+  pub entered_is : entered ≡ last.entered
 
--- a machine is closed, or isn't, and this is told of it
-abbrev pub ClosesSo : {C : Type 0} → MachineState C → List (CallerState C) → Ending → List ℕ → Type 0
-ClosesSo machine callers ending.Closed told = (k : KernelView _) × Closes machine callers k × (told ≡ closed_text k.history)
-ClosesSo machine callers (ending.Open refusal) told = (back : List (CallerState _)) × KeepsOpen machine callers refusal back × (told ≡ open_text refusal)
-ClosesSo machine callers (ending.Fault number fault) told = ⊥
+-- a machine is closed, and its kernel is left, or isn't, and this is told of it
+abbrev pub ClosesSo : {C : Type 0} → MachineState C → List (CallerState C) → Ending → List ℕ → Option (KernelView C) → Type 0
+ClosesSo machine callers ending.Closed told left = (k : KernelView _) × Closes machine callers k × (told ≡ closed_text k.history) × (left ≡ Some k)
+ClosesSo machine callers (ending.Open refusal) told left = (back : List (CallerState _)) × KeepsOpen machine callers refusal back × (told ≡ open_text refusal) × (left ≡ None)
+ClosesSo machine callers (ending.Fault number fault) told left = ⊥
 
 -- how the steps end: all are made, and the machine's close is told; or one can't be made
-abbrev pub EndsSo : {C : Type 0} → MachineState C → Run C → List CallersStep → List ℕ → Ending → List ℕ → List ℕ → Type 0
-EndsSo machine start steps before (ending.Fault number fault) lines closing = StopsAt machine.first.limit start steps before lines number fault × (closing ≡ [])
-EndsSo machine start steps before closes lines closing = (callers : List (CallerState _)) × MakesEach machine.first.limit start steps before lines callers × ClosesSo machine callers closes closing
+abbrev pub EndsSo : {C : Type 0} → MachineState C → Run C → List CallersStep → List ℕ → Ending → List ℕ → List ℕ → List ℕ → Option (KernelView C) → Type 0
+EndsSo machine start steps before (ending.Fault number fault) lines closing entered left = StopsAt machine.first.limit start steps before lines number fault × (closing ≡ []) × (left ≡ None)
+EndsSo machine start steps before closes lines closing entered left = (callers : List (CallerState _)) × MakesEach machine.first.limit start steps before lines callers entered × ClosesSo machine callers closes closing left
 
--- what is told of a text of callers: the line of its board, and of a machine that is made over it what its new callers do, step by step
-pub record IsTold {C : Type 0} (declared : C → ℕ) (plan : C → Plan) (text : CallersText) (bank : List C) (told : Played) : Type 0 where
+-- What is told of a text of callers: the line of its board, and of a machine that is made over it what its new callers do, step by step; how many calls of the kernel were entered behind each step, and the kernel that a closed machine leaves
+pub record IsKept {C : Type 0} (declared : C → ℕ) (plan : C → Plan) (text : CallersText) (bank : List C) (told : Played) (entered : List ℕ) (left : Option (KernelView C)) : Type 0 where
   pub machine : MachineState C
   pub opened : IsOpened declared plan text.board bank text.limit machine.first
-  pub ends : EndsSo machine (start_at machine (newcomers_of machine text.board.threads) (length text.board.staxes.items)) text.steps.items (board_line_text (board_line_of text.board text.limit)) told.ending (string_bytes told.lines) (string_bytes told.closing)
+  pub ends : EndsSo machine (start_at machine (newcomers_of machine text.board.threads) (length text.board.staxes.items)) text.steps.items (board_line_text (board_line_of text.board text.limit)) told.ending (string_bytes told.lines) (string_bytes told.closing) entered left
+
+-- what is told alone
+abbrev pub IsTold : {C : Type 0} → (C → ℕ) → (C → Plan) → CallersText → List C → Played → Type 0
+IsTold declared plan text bank told = (entered : List ℕ) × (left : Option (KernelView _)) × IsKept declared plan text bank told entered left

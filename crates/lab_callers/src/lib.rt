@@ -4,11 +4,13 @@
 
 mod answers;
 mod crew;
+mod endings;
 mod lines;
 mod passes;
 mod playing;
 mod steps_at;
 mod views;
 
+pub use endings::{Kept, play_callers, play_kept};
 pub use passes::StepFault;
-pub use playing::{Ending, Played, play_callers};
+pub use playing::{Ending, Played};

@@ -3,8 +3,8 @@ ghost use Rattle.std.specs.Prelude.{◌≡◌, ◌⊎◌, ◌↔◌, ◌++◌, f
 ghost use Rattle.lab_callers.specs.Faults.{IsWhy, step_fault};
 ghost use Rattle.lab_callers.specs.Crews.{crew_of};
 ghost use Rattle.lab_callers.specs.Holdings.{nothing_held};
-ghost use Rattle.lab_callers.specs.Plays.{ClosesSo, EndsSo, HaveMade, IsStopped, IsTold, LeavesText, MakesEach, MakesStep, ShowsAfter, StopsFor, run_of};
-ghost use Rattle.lab_callers.specs.Shown.{closed_text, mutex_asked, open_text, shown_text, step_text, thread_asked};
+ghost use Rattle.lab_callers.specs.Plays.{HaveMade, LeavesText, MakesEach, MakesStep, ShowsAfter, StopsFor, run_of};
+ghost use Rattle.lab_callers.specs.Shown.{mutex_asked, shown_text, step_text, thread_asked};
 ghost use Rattle.evl_kernel.specs.state.Callbacks.{AnswersByPlan};
 ghost use Rattle.evl_kernel.specs.state.KernelViews.{IsOpened};
 ghost use Rattle.evl_kernel.specs.state.Openings.{can_open};
@@ -17,11 +17,10 @@ use crate::lines::{put_core, put_mutex, put_plays, put_stax};
 use crate::passes::{Passes, StepFault};
 use crate::views::{Question, Shows, View};
 use evl_base::{Board, Refusal, StaxId, ThreadId};
-use evl_kernel::KernelOf;
 use evl_machine::{CallerOf, MachineOf};
 use evl_pipeline::Handler;
-use evl_scenario::{write_board_line, write_history};
-use lab_callers_text::{CallersStep, CallersText};
+use evl_scenario::write_board_line;
+use lab_callers_text::CallersStep;
 use std::alloc::{AllocError, Global};
 use std::marker::Model;
 
@@ -46,14 +45,15 @@ pub struct Played {
     pub ending: Ending,
 }
 
-// What callers have and have been told, beside their machine.
+/// What callers have and have been told, beside their machine, and how many calls were entered behind each step.
 #[derive(Drop)]
-struct Report {
-    alloc: Global,
-    text: String,
-    passes: Passes,
-    plays: usize,
-    staxes: usize,
+pub struct Report {
+    pub alloc: Global,
+    pub text: String,
+    pub passes: Passes,
+    pub plays: usize,
+    pub entered: Vec<usize>,
+    pub staxes: usize,
 }
 
 impl Model for Report {
@@ -62,7 +62,7 @@ impl Model for Report {
 
     ghost Value = { ReportState };
 
-    ghost view = { λ r. record { text = string_bytes r.text; holdings = r.passes; plays = r.plays; staxes = r.staxes } };
+    ghost view = { λ r. record { text = string_bytes r.text; holdings = r.passes; plays = r.plays; entered = r.entered.items; staxes = r.staxes } };
 }
 
 // The first thread that holds a stax.
@@ -109,6 +109,7 @@ fn put_shown(
     view: &View,
 ) -> Result<(), AllocError>
     ensures same { (report.new.plays ≡ report.old.plays) × (report.new.holdings ≡ report.old.holdings) × (report.new.staxes ≡ report.old.staxes) }
+    ensures entered { report.new.entered ≡ report.old.entered }
     ensures shown { OnOk result (report.new.text ≡ report.old.text ++ shown_text report.old.staxes report.old.holdings holder view.now shows) }
 {
     match shows {
@@ -150,6 +151,7 @@ fn put_told<C: Handler>(
     write!(report.text, " -> {answer}")?;
     let asked = question(report, told.shows);
     let view = crew.look(report.alloc, who, asked)?;
+    report.entered.push(view.entered)?;
     put_shown(report, told.shows, crew.holder(), &view)?;
     report.text.push_str("\n")?;
     put_plays(&mut report.text, view.plays.as_slice())?;
@@ -220,10 +222,10 @@ fn play_steps<C: Handler>(
 }
 
 impl Report {
-    // What is told before the first step.
-    fn new(alloc: Global, board: &Board, limit: u32) -> Result<Report, AllocError>
+    /// What is told before the first step.
+    pub fn new(alloc: Global, board: &Board, limit: u32) -> Result<Report, AllocError>
         ensures line { IfOk result (λ report. report.text ≡ board_line_text (board_line_of board.now limit)) }
-        ensures none { IfOk result (λ report. (report.plays ≡ 0) × (report.holdings ≡ nothing_held)) }
+        ensures none { IfOk result (λ report. (report.plays ≡ 0) × (report.holdings ≡ nothing_held) × (report.entered ≡ [])) }
         ensures staxes { IfOk result (λ report. report.staxes ≡ length board.now.staxes.items) }
     {
         let mut text = String::new(alloc);
@@ -233,13 +235,14 @@ impl Report {
             text,
             passes: Passes::new(alloc),
             plays: 0,
+            entered: Vec::new(alloc),
             staxes: board.staxes.len(),
         })
     }
 }
 
-// A machine over a board and a bank, with its callers.
-fn made<C: Handler>(
+/// A machine over a board and a bank, with its callers.
+pub fn made<C: Handler>(
     alloc: Global,
     board: Board,
     bank: Vec<C>,
@@ -258,8 +261,8 @@ fn made<C: Handler>(
     }
 }
 
-// Makes all steps over a machine. The callers that haven't the core come back.
-fn play_over<C: Handler>(
+/// Makes all steps over a machine. The callers that haven't the core come back.
+pub fn play_over<C: Handler>(
     report: &mut Report,
     machine: &MachineOf<C, Global>,
     callers: Vec<CallerOf<C, Global>>,
@@ -268,180 +271,9 @@ fn play_over<C: Handler>(
     requires callers { All (λ c. c.machine ≡ machine.now) callers.items }
     requires by_plan { AnswersByPlan C.declared C.plan machine.now.first.callbacks }
     ensures belong { All (λ c. c.machine ≡ machine.now) result.1.items }
-    ensures played { let start = run_of (crew_of machine.now callers.items) report.old in MatchResult result.0 (λ _. MakesEach machine.now.first.limit start steps.items report.old.text report.new.text result.1.items) (λ e. StopsFor machine.now.first.limit start steps.items report.old.text report.new.text e.0 e.1) }
+    ensures played { let start = run_of (crew_of machine.now callers.items) report.old in MatchResult result.0 (λ _. MakesEach machine.now.first.limit start steps.items report.old.text report.new.text result.1.items report.new.entered) (λ e. StopsFor machine.now.first.limit start steps.items report.old.text report.new.text e.0 e.1) }
 {
     let mut crew = Crew::new(machine, callers);
     let made = play_steps(report, &mut crew, steps);
     (made, crew.into_callers())
-}
-
-// What is told of a closed machine's kernel.
-fn closing_of<C: Handler>(alloc: Global, kernel: &KernelOf<C, Global>) -> Result<String, AllocError>
-    ensures { IfOk result (λ text. string_bytes text ≡ closed_text kernel.now.history) }
-{
-    let mut text = String::from_str(alloc, "close -> done\n")?;
-    write_history(&mut text, kernel.history(), kernel.plays())?;
-    Ok(text)
-}
-
-// What is told of a machine that isn't closed.
-fn refused_closing(alloc: Global, refusal: Refusal) -> Result<String, AllocError>
-    ensures { IfOk result (λ text. string_bytes text ≡ open_text refusal) }
-{
-    let name = refusal.name();
-    let mut text = String::new(alloc);
-    write!(text, "close -> {name}\n")?;
-    Ok(text)
-}
-
-// Leaves a machine as it is, with its callers.
-fn leave<C: Handler>(machine: MachineOf<C, Global>, callers: Vec<CallerOf<C, Global>>) {
-    drop(machine);
-    drop(callers);
-}
-
-// A machine is made, and there is no memory for what is told of it.
-fn unplayed<C: Handler>(
-    machine: MachineOf<C, Global>,
-    callers: Vec<CallerOf<C, Global>>,
-) -> Result<Played, Refusal>
-    ensures { result ≡ Err Refusal.NoMemory }
-{
-    leave(machine, callers);
-    Err(Refusal::NoMemory)
-}
-
-// What is told of a closed machine's kernel, which goes.
-fn told_closed<C: Handler>(alloc: Global, kernel: KernelOf<C, Global>) -> Result<String, AllocError>
-    ensures { IfOk result (λ text. string_bytes text ≡ closed_text kernel.history) }
-{
-    let told = closing_of(alloc, &kernel);
-    drop(kernel);
-    told
-}
-
-// What is told of a machine that isn't closed, which goes with its callers.
-fn told_open<C: Handler>(
-    alloc: Global,
-    refusal: Refusal,
-    machine: MachineOf<C, Global>,
-    callers: Vec<CallerOf<C, Global>>,
-) -> Result<String, AllocError>
-    ensures { IfOk result (λ text. string_bytes text ≡ open_text refusal) }
-{
-    leave(machine, callers);
-    refused_closing(alloc, refusal)
-}
-
-// Closes a machine, if it can be: how that ends, and what is told of it.
-fn closing<C: Handler>(
-    alloc: Global,
-    machine: MachineOf<C, Global>,
-    callers: Vec<CallerOf<C, Global>>,
-) -> Result<(Ending, String), AllocError>
-    requires { All (λ c. c.machine ≡ machine) callers.items }
-    ensures { IfOk result (λ told. ClosesSo machine callers.items told.0 (string_bytes told.1)) }
-{
-    match machine.close(callers) {
-        Ok(kernel) => match told_closed(alloc, kernel) {
-            Ok(text) => Ok((Ending::Closed, text)),
-            Err(refused) => Err(refused),
-        },
-        Err((refusal, machine, callers)) => match told_open(alloc, refusal, machine, callers) {
-            Ok(text) => Ok((Ending::Open(refusal), text)),
-            Err(refused) => Err(refused),
-        },
-    }
-}
-
-// What is told in the end, once the machine is closed, if it can be.
-fn closed<C: Handler>(
-    report: Report,
-    machine: MachineOf<C, Global>,
-    callers: Vec<CallerOf<C, Global>>,
-) -> Result<Played, Refusal>
-    requires { All (λ c. c.machine ≡ machine) callers.items }
-    ensures lines { IfOk result (λ told. string_bytes told.lines ≡ report.text) }
-    ensures closed { IfOk result (λ told. ClosesSo machine callers.items told.ending (string_bytes told.closing)) }
-    ensures memory { IfErr result (λ e. e ≡ Refusal.NoMemory) }
-{
-    let Report { alloc, text, .. } = report;
-    match closing(alloc, machine, callers) {
-        Ok((ending, closing)) => Ok(Played {
-            lines: text,
-            closing,
-            ending,
-        }),
-        Err(_) => Err(Refusal::NoMemory),
-    }
-}
-
-// What is told of steps that end before the last one.
-fn stopped(report: Report, number: usize, stop: Stop) -> Result<Played, Refusal>
-    ensures lines { IfOk result (λ told. string_bytes told.lines ≡ report.text) }
-    ensures ending { IfOk result (λ told. IsStopped number stop told) }
-    ensures memory { IfErr result (λ e. e ≡ Refusal.NoMemory) }
-{
-    let Report { alloc, text, .. } = report;
-    match stop {
-        Stop::Fault(fault) => Ok(Played {
-            lines: text,
-            closing: String::new(alloc),
-            ending: Ending::Fault(number, fault),
-        }),
-        Stop::Memory => Err(Refusal::NoMemory),
-    }
-}
-
-// What is told of all steps, over a machine.
-fn told_over<C: Handler>(
-    report: Report,
-    machine: MachineOf<C, Global>,
-    callers: Vec<CallerOf<C, Global>>,
-    steps: Vec<CallersStep>,
-) -> Result<Played, Refusal>
-    requires callers { All (λ c. c.machine ≡ machine) callers.items }
-    requires by_plan { AnswersByPlan C.declared C.plan machine.first.callbacks }
-    ensures ends { IfOk result (λ told. EndsSo machine (run_of (crew_of machine callers.items) report) steps.items report.text told.ending (string_bytes told.lines) (string_bytes told.closing)) }
-    ensures memory { IfErr result (λ e. e ≡ Refusal.NoMemory) }
-{
-    let mut report = report;
-    let (made, callers) = play_over(&mut report, &machine, callers, steps);
-    match made {
-        Ok(()) => closed(report, machine, callers),
-        Err((number, stop)) => {
-            leave(machine, callers);
-            stopped(report, number, stop)
-        }
-    }
-}
-
-/// Makes the steps of a text of callers over a new machine with these callbacks, one after another on one host thread,
-/// and closes the machine. `Range` exactly where the board, the bank or the limit is outside its limits, `NoMemory`
-/// where a growth was refused.
-pub fn play_callers<C: Handler>(
-    alloc: Global,
-    text: CallersText,
-    bank: Vec<C>,
-) -> Result<Played, Refusal>
-    ensures told { IfOk result (λ told. IsTold C.declared C.plan text bank.items told) }
-    ensures range { (result ≡ Err Refusal.Range) ↔ (can_open text.board (length bank.items) text.limit ≡ false) }
-    ensures refusals { IfErr result (λ e. (e ≡ Refusal.Range) ⊎ (e ≡ Refusal.NoMemory)) }
-{
-    let CallersText {
-        board,
-        limit,
-        steps,
-    } = text;
-    let report = Report::new(alloc, &board, limit);
-    match made(alloc, board, bank, limit) {
-        Ok((machine, callers)) => match report {
-            Ok(report) => told_over(report, machine, callers, steps),
-            Err(_) => unplayed(machine, callers),
-        },
-        Err(refusal) => {
-            drop(report);
-            Err(refusal)
-        }
-    }
 }

@@ -26,13 +26,14 @@ pub struct Question {
     pub plays: usize,
 }
 
-/// What is seen: the word, the stage, those plays, and how many there are in all.
+/// What is seen: the word, the stage, those plays, how many there are in all, and how many calls were entered.
 #[derive(Drop)]
 pub struct View {
     pub word: Option<InWord>,
     pub stage: Stage,
     pub plays: Vec<Play>,
     pub made: usize,
+    pub entered: usize,
 }
 
 // The plays behind so many.
@@ -80,6 +81,7 @@ pub fn look<C: Handler, A: Allocator>(
 {
     let word = word_of(held, question.mutex);
     let stage = stage_of(held, question.thread);
+    let entered = held.kernel().history().len();
     let plays = held.kernel().plays();
     let made = plays.len();
     match plays_behind(alloc, plays, question.plays) {
@@ -88,6 +90,7 @@ pub fn look<C: Handler, A: Allocator>(
             stage,
             plays,
             made,
+            entered,
         }),
         Err(error) => Err(error),
     }

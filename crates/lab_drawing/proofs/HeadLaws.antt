@@ -1,5 +1,5 @@
 -- A legend grows sign by sign.
-use Rattle.std.proofs.Common.{◌≡◌, ℕ, Bool, true, false, List, [], ◌∷◌, ◌++◌, append_assoc, append-nil, sym, ap, ◌∙◌, if◌then◌else◌}
+use Rattle.std.proofs.Common.{◌≡◌, ℕ, Bool, Result, Ok, Err, OnOk, true, false, List, [], ◌∷◌, ◌++◌, append_assoc, append-nil, sym, ap, ◌∙◌, if◌then◌else◌}
 use Rattle.lab_drawing.specs.Drawings.{strip_for}
 use Rattle.lab_drawing.specs.declared.frames.Goes.{Goes}
 use Rattle.lab_drawing.specs.Frames.{Layout, picture_height, picture_width}
@@ -47,6 +47,14 @@ pub nine_signs : (sign : ℕ → List ℕ → List ℕ → List ℕ) (space a b 
     → last ≡ t3 ++ signs_text sign space d rest → last ≡ t0 ++ signs_text sign space a (s1 ∷ s2 ∷ s3 ∷ rest)
 nine_signs sign space a b c d s1 s2 s3 rest t0 t1 t2 t3 last e1 b1 e2 c1 e3 d1 w =
     sign_more sign space a b s1 (s2 ∷ s3 ∷ rest) t0 t1 last e1 b1 (sign_more sign space b c s2 (s3 ∷ rest) t1 t2 last e2 c1 (sign_more sign space c d s3 rest t2 t3 last e3 d1 w))
+
+-- four signs before others, which a call may not have appended
+pub four_signs : {T E : Type 0} (sign : ℕ → List ℕ → List ℕ → List ℕ) (space a b c d e : ℕ) (s1 s2 s3 s4 : List ℕ × List ℕ) (rest : List (List ℕ × List ℕ)) (t0 t1 t2 t3 t4 last : List ℕ) (r : Result T E)
+    → t1 ≡ t0 ++ sign a s1.0 s1.1 → b ≡ sign_end space a s1.1 → t2 ≡ t1 ++ sign b s2.0 s2.1 → c ≡ sign_end space b s2.1 → t3 ≡ t2 ++ sign c s3.0 s3.1 → d ≡ sign_end space c s3.1
+    → t4 ≡ t3 ++ sign d s4.0 s4.1 → e ≡ sign_end space d s4.1 → OnOk r (last ≡ t4 ++ signs_text sign space e rest) → OnOk r (last ≡ t0 ++ signs_text sign space a (s1 ∷ s2 ∷ s3 ∷ s4 ∷ rest))
+four_signs sign space a b c d e s1 s2 s3 s4 rest t0 t1 t2 t3 t4 last (Ok u) e1 b1 e2 c1 e3 d1 e4 f1 w =
+    nine_signs sign space a b c d s1 s2 s3 (s4 ∷ rest) t0 t1 t2 t3 last e1 b1 e2 c1 e3 d1 (sign_more sign space d e s4 rest t3 t4 last e4 f1 w)
+four_signs sign space a b c d e s1 s2 s3 s4 rest t0 t1 t2 t3 t4 last (Err x) e1 b1 e2 c1 e3 d1 e4 f1 w = w
 
 word_more : (goes : Goes) (lanes : List Lane) (at next : ℕ) (one : Condition × List ℕ) (rest : List (Condition × List ℕ)) (old new last : List ℕ)
     → new ≡ old ++ (if is_of_words lanes one.0 then condition_sign goes at (strip_for goes one.0) one.1 else []) → next ≡ (if is_of_words lanes one.0 then sign_end 36 at one.1 else at)

@@ -8,7 +8,7 @@ use Rattle.lab_drawing.specs.declared.frames.Goes.{Goes}
 use Rattle.lab_drawing.specs.declared.frames.Goes.TheVariants.{Across, Down}
 use Rattle.lab_drawing.specs.declared.frames.Sheet.{Sheet}
 use Rattle.lab_drawing.specs.declared.frames.Shows.{Shows}
-use Rattle.lab_drawing.specs.declared.frames.Shows.TheVariants.{Waits, Words}
+use Rattle.lab_drawing.specs.declared.frames.Shows.TheVariants.{Callers, Waits, Words}
 use Rattle.evl_base.specs.declared.policy.Policy.{Policy}
 use Rattle.evl_base.specs.declared.policy.Policy.TheVariants.{Fifo, Rr, Quota, Weak}
 use Rattle.evl_base.specs.declared.stage.Stage.TheVariants.{Inband, Oob}
@@ -43,6 +43,7 @@ by_way Down one other = other
 -- how many characters of a line are shown at most
 abbrev pub most_shown : Shows → ℕ
 most_shown Words = 100
+most_shown Callers = 100
 most_shown _ = 72
 
 -- the length of the longest line
@@ -229,6 +230,7 @@ frame_text sheet column = flat_map (lane_line sheet column (lanes_end sheet colu
 
 abbrev pub shows_waits : Shows → Bool
 shows_waits Words = true
+shows_waits Callers = true
 shows_waits _ = false
 
 -- the priority that a rank is of
@@ -282,10 +284,13 @@ lent_text goes rank lender = codes "<text " ++ (lent_place goes ++ (codes ">" ++
 abbrev pub raised_text : Goes → Policy → ℕ → Option ℕ → List ℕ
 raised_text goes policy rank lender = if own_rank policy == rank then [] else lent_text goes rank lender
 
--- where a number stands that is no rank
+-- where a number stands that is no rank: beside waits left of the tie
+abbrev pub word_place : Goes → Bool → List ℕ
+word_place Across true = codes "x=\"-2\" y=\"-7\" font-size=\"7\" text-anchor=\"end\""
+word_place goes _ = own_place goes
+
 abbrev pub number_place : Goes → Shows → List ℕ
-number_place Across Words = codes "x=\"-2\" y=\"-7\" font-size=\"7\" text-anchor=\"end\""
-number_place goes shows = own_place goes
+number_place goes shows = word_place goes (shows_waits shows)
 
 abbrev pub signed_text : Layout → Condition → ℕ → List ℕ
 signed_text sheet condition number =

@@ -6,7 +6,7 @@ use Rattle.lab_drawing.specs.Frames.{Layout, by_way, capped, picture_height, pic
 use Rattle.lab_drawing.specs.declared.frames.Goes.{Goes}
 use Rattle.lab_drawing.specs.declared.frames.Goes.TheVariants.{Across, Down}
 use Rattle.lab_drawing.specs.declared.frames.Shows.{Shows}
-use Rattle.lab_drawing.specs.declared.frames.Shows.TheVariants.{Machine, Waits, Words}
+use Rattle.lab_drawing.specs.declared.frames.Shows.TheVariants.{Callers, Machine, Waits, Words}
 use Rattle.lab_drawing.specs.declared.lanes.Lane.{Lane}
 use Rattle.lab_drawing.specs.declared.lanes.Lane.TheVariants.{Core, Mutex, Stax}
 use Rattle.lab_drawing.specs.declared.marks.Shape.TheVariants.{Answered, Begun, Ended, Refused, Played, Unhandled}
@@ -104,11 +104,17 @@ abbrev pub word_signs : List (Condition × List ℕ)
 word_signs =
     (Owned, codes "owned") ∷ (Claimed, codes "claimed") ∷ (Inband, codes "held in-band") ∷ (Oob, codes "held out-of-band") ∷ (Taken, codes "taken") ∷ []
 
+-- those of threads, and behind them those of words
+abbrev pub callers_signs : Goes → List Lane → List (List ℕ × List ℕ)
+callers_signs goes lanes =
+    (strip_for goes Picked, codes "picked") ∷ (strip_for goes Ready, codes "ready") ∷ (strip_for goes Blocked, codes "blocked") ∷ (strip_for goes Inband, codes "in-band") ∷ signs_of goes lanes word_signs
+
 -- the second line of a legend, where it is told how lanes stand
 abbrev pub second_legend : Goes → Shows → List Lane → List ℕ
 second_legend goes Waits lanes = []
 second_legend goes Machine lanes = signs_text (condition_sign goes) 36 20 (condition_signs goes)
 second_legend goes Words lanes = signs_text (condition_sign goes) 36 20 (signs_of goes lanes word_signs)
+second_legend goes Callers lanes = signs_text (condition_sign goes) 36 20 (callers_signs goes lanes)
 
 abbrev pub head_text : Layout → List ℕ
 head_text sheet =

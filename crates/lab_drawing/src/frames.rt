@@ -8,11 +8,11 @@ ghost use Rattle.lab_drawing.specs.Lanes.{AreLanesOf, put_touched};
 use crate::dates::dates_room;
 use crate::downwards::{put_line_down, put_name_above};
 use crate::drawings::{lane_ink, put_lane_name, put_line};
-use crate::heads::{opening, put_conditions, put_shapes, put_words};
+use crate::heads::{FIRST_SIGN, opening, put_callers, put_conditions, put_shapes, put_words};
 use crate::lanes::{Lane, add_lane, index_of};
 use crate::marks::Mark;
 use crate::moments::Moment;
-use crate::ranks::own_place;
+use crate::ranks::word_place;
 use crate::ties::{TieEnd, tie_down, tie_right};
 use std::alloc::{AllocError, Global};
 
@@ -79,6 +79,8 @@ pub enum Shows {
     Machine,
     /// Dates, the waits, and strips of the words that callers went to.
     Words,
+    /// The same with strips of the callers' threads.
+    Callers,
 }
 
 /// How a picture is laid out: its lanes from the first, the characters that are shown of a line, how many marks it has,
@@ -121,7 +123,7 @@ fn most_shown(shows: Shows) -> usize
     ensures { result ≡ most_shown shows }
 {
     match shows {
-        Shows::Words => MOST_TOLD,
+        Shows::Words | Shows::Callers => MOST_TOLD,
         _ => MOST_SHOWN,
     }
 }
@@ -228,17 +230,14 @@ impl Sheet {
     pub fn shows_waits(&self) -> bool
         ensures { result ≡ frames.shows_waits self.now.shows }
     {
-        self.shows == Shows::Words
+        matches!(self.shows, Shows::Words | Shows::Callers)
     }
 
     /// Where a number that is no rank stands: left of the tie, where it is the tied call that changes the number.
     pub fn number_place(&self) -> &'static str
         ensures { result.now ≡ frames.number_place self.now.goes self.now.shows }
     {
-        match (self.goes, self.shows) {
-            (Goes::Across, Shows::Words) => "x=\"-2\" y=\"-7\" font-size=\"7\" text-anchor=\"end\"",
-            (goes, _) => own_place(goes),
-        }
+        word_place(self.goes, self.shows_waits())
     }
 
     /// Whether it has this lane.
@@ -423,7 +422,8 @@ impl Sheet {
         match self.shows {
             Shows::Waits => Ok(()),
             Shows::Machine => put_conditions(text, self.goes),
-            Shows::Words => put_words(text, self.goes, self.lanes.as_slice()),
+            Shows::Words => put_words(text, self.goes, self.lanes.as_slice(), FIRST_SIGN),
+            Shows::Callers => put_callers(text, self.goes, self.lanes.as_slice()),
         }
     }
 

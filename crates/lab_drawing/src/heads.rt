@@ -2,7 +2,7 @@
 ghost use Rattle.std.specs.Prelude.{◌≡◌, ◌++◌, string_bytes, IfOk, OnOk, if◌then◌else◌, []};
 ghost use Rattle.lab_drawing.specs.Drawings as drawings;
 ghost use Rattle.lab_drawing.specs.Heads as heads;
-ghost use Rattle.lab_drawing.specs.Heads.{condition_sign, condition_signs, dark_text, opening_text, place_text, shape_sign, shape_signs, signs_of, signs_text, word_signs, word_text};
+ghost use Rattle.lab_drawing.specs.Heads.{callers_signs, condition_sign, condition_signs, dark_text, opening_text, place_text, shape_sign, shape_signs, signs_of, signs_text, word_signs, word_text};
 
 use crate::drawings::shape_text;
 use crate::frames::{Goes, steps};
@@ -15,6 +15,9 @@ use std::alloc::{AllocError, Global};
 
 // How wide a character is.
 const CHARACTER: usize = 6;
+
+/// Where the first sign of a condition stands, from the left.
+pub const FIRST_SIGN: usize = 20;
 
 /// The opening of a picture of this size. `AllocError` where the text couldn't grow.
 pub fn opening(alloc: Global, goes: Goes, width: usize, height: usize) -> Result<String, AllocError>
@@ -183,7 +186,7 @@ fn put_condition(
 pub fn put_conditions(text: &mut String, goes: Goes) -> Result<(), AllocError>
     ensures { OnOk result (string_bytes text.new ≡ string_bytes text.old ++ signs_text (condition_sign goes) 36 20 (condition_signs goes)) }
 {
-    let ready = put_condition(text, goes, 20, Condition::Picked, "picked")?;
+    let ready = put_condition(text, goes, FIRST_SIGN, Condition::Picked, "picked")?;
     let blocked = put_condition(text, goes, ready, Condition::Ready, "ready")?;
     let inband = put_condition(text, goes, blocked, Condition::Blocked, "blocked")?;
     let owned = put_condition(text, goes, inband, Condition::Inband, "in-band")?;
@@ -193,6 +196,18 @@ pub fn put_conditions(text: &mut String, goes: Goes) -> Result<(), AllocError>
     let runs = put_condition(text, goes, pending, Condition::Pending, "events pending")?;
     put_condition(text, goes, runs, Condition::Runs, "timer runs")?;
     Ok(())
+}
+
+/// Appends the legend of how callers' threads stand, and behind it that of words. `AllocError` where the text couldn't
+/// grow.
+pub fn put_callers(text: &mut String, goes: Goes, lanes: &[Lane]) -> Result<(), AllocError>
+    ensures { OnOk result (string_bytes text.new ≡ string_bytes text.old ++ signs_text (condition_sign goes) 36 20 (callers_signs goes lanes.now)) }
+{
+    let ready = put_condition(text, goes, FIRST_SIGN, Condition::Picked, "picked")?;
+    let blocked = put_condition(text, goes, ready, Condition::Ready, "ready")?;
+    let inband = put_condition(text, goes, blocked, Condition::Blocked, "blocked")?;
+    let words = put_condition(text, goes, inband, Condition::Inband, "in-band")?;
+    put_words(text, goes, lanes, words)
 }
 
 // Whether a condition is one of the word of a lane.
@@ -233,11 +248,12 @@ fn put_word(
     }
 }
 
-/// Appends the legend of how words stand, of those that have a lane. `AllocError` where the text couldn't grow.
-pub fn put_words(text: &mut String, goes: Goes, lanes: &[Lane]) -> Result<(), AllocError>
-    ensures { OnOk result (string_bytes text.new ≡ string_bytes text.old ++ signs_text (condition_sign goes) 36 20 (signs_of goes lanes.now word_signs)) }
+/// Appends the legend of how words stand, of those that have a lane, so far from the left. `AllocError` where the text
+/// couldn't grow.
+pub fn put_words(text: &mut String, goes: Goes, lanes: &[Lane], at: usize) -> Result<(), AllocError>
+    ensures { OnOk result (string_bytes text.new ≡ string_bytes text.old ++ signs_text (condition_sign goes) 36 at (signs_of goes lanes.now word_signs)) }
 {
-    let claimed = put_word(text, goes, 20, lanes, Condition::Owned, "owned")?;
+    let claimed = put_word(text, goes, at, lanes, Condition::Owned, "owned")?;
     let inband = put_word(text, goes, claimed, lanes, Condition::Claimed, "claimed")?;
     let oob = put_word(text, goes, inband, lanes, Condition::Inband, "held in-band")?;
     let taken = put_word(text, goes, oob, lanes, Condition::Oob, "held out-of-band")?;

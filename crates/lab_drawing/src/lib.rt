@@ -40,6 +40,6 @@ pub use pages::{PAGE, page, page_count, page_moments, page_snapshots};
 pub use ranks::own_rank;
 pub use rows::write_rows;
 pub use snapshots::{Cell, Place, Snapshot, put_cell};
-pub use svg::{write_down, write_svg, write_told, write_told_down};
+pub use svg::{write_callers, write_down, write_svg, write_told, write_told_down};
 pub use tables::write_table;
 pub use told::told_moments;

@@ -53,6 +53,16 @@ pub fn own_place(goes: Goes) -> &'static str
     }
 }
 
+/// Where a number stands that is no rank: beside waits left of the tie, as it is the tied call that changes the number.
+pub fn word_place(goes: Goes, shows_waits: bool) -> &'static str
+    ensures { result.now ≡ frames.word_place goes shows_waits }
+{
+    match goes {
+        Goes::Across if shows_waits => "x=\"-2\" y=\"-7\" font-size=\"7\" text-anchor=\"end\"",
+        _ => own_place(goes),
+    }
+}
+
 // Where a rank by others stands.
 fn lent_place(goes: Goes) -> &'static str
     ensures { result.now ≡ frames.lent_place goes }

@@ -6,7 +6,7 @@ ghost use Rattle.lab_drawing.specs.Marks.{is_entry, line_of};
 ghost use Rattle.lab_drawing.specs.Pictures as pictures;
 ghost use Rattle.lab_drawing.specs.Pictures.{band_frame, body_text, column_text, columns_text, down_text, entry_with, going_text, label_of, lead_text, mark_text, stood_text, svg_text};
 ghost use Rattle.lab_drawing.specs.Titles.{HoldsTitles};
-ghost use Rattle.lab_drawing.specs.declared.frames.Shows.TheVariants.{Words};
+ghost use Rattle.lab_drawing.specs.declared.frames.Shows.TheVariants.{Callers, Words};
 
 use crate::beside::put_beside;
 use crate::drawings::shape_text;
@@ -332,4 +332,18 @@ pub fn write_told_down(
     ensures titles { IfOk result (λ text. HoldsTitles (map line_of marks.now) text.items) }
 {
     picture(alloc, marks, moments, Shows::Words, Goes::Down)
+}
+
+/// The picture of callers' marks that goes this way, where it is known how their threads stood too: that of `write_told`
+/// with strips of these. `AllocError` where memory couldn't grow.
+pub fn write_callers(
+    alloc: Global,
+    marks: &[Mark<'_>],
+    moments: &[Moment],
+    goes: Goes,
+) -> Result<Vec<u8>, AllocError>
+    ensures text { IfOk result (λ text. text.items ≡ going_text goes Callers moments.now marks.now) }
+    ensures titles { IfOk result (λ text. HoldsTitles (map line_of marks.now) text.items) }
+{
+    picture(alloc, marks, moments, Shows::Callers, goes)
 }

@@ -30,6 +30,7 @@ returns-clause-told g c =
         holdings = ap (λ (r : ReportState). r.holdings) is ∙ kept.1;
         staxes = ap (λ (r : ReportState). r.staxes) is ∙ kept.2;
         plays = refl;
+        entered = ap (λ (r : ReportState). r.entered) is ∙ c.in_ok-put_shown.ensures.entered ∙ c.in_ok-push.ensures.items;
         text_is = refl;
       },
       told_behind before (codes " -> ") answer (behind has) line_feed (play_lines view.plays.items) (string_bytes c.write.new.self) c.put_shown.new.report.text (string_bytes c.push_str.new.self) (string_bytes c.put_plays.new.text)
