@@ -2,7 +2,7 @@
  * Tries the library where memory runs out: each request for memory is refused in turn, alone and with all that come after
  * it: memory_tries FOLDER [PART]; the folder of this repository; of many requests each that is a PART-th further on, an
  * eighth where that isn't said. The library is linked with malloc, realloc and free wrapped.
- * What is told is EVLSIM_NO_MEMORY, or of a call NoMemory; buffers and kernels are as before, and all memory is given back.
+ * What is told is EVLSIM_NO_MEMORY, or of a call NoMemory; buffers, kernels and machines are as before, and all memory is given back.
  */
 #include <evlsim.h>
 #include <stdio.h>
@@ -222,6 +222,74 @@ static size_t try_kernel(size_t from, size_t to) {
   return count;
 }
 
+/* ---- a machine */
+
+static evlsim_caller callers_of_two[2];
+
+static evlsim_status open_machine(void) {
+  static const uint32_t counts[] = {1};
+  static const evlsim_mutex mutexes[] = {{EVLSIM_NORMAL, 0}, {EVLSIM_CEILING, 20}};
+  static const uint16_t staxes[] = {1};
+  evlsim_board board;
+  memset(&board, 0, sizeof board);
+  board.threads = 2;
+  board.sems = counts, board.sem_count = 1;
+  board.mutexes = mutexes, board.mutex_count = 2;
+  return evlsim_machine_open(callers_of_two, 2, &board, staxes, 1, evlsim_program_bank, EVLSIM_PROGRAM_BANK, 1000);
+}
+
+#define STEPS 8u
+
+static evlsim_answer make_step(size_t number) {
+  evlsim_caller *one = &callers_of_two[0], *other = &callers_of_two[1];
+  switch (number) {
+    case 0: return evlsim_try_call(one, evlsim_call_attach(evlsim_fifo(9), EVLSIM_OOB));
+    case 1: return evlsim_try_call(other, evlsim_call_attach(evlsim_fifo(8), EVLSIM_OOB));
+    case 2: return evlsim_try_lock_mutex(one, 0);
+    case 3: return evlsim_begin_lock_mutex(other, 0);
+    case 4: return evlsim_try_unlock_mutex(one, 0);
+    case 5: return evlsim_finish_lock_mutex(other);
+    case 6: return evlsim_try_lock_mutex(one, 1);
+    default: return evlsim_try_lock_stax(one, 0);
+  }
+}
+
+/* A step that memory ran out for is made when there is memory again. */
+static void make_steps(size_t from, size_t to) {
+  for (size_t number = 0; number < STEPS; number++) {
+    refuse(from, to);
+    evlsim_answer answer = make_step(number);
+    refuse(SIZE_MAX, 0);
+    if (evlsim_refused_as(answer, EVLSIM_REFUSAL_NO_MEMORY)) answer = make_step(number);
+    require(evlsim_is_done(answer) || (number == 3 && evlsim_is_begun(answer)), "it isn't made", "steps");
+  }
+}
+
+/* Opens a machine, makes the steps of its callers and tells their trace, each with these requests refused. */
+static size_t try_machine(size_t from, size_t to) {
+  long before = blocks;
+  size_t count;
+  refuse(from, to);
+  evlsim_status status = open_machine();
+  count = asked;
+  refuse(SIZE_MAX, 0);
+  if (!evlsim_ok(status)) {
+    require(evlsim_status_is(status, EVLSIM_NO_MEMORY), "another status", "machine");
+    require(!callers_of_two[0].is_open && !callers_of_two[1].is_open, "a caller is left", "machine");
+    require(blocks == before, "memory is lost", "machine");
+    require(evlsim_ok(open_machine()), "it isn't opened", "machine");
+  }
+  make_steps(from, to);
+  refuse(from, to);
+  status = evlsim_caller_trace(&callers_of_two[1], 0, out.bytes, ROOM, &out.length);
+  refuse(SIZE_MAX, 0);
+  require(evlsim_ok(status) || evlsim_status_is(status, EVLSIM_NO_MEMORY), "another status", "machine");
+  require(evlsim_ok(evlsim_caller_trace(&callers_of_two[0], 0, out.bytes, ROOM, &out.length)), "no trace", "machine");
+  for (size_t place = 0; place < 2; place++) evlsim_caller_close(&callers_of_two[place]);
+  require(blocks == before, "memory is lost", "machine");
+  return count;
+}
+
 /* ---- each request in turn */
 
 struct work {
@@ -287,6 +355,10 @@ int main(int count, char **words) {
   read_file(words[1], "examples/orders/two_locks.toml", &asked_of);
   read_file(words[1], "callers/contended_mutex.toml", &caller);
   for (size_t it = 0; it < sizeof works / sizeof *works; it++) tried += try_work(&works[it], part);
+  for (size_t from = 0; try_machine(from, from) > from; from++) {
+    try_machine(from, SIZE_MAX);
+    tried += 2;
+  }
   for (size_t from = 0; try_kernel(from, from) > from; from++) {
     (void)try_kernel(from, SIZE_MAX);
     tried += 2;

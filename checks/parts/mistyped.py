@@ -33,3 +33,13 @@ with evlsim.Kernel(threads=1, bank=[evlsim.Plan(1, (1, "post_sem", 0), (2, "prop
     other.write(0, xbuf=0, way="in", bytes=b"ab", who=1)  # wrong
     other.begin_get(0, sem=0, until=None)
     other.raise_(0, mutex=0)
+with evlsim.Machine(threads=2, mutexes=["normal"], staxes=[1]) as machine:
+    caller = machine.callers[0]
+    caller.put(0, sem=0)  # wrong
+    caller.put(semm=0)  # wrong
+    caller.try_lock_mutex("0")  # wrong
+    caller.begin_lock_mutex(0, until="never")  # wrong
+    left: evlsim.Answer = caller.unlock_stax(0)
+    caller.attach(policy="fifo 10", stage="oob")
+    caller.finish(keep=True)
+evlsim.Machine(threads=2, staxes=["1"])  # wrong

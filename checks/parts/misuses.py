@@ -6,6 +6,7 @@ import pathlib
 import pickle
 import sys
 import threading
+import time
 
 import evlsim
 
@@ -19,6 +20,8 @@ def board(**other):
 
 KERNEL = board()
 K = KERNEL
+MACHINE = evlsim.Machine(threads=2, sems=[0], xbufs=[(16, 16)], mutexes=["normal"], staxes=[1])
+C = MACHINE.callers[0]
 # what is written, the error, and what it says
 CALLS = [
     (lambda: K.put(0, semm=0), STEP, 'put has no key "semm"; did you mean "sem"? (its keys: sem)'),
@@ -132,6 +135,31 @@ BOARDS = [
     (lambda: evlsim.Plan(1, (1, "post_flags", 0)), PLAN, "4 parts"),
     (lambda: evlsim.Plan(1, *[(1, "post_sem", 0)] * 5), PLAN, "5 rows: four"),
 ]
+MACHINES = [
+    (lambda: evlsim.Machine(threads=0), BAD, "threads is 0"),
+    (lambda: evlsim.Machine(threads=1, stax=[1]), BAD, 'a machine has no key "stax"; did you mean "staxes"?'),
+    (lambda: evlsim.Machine(threads=1, staxes=3), TypeError, "staxes is 3: a list"),
+    (lambda: evlsim.Machine(threads=1, staxes=[0]), BAD, "staxes[0] is 0: a whole number from 1 to 1000"),
+    (lambda: evlsim.Machine(threads=1, staxes=[1, 1001]), BAD, "staxes[1] is 1001"),
+    (lambda: evlsim.Machine(threads=1, staxes=[True]), TypeError, "staxes[0] is True"),
+    (lambda: evlsim.Machine(threads=1, staxes=[1] * 17), BAD, "staxes has 17 items: 16"),
+    (lambda: evlsim.Machine(threads=1, limit=0), BAD, "limit is 0"),
+    (lambda: evlsim.Machine(threads=1, bank=[3]), TypeError, "plan 0 of the bank is 3"),
+    (lambda: C.put(0, sem=0), TypeError, "positional"),
+    (lambda: C.put(semm=0), STEP, 'put has no key "semm"; did you mean "sem"? (its keys: sem)'),
+    (lambda: C.put(who=1, sem=0), TypeError, "who"),
+    (lambda: C.put(sem=-1), STEP, "sem is -1"),
+    (lambda: C.write(xbuf=0, way="up", bytes=b""), STEP, "way is 'up': one of 'in', 'out'"),
+    (lambda: C.call("pust", sem=0), STEP, "no step word 'pust'; did you mean \"put\"?"),
+    (lambda: C.try_lock_mutex("0"), TypeError, "try_lock_mutex: mutex is '0'"),
+    (lambda: C.try_unlock_mutex(-1), STEP, "try_unlock_mutex: mutex is -1"),
+    (lambda: C.begin_lock_mutex(0, until=-1), STEP, "begin_lock_mutex: until is -1"),
+    (lambda: C.try_lock_stax(1 << 16), STEP, "try_lock_stax: stax is 65536"),
+    (lambda: C.unlock_stax(1.0), TypeError, "unlock_stax: stax is 1.0"),
+    (lambda: C.trace(-1), ASK, "start is -1"),
+    (lambda: pickle.dumps(C), TypeError, "isn't pickled"),
+    (lambda: pickle.dumps(MACHINE), TypeError, "isn't pickled"),
+]
 SMALL = "[board]\nthreads = 1\n"
 PLAYS = [
     (lambda: evlsim.play(None), TypeError, "text is None"),
@@ -217,6 +245,28 @@ def try_closed():
     assert "closed" in repr(kernel)
 
 
+def try_closed_callers():
+    machine = evlsim.Machine(threads=2, mutexes=["normal"], staxes=[1])
+    first, second = machine.callers
+    first.close()
+    assert first.closed and not machine.closed and second.now() and machine.trace() == second.trace()
+    machine.close()
+    for function in (
+        lambda: first.put(sem=0),
+        lambda: first.try_lock_mutex(0),
+        lambda: first.finish_lock_mutex(),
+        lambda: second.unlock_stax(0),
+        second.trace,
+        machine.trace,
+    ):
+        try:
+            function()
+        except evlsim.KernelClosed:
+            continue
+        raise AssertionError("a closed caller answered")
+    assert "closed" in repr(first) and "closed" in repr(machine)
+
+
 def try_fork():
     """After a fork parent and child have a kernel each, in the same state."""
     kernel = board()
@@ -248,9 +298,36 @@ def try_threads(puts=50000):
     assert not wrong and [kernel.see_count(sem) for sem in range(3)] == [puts] * 3
 
 
+def try_callers(rounds=5000):
+    """Two threads, each with a caller of one machine, count under a mutex: no count is lost."""
+    counted = [0]
+    with evlsim.Machine(threads=2, mutexes=["normal"], limit=1000000) as machine:
+        for caller in machine.callers:
+            assert caller.attach(policy="fifo 10", stage="oob")
+
+        def work(caller):
+            for _ in range(rounds):
+                while not caller.try_lock_mutex(0):
+                    pass
+                was = counted[0]
+                time.sleep(0)
+                counted[0] = was + 1
+                assert caller.unlock_mutex_fast(0)
+
+        threads = [threading.Thread(target=work, args=(caller,)) for caller in machine.callers]
+        for thread in threads:
+            thread.start()
+        for thread in threads:
+            thread.join()
+    assert counted == [2 * rounds]
+
+
 tried = try_list("call", CALLS) + try_list("board", BOARDS) + try_list("play", PLAYS) + try_list("lab", LABS)
+tried += try_list("machine", MACHINES)
 try_right_ones()
 try_closed()
+try_closed_callers()
 try_fork()
 try_threads(int(sys.argv[1]) if sys.argv[1:] else 50000)
+try_callers(int(sys.argv[1]) // 10 if sys.argv[1:] else 5000)
 print(f"{tried} misuses raised what they should")

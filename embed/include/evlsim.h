@@ -17,8 +17,9 @@
  * not a second kernel. No function keeps a pointer that it is given, and none returns memory to be freed.
  *
  * Threads. A kernel is given to one call at a time, of the thread that opened it; each thread may have kernels of its
- * own. evlsim_play and evlsim_play_over keep nothing, so any number of threads may call them at once. Nothing here is
- * called from a signal handler.
+ * own. Callers of one machine (evlsim/machine.h) are called from several threads at once. evlsim_play and
+ * evlsim_play_over keep nothing, so any number of threads may call them at once. Nothing here is called from a signal
+ * handler.
  *
  * Fork. Kernels are plain memory: after fork() parent and child each have their own kernel, in the same state, and each
  * closes its own.
@@ -66,6 +67,7 @@ uint32_t evlsim_abi(void);
 #include <evlsim/abi.h>
 #include <evlsim/calls.h>
 #include <evlsim/kernel.h>
+#include <evlsim/machine.h>
 #include <evlsim/play.h>
 #include <evlsim/orders.h>
 #include <evlsim/texts.h>

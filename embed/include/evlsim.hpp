@@ -7,7 +7,8 @@
  *   evlsim::kernel kernel(board);
  *   assert(kernel.call(0, evlsim_call_try_get(0)).refused_as(EVLSIM_REFUSAL_AGAIN));
  *
- * A kernel is given to one call at a time, of the thread that made it. A refused text, board, plan or number is thrown;
+ * A kernel is given to one call at a time, of the thread that made it; a caller of a machine also to one at a time, of any
+ * thread. A refused text, board, plan or number is thrown;
  * a call that the kernel refuses is an answer.
  */
 #ifndef EVLSIM_HPP
@@ -234,6 +235,82 @@ class kernel {
 
   evlsim_kernel kernel_ = EVLSIM_NO_KERNEL;
 };
+
+/* A caller of a machine, which is closed with the object. It can be moved, not copied; a move is a call of it. */
+class caller {
+ public:
+  caller() = default;
+  ~caller() { evlsim_caller_close(&caller_); }
+  caller(caller &&other) noexcept { std::swap(caller_, other.caller_); }
+  caller &operator=(caller &&other) noexcept {
+    std::swap(caller_, other.caller_);
+    return *this;
+  }
+  caller(const caller &) = delete;
+  caller &operator=(const caller &) = delete;
+
+  /* A call of the caller's thread, without waiting. `bytes` are those of a write. Throws refused if a number of the call is
+     out of its range, and std::bad_alloc. */
+  answer try_call(const evlsim_call &asked, std::string_view bytes = {}) {
+    std::uint8_t read[256];
+    evlsim_answer told = evlsim_try_call_bytes(&caller_, asked, reinterpret_cast<const std::uint8_t *>(bytes.data()),
+                                               bytes.size(), read, sizeof read);
+    answer whole = called(told);
+    if (told.kind == EVLSIM_BYTES) whole.bytes.assign(read, read + told.number);
+    return whole;
+  }
+
+  /* Mutexes and staxes, as evlsim/machine.h says of each; none waits. They throw refused if the caller is closed. */
+  answer try_lock_mutex(std::uint16_t mutex) { return called(evlsim_try_lock_mutex(&caller_, mutex)); }
+  answer unlock_mutex_fast(std::uint16_t mutex) { return called(evlsim_unlock_mutex_fast(&caller_, mutex)); }
+  answer try_unlock_mutex(std::uint16_t mutex) { return called(evlsim_try_unlock_mutex(&caller_, mutex)); }
+  answer begin_lock_mutex(std::uint16_t mutex) { return called(evlsim_begin_lock_mutex(&caller_, mutex)); }
+  answer begin_lock_mutex(std::uint16_t mutex, std::uint64_t until) {
+    return called(evlsim_begin_lock_mutex_until(&caller_, mutex, until));
+  }
+  answer finish_lock_mutex() { return called(evlsim_finish_lock_mutex(&caller_)); }
+  answer try_lock_stax(std::uint16_t stax) { return called(evlsim_try_lock_stax(&caller_, stax)); }
+  answer unlock_stax(std::uint16_t stax) { return called(evlsim_unlock_stax(&caller_, stax)); }
+
+  /* For the functions of evlsim/machine.h. */
+  evlsim_caller *get() { return &caller_; }
+
+  /* The trace of all calls of the machine's callers. Throws refused if another caller has the core, and std::bad_alloc. */
+  std::string trace() {
+    std::size_t length = 0;
+    require_ok(evlsim_caller_trace(&caller_, 0, nullptr, 0, &length));
+    for (;;) {
+      std::string whole(length, '\0');
+      std::size_t had = length;
+      require_ok(evlsim_caller_trace(&caller_, 0, reinterpret_cast<std::uint8_t *>(whole.data()), had, &length));
+      whole.resize(length < had ? length : had);
+      if (length <= had) return whole;
+    }
+  }
+
+ private:
+  static answer called(const evlsim_answer &told) {
+    require_ok(evlsim_why(told));
+    return answer(told);
+  }
+
+  friend std::vector<caller> open_machine(const evlsim_board &, const std::vector<std::uint16_t> &, std::uint32_t,
+                                          const bank &);
+  evlsim_caller caller_ = EVLSIM_NO_CALLER;
+};
+
+/* The callers of a new machine, in the order of its threads; the last one that goes frees it. Throws refused if the board,
+   a stax, the limit or a plan is, and std::bad_alloc. */
+inline std::vector<caller> open_machine(const evlsim_board &board, const std::vector<std::uint16_t> &staxes = {},
+                                        std::uint32_t limit = 1000, const bank &plans = program_bank()) {
+  std::vector<evlsim_caller> opened(board.threads);
+  std::vector<caller> callers(board.threads);
+  evlsim_caller none = EVLSIM_NO_CALLER;
+  require_ok(evlsim_machine_open(opened.empty() ? &none : opened.data(), opened.size(), &board, staxes.data(),
+                                 staxes.size(), plans.data(), plans.size(), limit));
+  for (std::size_t place = 0; place < opened.size(); place++) callers[place].caller_ = opened[place];
+  return callers;
+}
 
 }  // namespace evlsim
 

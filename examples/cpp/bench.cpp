@@ -56,11 +56,37 @@ void try_texts() {
   require(false, "it was drawn");
 }
 
+/* Two callers of one machine; they may be on two threads (examples/c/machine.c). */
+void try_callers() {
+  const evlsim_mutex mutexes[] = {{EVLSIM_NORMAL, 0}};
+  evlsim_board board{};
+  board.threads = 2, board.mutexes = mutexes, board.mutex_count = 1;
+  std::vector<evlsim::caller> callers = evlsim::open_machine(board, {1});
+  evlsim::caller &first = callers[0], &second = callers[1];
+  for (evlsim::caller &caller : callers) {
+    require(caller.try_call(evlsim_call_attach(evlsim_fifo(10), EVLSIM_OOB)).is_done(), "attached");
+  }
+  require(first.try_lock_mutex(0).is_done() && second.begin_lock_mutex(0, 5).is_begun(), "the second waits");
+  require(first.unlock_mutex_fast(0).refused_as(EVLSIM_REFUSAL_BUSY), "it is claimed");
+  require(first.try_unlock_mutex(0).is_done() && second.finish_lock_mutex().is_done(), "handed on");
+  require(first.try_lock_stax(0).is_done() && second.try_lock_stax(0).refused_as(EVLSIM_REFUSAL_LIMIT), "one at most");
+  require(first.unlock_stax(0).is_done() && first.trace() == second.trace(), "one trace");
+  evlsim::caller gone = std::move(first);
+  try {
+    first.try_lock_stax(0);
+  } catch (const evlsim::refused &refused) {
+    require(refused.status == EVLSIM_NULL, "no caller is left");
+    return;
+  }
+  require(false, "a caller that is gone was called");
+}
+
 }  // namespace
 
 int main() {
   try_third_event();
   try_texts();
+  try_callers();
   evlsim::kernel kernel = chained();
   require(evlsim_see_rank(kernel.get(), 1) == 590, "thread 3's rank");
   evlsim::answer ticked = kernel.call(0, evlsim_call_tick(100));

@@ -109,6 +109,32 @@ def test_all_values():
     assert kernel.now(1).value == 2**64 - 1
 
 
+def test_callers_call_as_threads_do():
+    board = {"threads": 3, "sems": [1], "flags": [0], "xbufs": [(8, 8)], "limit": 12}
+    calls = [
+        (1, "attach", {"policy": "fifo 10", "stage": "oob"}),
+        (2, "attach", {"policy": "fifo 20", "stage": "oob"}),
+        (0, "request", {"line": 5, "stage": "oob", "callback": 1}),
+        (0, "arrive", {"line": 5}),
+        (1, "try_get", {"sem": 0}),
+        (2, "begin_get", {"sem": 0, "until": 40}),
+        (0, "tick", {"delta": 40}),
+        (2, "finish", {}),
+        (1, "write", {"xbuf": 0, "way": "in", "bytes": b"abc"}),
+        (2, "read", {"xbuf": 0, "way": "in", "len": 2}),
+        (1, "pick", {}),
+        (1, "try_take", {"flags": 3, "kind": "any"}),
+        (0, "now", {}),
+    ]
+    kernel = evlsim.Kernel(**board)
+    with evlsim.Machine(**board) as machine:
+        for who, word, keys in calls:
+            told, wanted = machine.callers[who].call(word, **keys), kernel.call(word, who, **keys)
+            assert (told.kind, told.value) == (wanted.kind, wanted.value), word
+        assert machine.trace() == kernel.trace() and machine.history() == kernel.history()
+        assert machine.callers[0].now().refusal == "HistoryFull"
+
+
 def test_entries_of_a_trace():
     trace = evlsim.play(BOARD + PUT + PUT, limit=1)
     assert [(it.number, it.word, it.answer.refusal) for it in trace.entries] == [

@@ -8,6 +8,8 @@ pub mod Draws
 pub mod Forms
 pub mod Given
 pub mod Handles
+pub mod HostCalls
+pub mod HostOwning
 pub mod Opens
 pub mod Orders
 pub mod Owning

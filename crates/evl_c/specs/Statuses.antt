@@ -26,6 +26,17 @@ of_look = 0 ∷ 6 ∷ 7 ∷ []
 abbrev pub of_trace : List ℕ
 of_trace = 0 ∷ 4 ∷ 6 ∷ []
 
+-- of `evlsim_c_machine_open`: done, bad board, no memory, bad plan, another number of handles than of threads
+abbrev pub of_machine : List ℕ
+of_machine = 0 ∷ 2 ∷ 4 ∷ 5 ∷ 7 ∷ []
+
+-- of what locks and unlocks by a caller: done, no caller; and of `evlsim_c_caller_trace`: also no memory, and that the core is taken
+abbrev pub of_caller : List ℕ
+of_caller = 0 ∷ 6 ∷ []
+
+abbrev pub of_caller_trace : List ℕ
+of_caller_trace = 0 ∷ 4 ∷ 6 ∷ 11 ∷ []
+
 -- of `evlsim_c_scenario`: done, bad board or limit, no memory, no kernel, too long
 abbrev pub of_scenario : List ℕ
 of_scenario = 0 ∷ 2 ∷ 4 ∷ 6 ∷ 8 ∷ []

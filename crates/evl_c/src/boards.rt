@@ -81,8 +81,8 @@ pub fn is_board(form: &BoardForm<'_>) -> bool
         && have_kinds(form.mutexes)
 }
 
-// A list of a board.
-fn read_list<T: Copy + Default + Drop, const N: usize>(items: &[T]) -> ArrayVec<T, N>
+/// A list of a board.
+pub fn read_list<T: Copy + Default + Drop, const N: usize>(items: &[T]) -> ArrayVec<T, N>
     requires { length items.now ≤ N }
     ensures { result.items ≡ items.now }
 {

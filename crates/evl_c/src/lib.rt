@@ -15,6 +15,11 @@ mod forms;
 mod given;
 mod handles;
 mod held;
+mod host_calls;
+mod host_handles;
+mod host_slots;
+mod host_staxes;
+mod machines;
 mod opens;
 mod order_words;
 mod orders;
@@ -38,6 +43,13 @@ pub use checks::{Checked, evlsim_c_check, evlsim_c_check_over};
 pub use draws::{Drawn, evlsim_c_draw, evlsim_c_draw_over};
 pub use forms::{PlanForm, RowForm};
 pub use handles::KernelHandle;
+pub use host_calls::{
+    evlsim_c_begin_lock_mutex, evlsim_c_finish_lock_mutex, evlsim_c_try_call,
+    evlsim_c_try_lock_mutex, evlsim_c_try_unlock_mutex, evlsim_c_unlock_mutex_fast,
+};
+pub use host_handles::HostHandle;
+pub use host_staxes::{evlsim_c_caller_trace, evlsim_c_try_lock_stax, evlsim_c_unlock_stax};
+pub use machines::{evlsim_c_caller_close, evlsim_c_machine_open};
 pub use opens::{evlsim_c_close, evlsim_c_open};
 pub use orders::{Ordered, evlsim_c_orders};
 pub use plays::{Played, evlsim_c_play, evlsim_c_play_over};

@@ -30,8 +30,8 @@ macro_rules! text {
     };
 }
 
-// Puts a text, from a byte on, into a buffer, and tells its length.
-fn tell_text(text: &str, start: usize, out: &mut [u8], length: &mut usize)
+/// Puts a text, from a byte on, into a buffer, and tells its length.
+pub fn tell_text(text: &str, start: usize, out: &mut [u8], length: &mut usize)
     ensures { TellsText text.now start out.old out.new length.new }
 {
     put_window(text.as_bytes(), start, out);

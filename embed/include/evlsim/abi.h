@@ -39,7 +39,8 @@ enum evlsim_status_number {
   EVLSIM_STATUS_BAD_NUMBER,
   EVLSIM_STATUS_TOO_LONG,
   EVLSIM_STATUS_WRONG_ABI,
-  EVLSIM_STATUS_BAD_ASK
+  EVLSIM_STATUS_BAD_ASK,
+  EVLSIM_STATUS_CORE_BUSY
 };
 static const evlsim_status EVLSIM_OK = {EVLSIM_STATUS_OK};
 static const evlsim_status EVLSIM_BAD_TEXT = {EVLSIM_STATUS_BAD_TEXT};   /* not UTF-8, not TOML, or above 1 MiB */
@@ -52,6 +53,7 @@ static const evlsim_status EVLSIM_BAD_NUMBER = {EVLSIM_STATUS_BAD_NUMBER}; /* a 
 static const evlsim_status EVLSIM_TOO_LONG = {EVLSIM_STATUS_TOO_LONG};   /* a scenario above 1 MiB; too many orders */
 static const evlsim_status EVLSIM_WRONG_ABI = {EVLSIM_STATUS_WRONG_ABI}; /* header and library differ */
 static const evlsim_status EVLSIM_BAD_ASK = {EVLSIM_STATUS_BAD_ASK};     /* [ask] cannot be read or answered */
+static const evlsim_status EVLSIM_CORE_BUSY = {EVLSIM_STATUS_CORE_BUSY}; /* another caller has the machine's core */
 
 /* The kind of an answer. Use the number in a switch only; evlsim_is_done, evlsim_has and so on compare. */
 typedef struct evlsim_kind {
@@ -83,15 +85,17 @@ static const evlsim_kind EVLSIM_NEXT = {EVLSIM_KIND_NEXT};     /* `thread` owns 
 static const evlsim_kind EVLSIM_TIMED_OUT = {EVLSIM_KIND_TIMED_OUT};
 static const evlsim_kind EVLSIM_NOT_CALLED = {EVLSIM_KIND_NOT_CALLED}; /* evlsim_why says why; all is as before */
 
-/* Why a kernel refused a call. The first two make no entry in the history. Compared by evlsim_refused_as. */
+/* Why a kernel refused a call, or a machine one of a caller's. The first three make no entry in the history. Compared
+   by evlsim_refused_as. */
 typedef struct evlsim_refusal {
   uint16_t number; /* an evlsim_refusal_number, 0 if the call was not refused */
 } evlsim_refusal;
 
 enum evlsim_refusal_number {
   EVLSIM_REFUSAL_NUMBER_NO_MEMORY = 1,
-  EVLSIM_REFUSAL_NUMBER_HISTORY_FULL = 2,
-  EVLSIM_REFUSAL_NUMBER_UNKNOWN = 4,
+  EVLSIM_REFUSAL_NUMBER_HISTORY_FULL,
+  EVLSIM_REFUSAL_NUMBER_CORE_BUSY, /* of a machine's callers alone, as the last two */
+  EVLSIM_REFUSAL_NUMBER_UNKNOWN,
   EVLSIM_REFUSAL_NUMBER_INVALID,
   EVLSIM_REFUSAL_NUMBER_AGAIN,
   EVLSIM_REFUSAL_NUMBER_BUSY,
@@ -100,10 +104,13 @@ enum evlsim_refusal_number {
   EVLSIM_REFUSAL_NUMBER_LIMIT,
   EVLSIM_REFUSAL_NUMBER_RANGE,
   EVLSIM_REFUSAL_NUMBER_TOO_BIG,
-  EVLSIM_REFUSAL_NUMBER_WRONG_STAGE
+  EVLSIM_REFUSAL_NUMBER_WRONG_STAGE,
+  EVLSIM_REFUSAL_NUMBER_HOLDS_STAX,
+  EVLSIM_REFUSAL_NUMBER_RACED
 };
 static const evlsim_refusal EVLSIM_REFUSAL_NO_MEMORY = {EVLSIM_REFUSAL_NUMBER_NO_MEMORY};
 static const evlsim_refusal EVLSIM_REFUSAL_HISTORY_FULL = {EVLSIM_REFUSAL_NUMBER_HISTORY_FULL};
+static const evlsim_refusal EVLSIM_REFUSAL_CORE_BUSY = {EVLSIM_REFUSAL_NUMBER_CORE_BUSY};
 static const evlsim_refusal EVLSIM_REFUSAL_UNKNOWN = {EVLSIM_REFUSAL_NUMBER_UNKNOWN};
 static const evlsim_refusal EVLSIM_REFUSAL_INVALID = {EVLSIM_REFUSAL_NUMBER_INVALID};
 static const evlsim_refusal EVLSIM_REFUSAL_AGAIN = {EVLSIM_REFUSAL_NUMBER_AGAIN};
@@ -114,6 +121,8 @@ static const evlsim_refusal EVLSIM_REFUSAL_LIMIT = {EVLSIM_REFUSAL_NUMBER_LIMIT}
 static const evlsim_refusal EVLSIM_REFUSAL_RANGE = {EVLSIM_REFUSAL_NUMBER_RANGE};
 static const evlsim_refusal EVLSIM_REFUSAL_TOO_BIG = {EVLSIM_REFUSAL_NUMBER_TOO_BIG};
 static const evlsim_refusal EVLSIM_REFUSAL_WRONG_STAGE = {EVLSIM_REFUSAL_NUMBER_WRONG_STAGE};
+static const evlsim_refusal EVLSIM_REFUSAL_HOLDS_STAX = {EVLSIM_REFUSAL_NUMBER_HOLDS_STAX};
+static const evlsim_refusal EVLSIM_REFUSAL_RACED = {EVLSIM_REFUSAL_NUMBER_RACED};
 
 /* The greatest limit of a history. */
 #define EVLSIM_MAX_LIMIT 1000000u
@@ -202,6 +211,13 @@ typedef struct evlsim_kernel {
   void *at;
 } evlsim_kernel;
 #define EVLSIM_NO_KERNEL {false, NULL}
+
+/* A caller of a machine, or none. Its fields belong to the library. */
+typedef struct evlsim_caller {
+  bool is_open;
+  void *at;
+} evlsim_caller;
+#define EVLSIM_NO_CALLER {false, NULL}
 
 /* Kinds of mutexes. */
 #define EVLSIM_NORMAL 0u
@@ -330,6 +346,23 @@ uint32_t evlsim_c_apply_bare(evlsim_kernel *kernel, uint16_t caller, uint8_t kin
                              evlsim_answer *answer);
 uint32_t evlsim_c_event(evlsim_kernel *kernel, size_t index, evlsim_event *event);
 uint32_t evlsim_c_ask(evlsim_kernel *kernel, const evlsim_question *question, evlsim_reading *reading);
+/* Reads each of the callers: an open one is freed first. */
+uint32_t evlsim_c_machine_open(const evlsim_board *board, const uint16_t *staxes, size_t stax_count,
+                               const evlsim_plan *plans, size_t plan_count, uint32_t limit, evlsim_caller *callers,
+                               size_t count);
+void evlsim_c_caller_close(evlsim_caller *caller);
+uint32_t evlsim_c_try_call(evlsim_caller *caller, const evlsim_call *call, const uint8_t *bytes, size_t length,
+                           uint8_t *out, size_t out_length, evlsim_answer *answer);
+/* What of these cannot be called is told in *answer too, as evlsim_do tells it. */
+uint32_t evlsim_c_try_lock_mutex(evlsim_caller *caller, uint16_t mutex, evlsim_answer *answer);
+uint32_t evlsim_c_begin_lock_mutex(evlsim_caller *caller, uint16_t mutex, bool timed, uint64_t until,
+                                   evlsim_answer *answer);
+uint32_t evlsim_c_finish_lock_mutex(evlsim_caller *caller, evlsim_answer *answer);
+uint32_t evlsim_c_unlock_mutex_fast(evlsim_caller *caller, uint16_t mutex, evlsim_answer *answer);
+uint32_t evlsim_c_try_unlock_mutex(evlsim_caller *caller, uint16_t mutex, evlsim_answer *answer);
+uint32_t evlsim_c_try_lock_stax(evlsim_caller *caller, uint16_t stax, evlsim_answer *answer);
+uint32_t evlsim_c_unlock_stax(evlsim_caller *caller, uint16_t stax, evlsim_answer *answer);
+uint32_t evlsim_c_caller_trace(evlsim_caller *caller, size_t start, uint8_t *out, size_t out_length, size_t *length);
 uint32_t evlsim_c_trace(evlsim_kernel *kernel, size_t start, uint8_t *out, size_t out_length, size_t *length);
 uint32_t evlsim_c_scenario(evlsim_kernel *kernel, size_t start, uint8_t *out, size_t out_length, size_t *length);
 uint32_t evlsim_c_call_text(uint8_t kind, size_t start, uint8_t *out, size_t out_length, size_t *length);
@@ -358,6 +391,7 @@ static inline const char *evlsim_status_text(evlsim_status status) {
     case EVLSIM_STATUS_TOO_LONG: return "too long";
     case EVLSIM_STATUS_WRONG_ABI: return "header and library don't fit";
     case EVLSIM_STATUS_BAD_ASK: return "what is asked cannot be";
+    case EVLSIM_STATUS_CORE_BUSY: return "the core is busy";
     default: return "no status";
   }
 }

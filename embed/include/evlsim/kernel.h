@@ -27,6 +27,28 @@ static const evlsim_plan evlsim_program_bank[EVLSIM_PROGRAM_BANK] = {
     {1, 0, 0, EVLSIM_NO_ROWS},
 };
 
+/* The board with no null pointer in it. EVLSIM_NULL if it is null, or a list with a count that is not 0;
+   EVLSIM_WRONG_ABI if header and library differ. */
+static inline evlsim_status evlsim_whole_board(evlsim_board *whole, const evlsim_board *board) {
+  static const uint32_t no_word = 0;
+  static const evlsim_rings no_rings = {1, 1};
+  static const evlsim_mutex no_mutex = {0, 0};
+  static const uint8_t no_group = 1;
+  if (board == NULL || (board->sems == NULL && board->sem_count != 0) ||
+      (board->flags == NULL && board->flag_count != 0) || (board->xbufs == NULL && board->xbuf_count != 0) ||
+      (board->mutexes == NULL && board->mutex_count != 0) || (board->groups == NULL && board->group_count != 0)) {
+    return EVLSIM_NULL;
+  }
+  if (evlsim_abi() != EVLSIM_ABI) return EVLSIM_WRONG_ABI;
+  *whole = *board;
+  if (whole->sems == NULL) whole->sems = &no_word;
+  if (whole->flags == NULL) whole->flags = &no_word;
+  if (whole->xbufs == NULL) whole->xbufs = &no_rings;
+  if (whole->mutexes == NULL) whole->mutexes = &no_mutex;
+  if (whole->groups == NULL) whole->groups = &no_group;
+  return EVLSIM_OK;
+}
+
 /*
  * Makes a kernel of this board over the callbacks of these plans, with an empty history that may have `limit` entries,
  * 1 to 1,000,000. *kernel is not read: close an earlier kernel before.
@@ -43,26 +65,14 @@ static const evlsim_plan evlsim_program_bank[EVLSIM_PROGRAM_BANK] = {
 EVLSIM_CHECKED static inline evlsim_status evlsim_open(evlsim_kernel *kernel, const evlsim_board *board,
                                                        const evlsim_plan *plans, size_t plan_count, uint32_t limit) {
   static const evlsim_plan no_plan = {1, 0, 0, EVLSIM_NO_ROWS};
-  static const uint32_t no_word = 0;
-  static const evlsim_rings no_rings = {1, 1};
-  static const evlsim_mutex no_mutex = {0, 0};
-  static const uint8_t no_group = 1;
   evlsim_board whole;
+  evlsim_status status;
   if (kernel == NULL) return EVLSIM_NULL;
   kernel->is_open = false;
   kernel->at = NULL;
-  if (board == NULL || (plans == NULL && plan_count != 0) || (board->sems == NULL && board->sem_count != 0) ||
-      (board->flags == NULL && board->flag_count != 0) || (board->xbufs == NULL && board->xbuf_count != 0) ||
-      (board->mutexes == NULL && board->mutex_count != 0) || (board->groups == NULL && board->group_count != 0)) {
-    return EVLSIM_NULL;
-  }
-  if (evlsim_abi() != EVLSIM_ABI) return EVLSIM_WRONG_ABI;
-  whole = *board;
-  if (whole.sems == NULL) whole.sems = &no_word;
-  if (whole.flags == NULL) whole.flags = &no_word;
-  if (whole.xbufs == NULL) whole.xbufs = &no_rings;
-  if (whole.mutexes == NULL) whole.mutexes = &no_mutex;
-  if (whole.groups == NULL) whole.groups = &no_group;
+  if (plans == NULL && plan_count != 0) return EVLSIM_NULL;
+  status = evlsim_whole_board(&whole, board);
+  if (!evlsim_ok(status)) return status;
   return evlsim_status_of(evlsim_c_open(&whole, plans == NULL ? &no_plan : plans, plan_count, limit, kernel));
 }
 

@@ -481,3 +481,210 @@ class Words(Calls):
             raise wrong_type(BadStep, f"finish: keep is {keep!r}: True or False is wanted")
         call.choice = keep
         return self._make("finish", who, call)
+
+
+class OwnWords:
+    """The same of a caller, which calls for its own thread."""
+
+    _calls: Words
+    thread: int
+
+    def request(
+        self, *, line: int = MISSING, stage: Stage = MISSING, callback: int = MISSING, tag: int = 0, **wrong: NoReturn
+    ) -> Answer:
+        return self._calls.request(self.thread, line=line, stage=stage, callback=callback, tag=tag, **wrong)
+
+    request.__doc__ = Words.request.__doc__
+
+    def free(self, *, line: int = MISSING, stage: Stage = MISSING, **wrong: NoReturn) -> Answer:
+        return self._calls.free(self.thread, line=line, stage=stage, **wrong)
+
+    free.__doc__ = Words.free.__doc__
+
+    def arrive(self, *, line: int = MISSING, **wrong: NoReturn) -> Answer:
+        return self._calls.arrive(self.thread, line=line, **wrong)
+
+    arrive.__doc__ = Words.arrive.__doc__
+
+    def post(self, *, stage: Stage = MISSING, line: int = MISSING, **wrong: NoReturn) -> Answer:
+        return self._calls.post(self.thread, stage=stage, line=line, **wrong)
+
+    post.__doc__ = Words.post.__doc__
+
+    def stall(self, *, stage: Stage = MISSING, **wrong: NoReturn) -> Answer:
+        return self._calls.stall(self.thread, stage=stage, **wrong)
+
+    stall.__doc__ = Words.stall.__doc__
+
+    def unstall(self, *, stage: Stage = MISSING, **wrong: NoReturn) -> Answer:
+        return self._calls.unstall(self.thread, stage=stage, **wrong)
+
+    unstall.__doc__ = Words.unstall.__doc__
+
+    def tick(self, *, delta: int = MISSING, **wrong: NoReturn) -> Answer:
+        return self._calls.tick(self.thread, delta=delta, **wrong)
+
+    tick.__doc__ = Words.tick.__doc__
+
+    def now(self, **wrong: NoReturn) -> Answer:
+        return self._calls.now(self.thread, **wrong)
+
+    now.__doc__ = Words.now.__doc__
+
+    def new_timer(self, *, callback: int = MISSING, tag: int = 0, **wrong: NoReturn) -> Answer:
+        return self._calls.new_timer(self.thread, callback=callback, tag=tag, **wrong)
+
+    new_timer.__doc__ = Words.new_timer.__doc__
+
+    def start_timer(
+        self, *, timer: int = MISSING, date: int = MISSING, interval: int = MISSING, **wrong: NoReturn
+    ) -> Answer:
+        return self._calls.start_timer(self.thread, timer=timer, date=date, interval=interval, **wrong)
+
+    start_timer.__doc__ = Words.start_timer.__doc__
+
+    def stop_timer(self, *, timer: int = MISSING, **wrong: NoReturn) -> Answer:
+        return self._calls.stop_timer(self.thread, timer=timer, **wrong)
+
+    stop_timer.__doc__ = Words.stop_timer.__doc__
+
+    def drop_timer(self, *, timer: int = MISSING, **wrong: NoReturn) -> Answer:
+        return self._calls.drop_timer(self.thread, timer=timer, **wrong)
+
+    drop_timer.__doc__ = Words.drop_timer.__doc__
+
+    def overruns(self, *, timer: int = MISSING, **wrong: NoReturn) -> Answer:
+        return self._calls.overruns(self.thread, timer=timer, **wrong)
+
+    overruns.__doc__ = Words.overruns.__doc__
+
+    def attach(self, *, policy: str = MISSING, stage: Stage = MISSING, **wrong: NoReturn) -> Answer:
+        return self._calls.attach(self.thread, policy=policy, stage=stage, **wrong)
+
+    attach.__doc__ = Words.attach.__doc__
+
+    def detach(self, **wrong: NoReturn) -> Answer:
+        return self._calls.detach(self.thread, **wrong)
+
+    detach.__doc__ = Words.detach.__doc__
+
+    def set_policy(self, *, policy: str = MISSING, **wrong: NoReturn) -> Answer:
+        return self._calls.set_policy(self.thread, policy=policy, **wrong)
+
+    set_policy.__doc__ = Words.set_policy.__doc__
+
+    def set_stage(self, *, stage: Stage = MISSING, **wrong: NoReturn) -> Answer:
+        return self._calls.set_stage(self.thread, stage=stage, **wrong)
+
+    set_stage.__doc__ = Words.set_stage.__doc__
+
+    def pick(self, **wrong: NoReturn) -> Answer:
+        return self._calls.pick(self.thread, **wrong)
+
+    pick.__doc__ = Words.pick.__doc__
+
+    def rank_of(self, *, thread: int = MISSING, **wrong: NoReturn) -> Answer:
+        return self._calls.rank_of(self.thread, thread=thread, **wrong)
+
+    rank_of.__doc__ = Words.rank_of.__doc__
+
+    def try_get(self, *, sem: int = MISSING, **wrong: NoReturn) -> Answer:
+        return self._calls.try_get(self.thread, sem=sem, **wrong)
+
+    try_get.__doc__ = Words.try_get.__doc__
+
+    def put(self, *, sem: int = MISSING, **wrong: NoReturn) -> Answer:
+        return self._calls.put(self.thread, sem=sem, **wrong)
+
+    put.__doc__ = Words.put.__doc__
+
+    def peek(self, *, sem: int = MISSING, **wrong: NoReturn) -> Answer:
+        return self._calls.peek(self.thread, sem=sem, **wrong)
+
+    peek.__doc__ = Words.peek.__doc__
+
+    def begin_get(self, *, sem: int = MISSING, until: Until = None, **wrong: NoReturn) -> Answer:
+        return self._calls.begin_get(self.thread, sem=sem, until=until, **wrong)
+
+    begin_get.__doc__ = Words.begin_get.__doc__
+
+    def try_take(self, *, flags: int = MISSING, kind: str = MISSING, **wrong: NoReturn) -> Answer:
+        return self._calls.try_take(self.thread, flags=flags, kind=kind, **wrong)
+
+    try_take.__doc__ = Words.try_take.__doc__
+
+    def post_flags(self, *, flags: int = MISSING, bits: int = MISSING, **wrong: NoReturn) -> Answer:
+        return self._calls.post_flags(self.thread, flags=flags, bits=bits, **wrong)
+
+    post_flags.__doc__ = Words.post_flags.__doc__
+
+    def peek_flags(self, *, flags: int = MISSING, **wrong: NoReturn) -> Answer:
+        return self._calls.peek_flags(self.thread, flags=flags, **wrong)
+
+    peek_flags.__doc__ = Words.peek_flags.__doc__
+
+    def begin_take(
+        self, *, flags: int = MISSING, kind: str = MISSING, until: Until = None, **wrong: NoReturn
+    ) -> Answer:
+        return self._calls.begin_take(self.thread, flags=flags, kind=kind, until=until, **wrong)
+
+    begin_take.__doc__ = Words.begin_take.__doc__
+
+    def write(
+        self, *, xbuf: int = MISSING, way: Way = MISSING, bytes: Bytes = MISSING, **wrong: NoReturn
+    ) -> Answer:
+        return self._calls.write(self.thread, xbuf=xbuf, way=way, bytes=bytes, **wrong)
+
+    write.__doc__ = Words.write.__doc__
+
+    def read(self, *, xbuf: int = MISSING, way: Way = MISSING, len: int = MISSING, **wrong: NoReturn) -> Answer:
+        return self._calls.read(self.thread, xbuf=xbuf, way=way, len=len, **wrong)
+
+    read.__doc__ = Words.read.__doc__
+
+    def room(self, *, xbuf: int = MISSING, way: Way = MISSING, **wrong: NoReturn) -> Answer:
+        return self._calls.room(self.thread, xbuf=xbuf, way=way, **wrong)
+
+    room.__doc__ = Words.room.__doc__
+
+    def begin_write(
+        self,
+        *,
+        xbuf: int = MISSING,
+        way: Way = MISSING,
+        bytes: Bytes = MISSING,
+        until: Until = None,
+        **wrong: NoReturn,
+    ) -> Answer:
+        return self._calls.begin_write(self.thread, xbuf=xbuf, way=way, bytes=bytes, until=until, **wrong)
+
+    begin_write.__doc__ = Words.begin_write.__doc__
+
+    def begin_read(
+        self, *, xbuf: int = MISSING, way: Way = MISSING, len: int = MISSING, until: Until = None, **wrong: NoReturn
+    ) -> Answer:
+        return self._calls.begin_read(self.thread, xbuf=xbuf, way=way, len=len, until=until, **wrong)
+
+    begin_read.__doc__ = Words.begin_read.__doc__
+
+    def claim(
+        self, *, mutex: int = MISSING, owner: int = MISSING, until: Until = None, **wrong: NoReturn
+    ) -> Answer:
+        return self._calls.claim(self.thread, mutex=mutex, owner=owner, until=until, **wrong)
+
+    claim.__doc__ = Words.claim.__doc__
+
+    def release(self, *, mutex: int = MISSING, **wrong: NoReturn) -> Answer:
+        return self._calls.release(self.thread, mutex=mutex, **wrong)
+
+    release.__doc__ = Words.release.__doc__
+
+    def raise_(self, *, mutex: int = MISSING, **wrong: NoReturn) -> Answer:
+        return self._calls.raise_(self.thread, mutex=mutex, **wrong)
+
+    raise_.__doc__ = Words.raise_.__doc__
+
+    def finish(self, *, keep: bool = False, **wrong: NoReturn) -> Answer:
+        return self._calls.finish(self.thread, keep=keep, **wrong)
+
+    finish.__doc__ = Words.finish.__doc__

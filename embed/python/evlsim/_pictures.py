@@ -32,7 +32,7 @@ class Picture(str):
 
 def draw(what: Any, form: Form = "svg", page: int = 1, bank: Optional[Iterable[Plan]] = None) -> Picture:
     """A picture of a scenario, played over the bank, or of a trace, as a text of either, or of what has one: a played
-    text, a kernel, an outcome (each over its own bank), a machine's callers. The form is "svg", "lanes" (characters),
+    text, a kernel, a machine, an outcome (each over its own bank), what callers did. The form is "svg", "lanes" (characters),
     "csv" or "perfetto" (docs/use/LAB.md); more than 2,000 marks make more than one page of SVG. Raises BadText for
     other texts, BadQuestion where there is no such page, BadPlan and MemoryError.
 

@@ -1,5 +1,5 @@
-"""For pytest: a fixture that makes kernels and shows their traces and pictures where a test fails, and scenarios as
-tests.
+"""For pytest: fixtures that make kernels and machines and show their traces and pictures where a test fails, and
+scenarios as tests.
 
     def test_put(evlsim_kernel):
         kernel = evlsim_kernel(threads=2, sems=[0])
@@ -10,13 +10,14 @@ passes if the scenario has just this trace."""
 
 import difflib
 from pathlib import Path
-from typing import Any, Callable, Generator, Iterator, List, Optional
+from typing import Any, Callable, Generator, Iterator, List, Optional, Tuple, Union
 
 import pytest
 
-from . import Kernel, Refused, draw, play, version
+from . import Kernel, Machine, Refused, draw, play, version
 
-_KERNELS = pytest.StashKey[List[Kernel]]() if hasattr(pytest, "StashKey") else None
+Made = Union[Kernel, Machine]
+_MADE = pytest.StashKey[List[List[Made]]]() if hasattr(pytest, "StashKey") else None
 
 
 def pytest_addoption(parser: pytest.Parser) -> None:
@@ -27,42 +28,55 @@ def pytest_report_header(config: pytest.Config) -> str:
     return f"evlsim: {version()}"
 
 
-@pytest.fixture
-def evlsim_kernel(request: pytest.FixtureRequest) -> Iterator[Callable[..., Kernel]]:
-    """Makes kernels, as evlsim.Kernel does. A failing test's report has their traces, scenarios and pictures."""
-    made: List[Kernel] = []
-    if _KERNELS is not None:
-        request.node.stash[_KERNELS] = made
+def _making(request: pytest.FixtureRequest, kind: Callable[..., Any]) -> Iterator[Callable[..., Any]]:
+    """Makes things of a kind for a test, notes them for its report, and closes them at its end."""
+    made: List[Made] = []
+    if _MADE is not None:
+        request.node.stash.setdefault(_MADE, []).append(made)
 
-    def make(**board: Any) -> Kernel:
-        made.append(Kernel(**board))
+    def make(**board: Any) -> Any:
+        made.append(kind(**board))
         return made[-1]
 
     yield make
-    for kernel in made:
-        kernel.close()
+    for it in made:
+        it.close()
+
+
+@pytest.fixture
+def evlsim_kernel(request: pytest.FixtureRequest) -> Iterator[Callable[..., Kernel]]:
+    """Makes kernels, as evlsim.Kernel does. A failing test's report has their traces, scenarios and pictures."""
+    yield from _making(request, Kernel)
+
+
+@pytest.fixture
+def evlsim_machine(request: pytest.FixtureRequest) -> Iterator[Callable[..., Machine]]:
+    """Makes machines, as evlsim.Machine does. A failing test's report has their traces and pictures."""
+    yield from _making(request, Machine)
 
 
 @pytest.hookimpl(hookwrapper=True)  # type: ignore[misc]
 def pytest_runtest_makereport(item: pytest.Item, call: Any) -> Generator[None, Any, None]:
     outcome = yield
     report = outcome.get_result()
-    if report.when != "call" or not report.failed or _KERNELS is None:
+    if report.when != "call" or not report.failed or _MADE is None:
         return
-    made: List[Kernel] = item.stash.get(_KERNELS, [])
-    for number, kernel in enumerate(made):
-        if not kernel.closed:
-            report.sections.append((f"evlsim kernel {number}: trace", kernel.trace()))
-            report.sections.append((f"evlsim kernel {number}: scenario", _scenario(kernel)))
-            report.sections += [(f"evlsim kernel {number}: picture", it) for it in _picture(kernel)]
+    for made in item.stash.get(_MADE, []):
+        for number, it in enumerate(made):
+            if not it.closed:
+                name = f"evlsim {'kernel' if isinstance(it, Kernel) else 'machine'} {number}"
+                report.sections += [(f"{name}: {what}", text) for what, text in _parts(it)]
 
 
-def _picture(kernel: Kernel) -> List[str]:
-    """The picture in characters, where there is memory for it."""
+def _parts(made: Made) -> Iterator[Tuple[str, str]]:
+    """What a report has of a kernel or a machine."""
     try:
-        return [draw(kernel, "lanes")]
-    except (Refused, MemoryError):
-        return []
+        yield "trace", made.trace()
+        if isinstance(made, Kernel):
+            yield "scenario", _scenario(made)
+        yield "picture", draw(made, "lanes")
+    except (Refused, MemoryError):  # another caller has the core, or there is no memory for a picture
+        return
 
 
 def _scenario(kernel: Kernel) -> str:

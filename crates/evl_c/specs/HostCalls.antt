@@ -1,0 +1,78 @@
+-- What handles of a machine's callers hold, and what a call of C's did.
+use Rattle.std.specs.Prelude.{◌≡◌, ◌⊎◌, ℕ, Bool, ◌&&◌, nat_le, List, length, map, replicate, Option, Some, None, Result, Ok, Err, string_bytes}
+use Rattle.std.specs.List.{list_all}
+use Rattle.evl_base.specs.declared.board.Board.{Board}
+use Rattle.evl_base.specs.declared.refusal.Refusal.{Refusal}
+use Rattle.evl_base.specs.declared.refusal.Refusal.TheVariants.{CoreBusy}
+use Rattle.evl_base.specs.declared.reply.Reply.{Reply}
+use Rattle.evl_base.specs.declared.reply.Reply.TheVariants.{Done}
+use Rattle.evl_kernel.specs.state.Openings.{can_open}
+use Rattle.evl_kernel.specs.state.States.{Handler}
+use Rattle.evl_machine.specs.callers.Handles.{MachineState}
+use Rattle.evl_plans.specs.declared.planned.Planned.{Planned}
+use Rattle.evl_hosts.specs.Hosts.{HostState, Steps, TellsTrace, new_hosts}
+use Rattle.evl_c.specs.Answers.{answer_form, bytes_of}
+use Rattle.evl_c.specs.Boards.{board_of, is_board}
+use Rattle.evl_c.specs.Opens.{IsFresh}
+use Rattle.evl_c.specs.Texts.{TellsText}
+use Rattle.evl_c.specs.Windows.{window}
+use Rattle.evl_c.specs.declared.answers.AnswerForm.{AnswerForm}
+use Rattle.evl_c.specs.declared.boards.BoardForm.{BoardForm}
+use Rattle.evl_c.specs.declared.host_handles.HostHandle.{HostHandle}
+
+-- the caller that is there, if one is
+abbrev pub host_held : HostHandle → Option HostState
+host_held handle = handle.slot.held
+
+-- the board of a form with staxes of these limits, whether it is one, and whether a machine may have it, so many callbacks and this limit
+abbrev pub machine_board : BoardForm → List ℕ → Board
+machine_board form staxes = record (board_of form) { staxes = record { items = staxes } }
+
+abbrev pub is_whole_board : BoardForm → List ℕ → Bool
+is_whole_board form staxes = is_board form && nat_le (length staxes) 16
+
+abbrev pub can_be_opened : BoardForm → List ℕ → ℕ → ℕ → Bool
+can_be_opened form staxes count limit = is_whole_board form staxes && can_open (machine_board form staxes) count limit
+
+-- each handle holds a caller of a machine that was just made of these
+abbrev pub AreFresh : Board → List Handler → ℕ → List HostHandle → Type 0
+AreFresh board bank limit handles = (machine : MachineState Planned) × IsFresh board bank limit machine.first × (map host_held handles ≡ map (λ h. Some h) (new_hosts machine board.threads))
+
+-- no handle holds one
+abbrev pub are_free : List HostHandle → Type 0
+are_free handles = map host_held handles ≡ replicate (length handles) None
+
+-- A caller was there, and is: it did this, and C was told of the answer.
+abbrev pub Calls : (Result Reply Refusal → HostState → HostState → Type 0) → Option HostState → Option HostState → AnswerForm → Type 0
+Calls does (Some old) (Some new) answer = (r : Result Reply Refusal) × does r old new × (answer ≡ answer_form r 0 0)
+Calls does _ _ answer = ⊥
+
+-- The same of a call of the kernel, whose bytes stand in the buffer.
+abbrev pub CallsFor : (Result Reply Refusal → HostState → HostState → Type 0) → Option HostState → Option HostState → List ℕ → List ℕ → AnswerForm → Type 0
+CallsFor does (Some old) (Some new) buffer told answer = (r : Result Reply Refusal) × does r old new × (answer ≡ answer_form r 0 0) × (told ≡ window (bytes_of r) 0 buffer)
+CallsFor does _ _ buffer told answer = ⊥
+
+-- what is told of a stax that was left, after which others want in
+abbrev pub left_form : Result Bool Refusal → AnswerForm
+left_form (Ok wanted) = record (answer_form (Ok Done) 0 0) { more = wanted }
+left_form (Err refusal) = answer_form (Err refusal) 0 0
+
+abbrev pub Leaves : (Result Bool Refusal → HostState → HostState → Type 0) → Option HostState → Option HostState → AnswerForm → Type 0
+Leaves does (Some old) (Some new) answer = (r : Result Bool Refusal) × does r old new × (answer ≡ left_form r)
+Leaves does _ _ answer = ⊥
+
+-- the status that tells why there is no trace
+abbrev pub trace_status : Refusal → ℕ
+trace_status CoreBusy = 11
+trace_status _ = 4
+
+-- Of a trace is told from the byte `start` on, or the status why there is none.
+abbrev pub TracesAs : Result (List ℕ) Refusal → ℕ → List ℕ → List ℕ → ℕ → ℕ → Type 0
+TracesAs (Ok text) start old new told status = (status ≡ 0) × TellsText text start old new told
+TracesAs (Err refusal) start old new told status = (status ≡ trace_status refusal) × (new ≡ old)
+
+-- A caller was there, and is: it took the kernel and gave it back, or found it taken.
+abbrev pub Traces : ℕ → ℕ → Option HostState → Option HostState → List ℕ → List ℕ → ℕ → Type 0
+Traces status start (Some old) (Some new) buffer told count =
+    (r : Result (List ℕ) Refusal) × Steps (λ a b. TellsTrace old.machine r a b) old.staxes old.mutexes old new × TracesAs r start buffer told count status
+Traces status start _ _ buffer told count = ⊥

@@ -1,0 +1,31 @@
+use Rattle.std.proofs.Common.{◌≡◌, inl, inr, refl, sym, ◌∙◌}
+use Rattle.evl_hosts.specs.Hosts.{kernel_trace}
+use Rattle.evl_hosts.proofs.HostLaws.{told}
+use Rattle.evl_scenario.specs.Traces.{history_trace}
+use Rattle.std.specs.Arc.{arc_value}
+use Rattle.evl_hosts.proofs.hosts.Host.trace.Goals as goal
+
+pub returns-in-Err : goal.returns-in-Err
+returns-in-Err c = rw (← c.self.view_is) (record {
+  traced = record {
+    before = c.in-Some.caller;
+    after = c.in-Err.caller;
+    had = sym c.take.ensures.value ∙ c.in-Some.is;
+    done = inl (refl, c.in-Err.ensures.taken);
+    has = refl;
+  };
+})
+
+pub returns : goal.returns
+returns c =
+    let same : history_trace c.board.result.now c.limit.result c.history.result.now c.plays.result.now ≡ kernel_trace (arc_value c.self.inside.shared) c.in-Ok.held.kernel =
+    rw (c.board.ensures, c.deref-2.ensures, c.limit.ensures, c.deref-3.ensures, c.history.ensures.entries, c.kernel.ensures, c.plays.ensures.plays, c.kernel-2.ensures) refl in
+    rw (← c.self.view_is) (record {
+      traced = record {
+        before = c.in-Some.caller;
+        after = c.give.result;
+        had = sym c.take.ensures.value ∙ c.in-Some.is;
+        done = inr (c.in-Ok.held, c.in-Ok.ensures.taken, c.give.ensures.given, told c.trace_history-text.result _ _ same c.trace_history-text.ensures.trace c.trace_history-text.ensures.refused);
+        has = refl;
+      };
+    })

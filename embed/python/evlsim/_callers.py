@@ -1,0 +1,229 @@
+"""Machines, whose callers call the kernel from threads at once."""
+
+import ctypes
+from types import TracebackType
+from typing import Any, Dict, Iterable, NoReturn, Optional, Tuple, Type
+
+from . import _library as lib
+from ._answers import Answer
+from ._calls import OwnWords, Words
+from ._errors import BadBoard, BadQuestion, BadStep, KernelClosed, Refused, items, near, whole, wrong_type
+from ._kernel import LISTS, MISSING, Plan, no_key, read_bank, read_board
+from ._pictures import shown
+from ._traces import Entry, read_trace
+
+_ref = ctypes.byref
+_size = ctypes.c_size_t
+
+
+class _Calls(Words):
+    """What makes the calls of a caller: each is of its own thread, and tells of no plays."""
+
+    def __init__(self, handle: lib.Handle) -> None:
+        self._handle = handle
+        self._at = _ref(handle)
+        self._strict = False
+
+    def _raise(self, status: int, other: Refused) -> NoReturn:
+        if status == 6:
+            raise KernelClosed("the caller is closed")
+        if status == 11:
+            raise Refused("another caller has the core")
+        super()._raise(status, other)
+
+    def _bare(self, kind: int, word: str, key: str, who: int, element: int) -> Answer:
+        if element is MISSING:
+            no_key(word, {}, **{key: element})
+        call = lib.CallForm(kind)
+        call.element = whole(BadStep, f"{word}: {key}", element, 0, 0xFFFF)
+        return self._make(word, who, call)
+
+    def _make(self, word: str, who: int, call: lib.CallForm, data: bytes = b"") -> Answer:
+        told = lib.Told()
+        out: Any = ctypes.create_string_buffer(256) if word in ("read", "finish") else b""
+        status = lib.LIBRARY.evlsim_c_try_call(
+            self._at, _ref(call), data, _size(len(data)), out, _size(len(out)), _ref(told)
+        )
+        if status:
+            self._raise(status, BadStep(f"{word} can't be made"))
+        return self._answer(told, out)
+
+
+class Caller(OwnWords):
+    """A caller of a machine, for the thread of this number. There is a method for each step word: the word's keys by
+    name (`raise_` for `raise`). None of them waits: while another caller has the core an answer is `CoreBusy`."""
+
+    def __init__(self, handle: lib.Handle, thread: int) -> None:
+        self._calls = _Calls(handle)
+        self.thread = thread
+
+    def call(self, word: str, **keys: Any) -> Answer:
+        """Makes the call that a word and its keys are: caller.call("put", sem=0) is caller.put(sem=0)."""
+        if word not in lib.WORDS:
+            raise BadStep(f"there is no step word {word!r}{near(word, lib.WORDS)}")
+        answer: Answer = getattr(self, word + "_" * (word == "raise"))(**keys)
+        return answer
+
+    def try_lock_mutex(self, mutex: int) -> Answer:
+        """Locks a mutex, or once more; `Busy` where another has it. The caller keeps the pass that it gets."""
+        return self._lock("try_lock_mutex", whole(BadStep, "try_lock_mutex: mutex", mutex, 0, 0xFFFF))
+
+    def begin_lock_mutex(self, mutex: int, until: Optional[int] = None) -> Answer:
+        """Begins to lock a mutex: done, or begun where another has it."""
+        place = whole(BadStep, "begin_lock_mutex: mutex", mutex, 0, 0xFFFF)
+        date = 0 if until is None else whole(BadStep, "begin_lock_mutex: until", until, 0, (1 << 64) - 1)
+        return self._lock("begin_lock_mutex", place, ctypes.c_bool(until is not None), ctypes.c_uint64(date))
+
+    def finish_lock_mutex(self) -> Answer:
+        """Ends the wait for a mutex: done, timed out, or `Again` while it goes on."""
+        return self._lock("finish_lock_mutex")
+
+    def unlock_mutex_fast(self, mutex: int) -> Answer:
+        """Unlocks a mutex by its word alone: `Busy` where others claim it, or it has a ceiling."""
+        return self._lock("unlock_mutex_fast", whole(BadStep, "unlock_mutex_fast: mutex", mutex, 0, 0xFFFF))
+
+    def try_unlock_mutex(self, mutex: int) -> Answer:
+        """Unlocks a mutex, which the kernel hands on where others claim it."""
+        return self._lock("try_unlock_mutex", whole(BadStep, "try_unlock_mutex: mutex", mutex, 0, 0xFFFF))
+
+    def try_lock_stax(self, stax: int) -> Answer:
+        """Enters a stax at the thread's stage: `Again` where the other stage is in, `Limit`, or `Raced`."""
+        return self._lock("try_lock_stax", whole(BadStep, "try_lock_stax: stax", stax, 0, 0xFFFF))
+
+    def unlock_stax(self, stax: int) -> Answer:
+        """Leaves a stax. The answer's value is whether the caller was the last one in it and others want in."""
+        told = lib.Told()
+        place = whole(BadStep, "unlock_stax: stax", stax, 0, 0xFFFF)
+        self._tell("unlock_stax", told, place)
+        return Answer("done", told.more) if told.kind == 1 else self._calls._answer(told, None)
+
+    def _tell(self, name: str, told: lib.Told, *numbers: Any) -> None:
+        if getattr(lib.LIBRARY, f"evlsim_c_{name}")(self._calls._at, *numbers, _ref(told)):
+            raise KernelClosed("the caller is closed")
+
+    def _lock(self, name: str, *numbers: Any) -> Answer:
+        told = lib.Told()
+        self._tell(name, told, *numbers)
+        return self._calls._answer(told, None)
+
+    def trace(self, start: int = 0) -> str:
+        """The trace of all calls of the machine's callers so far, from a byte on. Refused while another caller has the
+        core."""
+        return self._calls._text(lib.LIBRARY.evlsim_c_caller_trace, whole(BadQuestion, "start", start, 0, (1 << 63) - 1))
+
+    def close(self) -> None:
+        """Frees the caller, and with the last one its machine."""
+        lib.LIBRARY.evlsim_c_caller_close(self._calls._at)
+
+    @property
+    def closed(self) -> bool:
+        """Whether it is closed."""
+        return not self._calls._handle.is_open
+
+    def __repr__(self) -> str:
+        return f"<evlsim.Caller of T{self.thread}{', closed' if self.closed else ''}>"
+
+    def __reduce__(self) -> NoReturn:
+        raise TypeError("a caller isn't pickled")
+
+
+class Machine:
+    """A kernel behind one lock, the core, with a `Caller` for each thread of its board, in `callers`. `staxes` has how
+    many callers may hold each stax together; the rest is as of a `Kernel`. A notebook shows its picture.
+
+    >>> with Machine(threads=2, mutexes=["normal"], staxes=[1]) as machine:
+    ...     first, second = machine.callers
+    ...     bool(first.attach(policy="fifo 10", stage="oob")), bool(first.try_lock_mutex(0)), bool(first.unlock_mutex_fast(0))
+    ...     first.try_lock_stax(0).text, second.try_lock_stax(0).refusal, first.unlock_stax(0).value
+    ...     print(machine.trace().splitlines()[-1])
+    (True, True, True)
+    ('done', 'Again', False)
+    1 T0 attach policy=fifo 10 stage=oob -> done
+
+    Threads of Python may call callers of one machine, and one caller in turn: each call holds the interpreter's lock.
+    """
+
+    def __init__(
+        self,
+        threads: int,
+        sems: Iterable[int] = (),
+        flags: Iterable[int] = (),
+        xbufs: Iterable[Tuple[int, int]] = (),
+        mutexes: Iterable[str] = (),
+        groups: Iterable[int] = (),
+        staxes: Iterable[int] = (),
+        limit: int = 1000,
+        bank: Optional[Iterable[Plan]] = None,
+        **wrong: NoReturn,
+    ) -> None:
+        names = ("threads", *LISTS, "staxes", "limit", "bank")
+        for key in wrong:
+            raise wrong_type(BadBoard, f'a machine has no key "{key}"{near(key, names)} (its keys: {", ".join(names)})')
+        board: Dict[str, Any] = dict(
+            threads=threads, sems=sems, flags=flags, xbufs=xbufs, mutexes=mutexes, groups=groups
+        )
+        form, _kept = read_board(board)
+        limits = [
+            whole(BadBoard, f"staxes[{place}]", it, 1, 1000)
+            for place, it in enumerate(items(BadBoard, "staxes", staxes, "at most 16 items"))
+        ]
+        if len(limits) > 16:
+            raise BadBoard(f"staxes has {len(limits)} items: 16 at most are wanted")
+        most = whole(BadBoard, "limit", limit, 1, 1000000)
+        self._bank, plans = read_bank(bank)
+        handles = (lib.Handle * form.threads)()
+        status = lib.LIBRARY.evlsim_c_machine_open(
+            _ref(form), (ctypes.c_uint16 * (len(limits) + 1))(*limits), _size(len(limits)), plans,
+            _size(len(self._bank)), ctypes.c_uint32(most), handles, _size(form.threads),
+        )  # fmt: skip
+        if status == 4:
+            raise MemoryError
+        if status:
+            raise BadBoard("the board is refused")
+        self.callers = tuple(Caller(handles[place], place) for place in range(form.threads))
+
+    def trace(self, start: int = 0) -> str:
+        """The trace of all calls so far, from a byte on, by the first caller that isn't closed."""
+        for caller in self.callers:
+            if not caller.closed:
+                return caller.trace(start)
+        raise KernelClosed("the machine is closed")
+
+    def history(self) -> Tuple[Entry, ...]:
+        """The entries of the kernel's history, from the first on."""
+        return tuple(read_trace(self.trace()))
+
+    def _drawn(self) -> Tuple[str, Tuple[Plan, ...]]:
+        """What its picture is made from: the trace."""
+        return self.trace(), self._bank
+
+    def _repr_svg_(self) -> Optional[str]:
+        return None if self.closed else shown(self)
+
+    def close(self) -> None:
+        """Frees the callers that aren't closed, and the machine."""
+        for caller in self.callers:
+            caller.close()
+
+    @property
+    def closed(self) -> bool:
+        """Whether each caller is closed."""
+        return all(caller.closed for caller in self.callers)
+
+    def __enter__(self) -> "Machine":
+        return self
+
+    def __exit__(
+        self, kind: Optional[Type[BaseException]], error: Optional[BaseException], trace: Optional[TracebackType]
+    ) -> None:
+        self.close()
+
+    def __del__(self) -> None:
+        if "callers" in self.__dict__:
+            self.close()
+
+    def __repr__(self) -> str:
+        return f"<evlsim.Machine of {len(self.callers)} callers{', closed' if self.closed else ''}>"
+
+    def __reduce__(self) -> NoReturn:
+        raise TypeError("a machine isn't pickled")
