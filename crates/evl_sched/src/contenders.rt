@@ -68,6 +68,7 @@ impl<A: Allocator> Contenders<A> {
     }
 
     /// Who stands first: nobody goes before it.
+    #[inline(always)]
     pub fn first(&self) -> Option<u16>
         ensures first { IsFirstPlace self.now result }
     {
@@ -126,6 +127,9 @@ fn join<A: Allocator>(alone: &mut Option<Alone>, queues: &mut Queues<A>)
     ensures none { alone.new ≡ None }
     ensures joined { queues.new ≡ with_alone queues.old alone.old }
 {
+    if alone.is_none() {
+        return;
+    }
     let Some(other) = alone.take() else {
         return;
     };

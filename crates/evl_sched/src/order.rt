@@ -50,6 +50,7 @@ impl<A: Allocator + Clone> Order<A> {
 
 impl<A: Allocator> Order<A> {
     /// Who is first of the greatest rank, of those that stand in queues.
+    #[inline(always)]
     pub fn first(&self) -> Option<u16>
         ensures first { result ≡ first_greatest (rank_or self.now.places) (filter (has_rank self.now.places) self.now.ready) }
     {

@@ -55,6 +55,7 @@ pub fn move_to_end<A: Allocator>(
 }
 
 /// A thread that is ready and may run stands in the queue of its rank, and else in none.
+#[inline(always)]
 pub fn stand<A: Allocator>(
     seats: &Vec<Option<Seat>, A>,
     groups: &Vec<Group, A>,
@@ -69,6 +70,22 @@ pub fn stand<A: Allocator>(
     if !order.is_ready(thread) {
         return;
     }
+    stand_ready(seats, groups, given, order, thread);
+}
+
+// The same of a thread that is ready.
+#[inline(never)]
+fn stand_ready<A: Allocator>(
+    seats: &Vec<Option<Seat>, A>,
+    groups: &Vec<Group, A>,
+    given: &Vec<Option<u16>, A>,
+    order: &mut Order<A>,
+    thread: u16,
+)
+    ensures ready { order.new.ready ≡ order.old.ready }
+    ensures ranks { (t : ℕ) → rank_in order.new.places t ≡ (if t == thread then wanted_rank (record { sched = record { seats = seats.now.items; ready = order.old.ready; groups = groups.now.items }; given = given.now.items }) thread else rank_in order.old.places t) }
+    ensures many { length order.new.places ≡ length order.old.places }
+{
     order.stand(thread, search::rank_to_run(seats, groups, given, thread));
 }
 

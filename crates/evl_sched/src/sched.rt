@@ -303,6 +303,7 @@ impl<A: Allocator> SchedOf<A> {
 
     /// Gives a thread a rank, which counts in place of its base rank until it is attached anew. Its place in the ready
     /// list is kept. Where there is no such thread, nothing changes. (Xenomai 4: EVL mutexes)
+    #[inline(always)]
     pub fn boost(&mut self, thread: ThreadId, rank: u16)
         ensures state { self.new ≡ with_given self.old thread.0 (Some rank) }
     {
