@@ -1,11 +1,12 @@
 -- Serving waiters one by one.
-use Rattle.std.proofs.Common.{◌≡◌, ℕ, zero, suc, ◌≤◌, inl, inr, Bool, true, false, List, [], ◌∷◌, ◌++◌, length, take, drop, Option, Some, None, if◌then◌else◌, refl, ap, append-nil, length-append, arith}
-use Rattle.std.specs.Option.{is_some}
+use Rattle.std.proofs.Common.{◌≡◌, ℕ, zero, suc, ◌≤◌, inl, inr, Bool, true, false, List, [], ◌∷◌, ◌++◌, length, take, drop, Option, Some, None, if◌then◌else◌, refl, sym, subst, ap, append-nil, length-append, arith}
+use Rattle.std.specs.Option.{is_some, option_or}
 use Rattle.std.proofs.lemmas.List.{take-append-drop}
 use Rattle.evl_base.specs.Limits.{thread_limit}
 use Rattle.evl_sync.proofs.QueueLaws.{few_kept}
 use Rattle.evl_xbuf.specs.declared.waiters.Reader.{Reader}
-use Rattle.evl_xbuf.specs.Streams.{HasOneQueue, IsKeptStream, Stream, Service, Got, can_read, bytes_given, next_service, preceded_by, bytes_read, reader_served, served_from, waiting}
+use Rattle.evl_xbuf.specs.declared.waiters.Writer.{Writer}
+use Rattle.evl_xbuf.specs.Streams.{HasOneQueue, IsAtRest, IsKeptStream, Stream, Service, Got, can_read, bytes_given, next_service, preceded_by, bytes_read, reader_served, served_from, services_made, waiting, writer_served}
 use Rattle.evl_xbuf.specs.Services.{read_by}
 use Rattle.evl_xbuf.specs.Serving.{Fit, ServesOne, Serves}
 use Rattle.evl_xbuf.proofs.ServedLaws.{read_by-append}
@@ -14,6 +15,19 @@ use Rattle.evl_xbuf.proofs.ServedLaws.{read_by-append}
 pub at_rest : (s : Stream) → next_service s ≡ None → (n : ℕ) → served_from n s ≡ ([], s)
 at_rest s e zero = refl
 at_rest s e (suc n) = rw e refl
+
+-- where nobody waits nobody is
+idle-none : (s : Stream) → s.readers ≡ [] → s.writers ≡ [] → next_service s ≡ None
+idle-none s readers writers =
+    let P : List Reader → Type 0 = λ rs. option_or (reader_served rs s) (writer_served s.writers s) ≡ None in
+    let Q : List Writer → Type 0 = λ ws. option_or None (writer_served ws s) ≡ None in
+    subst P (sym readers) (subst Q (sym writers) refl)
+
+pub idle-serves : (s : Stream) → s.readers ≡ [] → s.writers ≡ [] → ([], s) ≡ services_made s
+idle-serves s readers writers = sym (at_rest s (idle-none s readers writers) (waiting s))
+
+pub idle-rests : (s : Stream) → s.readers ≡ [] → s.writers ≡ [] → IsAtRest s
+idle-rests s readers writers = record { rests = idle-none s readers writers; one_queue = inl writers }
 
 -- one can be: it is the first of those that are
 pub goes_on : (s mid : Stream) (one : Service) (n : ℕ) → next_service s ≡ Some (one, mid) → served_from (suc n) s ≡ preceded_by one (served_from n mid)
