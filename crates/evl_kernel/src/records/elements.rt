@@ -1,5 +1,5 @@
 //! The calls on semaphores, flag groups and cross-buffers.
-ghost use Rattle.std.specs.Prelude.{◌≡◌, ◌≤◌, ◌+◌, true, false, map};
+ghost use Rattle.std.specs.Prelude.{◌≡◌, ◌≤◌, ◌+◌, [], true, false, map};
 ghost use Rattle.evl_sync.specs.FlagGroups.{pairs};
 ghost use Rattle.evl_kernel.specs.calls.Elements.{elements, on_flags, on_sem, on_xbuf, stepping};
 ghost use Rattle.evl_kernel.specs.calls.CrossBuffers as through;
@@ -114,7 +114,7 @@ impl<C, A: Allocator> Records<C, A> {
         match self.elements.write(stage, xbuf, way, bytes, told) {
             Err(refusal) => Err(refusal),
             Ok(()) => {
-                self.wake_served(told);
+                self.wake_any(told);
                 Ok(Reply::Done)
             }
         }
@@ -145,10 +145,23 @@ impl<C, A: Allocator> Records<C, A> {
         match self.elements.read(stage, xbuf, way, len, got, told) {
             Err(refusal) => Err(refusal),
             Ok(()) => {
-                self.wake_served(told);
+                self.wake_any(told);
                 Ok(Reply::Bytes(spares.take(got.as_slice())))
             }
         }
+    }
+
+    // The same as below, which enters no function where nobody was served.
+    #[inline(always)]
+    fn wake_any(&mut self, served: &xbuf::Services)
+        requires away { (thread : _) → is_served thread (map service_told served.now) ≡ true → (on : AwaitedOne) → stands_for (elements (state_of self.old)) on thread ≡ false }
+        ensures woken { state_of self.new ≡ all_woken (state_of self.old) (map service_told served.now) }
+        ensures stands { KeepsCallbacks self.old self.new }
+    {
+        if are_none(served) {
+            return;
+        }
+        self.wake_served(served);
     }
 
     /// The waits of those whom a cross-buffer served have ended, in this order, each with what it read, if it read.
@@ -177,4 +190,12 @@ impl<C, A: Allocator> Records<C, A> {
             self.wake(one.thread, Outcome::Told(Reply::Bits(one.bits)));
         }
     }
+}
+
+// Whether nobody was served.
+#[inline(always)]
+fn are_none(served: &xbuf::Services) -> bool
+    ensures none { result ≡ true → served.now ≡ [] }
+{
+    served.len() == 0
 }

@@ -1,5 +1,5 @@
 //! The calls on mutexes: a claim, which begins a wait, a release and a raise.
-ghost use Rattle.std.specs.Prelude.{◌≡◌, ◌<◌, None, true};
+ghost use Rattle.std.specs.Prelude.{◌≡◌, ◌<◌, Err, None, Ok, false, true};
 ghost use Rattle.evl_kernel.specs.waiting.Beginnings.{beginning, is_there, is_named, may_name, waiter_refusal};
 ghost use Rattle.evl_kernel.specs.calls.Elements.{elements, on_mutex, stepping};
 ghost use Rattle.evl_kernel.specs.state.KernelViews.{Has, IsAnswer};
@@ -34,31 +34,31 @@ impl<C, A: Allocator> Records<C, A> {
         }
     }
 
-    /// A wait for a mutex begins, whose owner the thread names; the ranks are handed on. `Deadlock` where the thread
-    /// would wait for itself.
+    /// A wait for a mutex begins, whose owner the thread names, and the ranks are handed on; or nothing changes, where
+    /// the thread would wait for itself. Whether it began.
     pub(super) fn begin_claim(
         &mut self,
         thread: ThreadId,
         mutex: MutexId,
         owner: ThreadId,
         until: Option<u64>,
-    ) -> Result<Reply, Refusal>
+    ) -> bool
         requires idle { wait_at (state_of self.old) thread.0 ≡ None }
         requires caller { thread.0 < self.old.threads }
         requires there { is_there (elements (state_of self.old)) (OnMutex mutex) ≡ true }
         requires named { is_named (state_of self.old) (WantsMutex mutex owner) ≡ true }
         requires may { waiter_refusal (state_of self.old) thread.0 (WantsMutex mutex owner) ≡ None }
-        ensures answer { IsAnswer result }
-        ensures served { Has (state_of self.old) (beginning (state_of self.old) thread.0 (WantsMutex mutex owner) until).effect result (state_of self.new) }
+        ensures begun { result ≡ true → (beginning (state_of self.old) thread.0 (WantsMutex mutex owner) until).effect ≡ Ok (Reply.Begun, state_of self.new) }
+        ensures ring { result ≡ false → Has (state_of self.old) (beginning (state_of self.old) thread.0 (WantsMutex mutex owner) until).effect (Err Refusal.Deadlock) (state_of self.new) }
         ensures stands { KeepsCallbacks self.old self.new }
     {
         if !self.elements.claim(mutex, thread, owner, &mut self.changes) {
-            return Err(Refusal::Deadlock);
+            return false;
         }
         ranks::hand_on(&self.elements, &mut self.changes, &mut self.sched);
         waits::begin(&mut self.waits, thread, Awaited::Mutex(mutex), None);
         self.suspend(thread, until);
-        Ok(Reply::Begun)
+        true
     }
 
     /// Hands a mutex on to the first waiter, whose wait ends; the ranks are handed on. The first that applies:

@@ -64,7 +64,11 @@ impl<C, A: Allocator> Records<C, A> {
                 self.begin_write(thread, xbuf, way, bytes.as_slice(), until, told)
             }
             Wanted::Read(xbuf, way, len) => self.begin_read(thread, xbuf, way, len, until, told),
-            Wanted::Mutex(mutex, owner) => return self.begin_claim(thread, mutex, owner, until),
+            Wanted::Mutex(mutex, owner) => {
+                if !self.begin_claim(thread, mutex, owner, until) {
+                    return Err(Refusal::Deadlock);
+                }
+            }
             ranked => self.begin_ranked(thread, rank, &ranked, until),
         }
         Ok(Reply::Begun)

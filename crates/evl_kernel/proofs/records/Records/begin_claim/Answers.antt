@@ -20,8 +20,8 @@ pub claim-requires-clause-away : goal.claim-requires-clause-away
 claim-requires-clause-away g c n =
     idle_away c.self.inside.threads c.self.inside.elements.elements c.self.inside.waits.items c.self.invariant.waits c.args.thread.0 (rw (← c.self.view_is) at c.requires.idle) (OnMutex (record { 0 = n }))
 
-pub returns-then-not-claim-clause-served : goal.returns-then-not-claim-clause-served
-returns-then-not-claim-clause-served g c =
+pub returns-then-not-claim-clause-ring : goal.returns-then-not-claim-clause-ring
+returns-then-not-claim-clause-ring g c _ =
     let r = records_view c.self.inside in
     let wants = WantsMutex c.args.mutex c.args.owner in
     let back = back_as r c.self.invariant c.args.owner.0 c.args.thread.0 ∙ c.claim.ensures.ring c.if-not-claim.true in
@@ -45,8 +45,8 @@ invariant_of-self-2 g c =
     (ranks-handed (owners_of c.self.inside.elements) c.self.inside.sched c.hand_on.new.sched c.self.invariant.ranks c.claim.new.self.base c.claim.new.self.elements.mutexes c.claim.ensures.base c.hand_on.ensures.kept c.hand_on.ensures.given)
     c.begin.new.waits.items c.begin.ensures.begun
 
-pub returns-clause-served : goal.returns-clause-served
-returns-clause-served g c =
+pub returns-clause-begun : goal.returns-clause-begun
+returns-clause-begun g c _ =
     let r = records_view c.self.inside in
     let wants = WantsMutex c.args.mutex c.args.owner in
     let rank = rank_of (owners_of c.self.inside.elements) c.args.thread.0 in

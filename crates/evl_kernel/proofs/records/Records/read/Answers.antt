@@ -9,8 +9,8 @@ use Rattle.evl_kernel.proofs.records.Records.read.Goals as goal
 pub invariant_of-self-in-Ok : goal.invariant_of-self-in-Ok
 invariant_of-self-in-Ok g c = asked_sound (records_view c.self.inside) c.self.invariant (on_xbuf c.args.xbuf.0 (through.read c.stage-stage.result c.args.way c.args.len)) (asks_read c.args.xbuf.0 c.stage-stage.result c.args.way c.args.len) _ c.read.new.self c.in-Ok.ensures.step c.read.ensures.owners
 
-pub wake_served-requires : goal.wake_served-requires
-wake_served-requires g c = record {
+pub wake_any-requires : goal.wake_any-requires
+wake_any-requires g c = record {
   away = λ thread is on. asked_away (records_view c.self.inside) c.self.invariant (on_xbuf c.args.xbuf.0 (through.read c.stage-stage.result c.args.way c.args.len)) (asks_read c.args.xbuf.0 c.stage-stage.result c.args.way c.args.len) _ c.read.new.self c.in-Ok.ensures.step thread (rw c.in-Ok.ensures.served is) on;
 }
 

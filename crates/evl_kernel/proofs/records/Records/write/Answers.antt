@@ -10,8 +10,8 @@ use Rattle.evl_kernel.proofs.records.Records.write.Goals as goal
 pub invariant_of-self-in-Ok : goal.invariant_of-self-in-Ok
 invariant_of-self-in-Ok g c = asked_sound (records_view c.self.inside) c.self.invariant (on_xbuf c.args.xbuf.0 (through.write c.stage-stage.result c.args.way c.args.bytes.now)) (asks_write c.args.xbuf.0 c.stage-stage.result c.args.way c.args.bytes.now) _ c.write.new.self c.in-Ok.ensures.step c.write.ensures.owners
 
-pub wake_served-requires : goal.wake_served-requires
-wake_served-requires g c = record {
+pub wake_any-requires : goal.wake_any-requires
+wake_any-requires g c = record {
   away = λ thread is on. asked_away (records_view c.self.inside) c.self.invariant (on_xbuf c.args.xbuf.0 (through.write c.stage-stage.result c.args.way c.args.bytes.now)) (asks_write c.args.xbuf.0 c.stage-stage.result c.args.way c.args.bytes.now) _ c.write.new.self c.in-Ok.ensures.step thread (rw c.in-Ok.ensures.served is) on;
 }
 
@@ -24,5 +24,5 @@ returns-in-Err-clause-served g c =
 
 pub returns-in-Ok-clause-served : goal.returns-in-Ok-clause-served
 returns-in-Ok-clause-served g c =
-    rw (c.wake_served.ensures.woken, ← c.self.view_is, ← c.stage-stage.ensures.stage)
+    rw (c.wake_any.ensures.woken, ← c.self.view_is, ← c.stage-stage.ensures.stage)
     (asked_done (records_view c.self.inside) c.self.invariant (on_xbuf c.args.xbuf.0 (through.write c.stage-stage.result c.args.way c.args.bytes.now)) (asks_write c.args.xbuf.0 c.stage-stage.result c.args.way c.args.bytes.now) Done c.write.new.self c.in-Ok.ensures.step _ c.in-Ok.ensures.served)
