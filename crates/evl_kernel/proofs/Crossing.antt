@@ -95,4 +95,4 @@ module _ (C A : RattleType) (g : Ghosts A.Denot) where
   pub kernel_send : IsSend C → IsSend A → Frees g g.dealloc_token → IsSend (KernelOf.the_row C A g)
   kernel_send s a f =
       let records = records_send s a f in let board = board_send in let plays = plays_send C A g a f in let entries = entries_send C A g a f in let spares = spares_send A g a f in
-      view_send _ _ _ _ _ (declared_send (KernelInside.the_type C A g) (board, (records, (entries, (plays, (spares, (lists_send, (search sendable, tt))))))))
+      view_send _ _ _ _ _ (declared_send (KernelInside.the_type C A g) (board, (records, (entries, (plays, (spares, (lists_send, (search sendable, (search sendable, tt)))))))))

@@ -1,5 +1,5 @@
 //! The kernel and its history.
-ghost use Rattle.std.specs.Prelude.{◌≡◌, ◌⊎◌, ◌↔◌, ◌+◌, ◌-◌, ◌≤◌, ◌<◌, length, vec_len, vec_capacity, true, false, None, Ok, option_map, IsTrue, IsFalse, OnOk, OnErr, IfOk, IfErr};
+ghost use Rattle.std.specs.Prelude.{◌≡◌, ◌⊎◌, ◌↔◌, ◌+◌, ◌≤◌, ◌<◌, length, true, false, None, Ok, option_map, IsTrue, IsFalse, OnOk, IfOk, IfErr};
 ghost use Rattle.std.specs.Option.{option_map_or};
 ghost use Rattle.evl_pipeline.specs.Counts.{count_at};
 ghost use Rattle.evl_pipeline.specs.Limits.{line_count};
@@ -10,7 +10,6 @@ ghost use Rattle.evl_mutex.specs.Owners.{owner_at};
 ghost use Rattle.evl_sched.specs.Threads.{stage_of};
 ghost use Rattle.evl_kernel.specs.state.Callbacks.{AnswersByPlan, BringsNone, handlers_in};
 ghost use Rattle.evl_kernel.specs.settling.Fires.{AddsByCalls};
-ghost use Rattle.evl_kernel.specs.state.Insides.{calls_in};
 ghost use Rattle.evl_kernel.specs.state.Limits.{history_limit};
 ghost use Rattle.evl_kernel.specs.state.Openings.{can_open};
 ghost use Rattle.evl_kernel.specs.histories.Histories.{IsLegal};
@@ -21,13 +20,15 @@ ghost use Rattle.evl_kernel.specs.state.KernelViews.{AddsEntry, IsOpened, IsKern
 
 mod likeness;
 mod readers;
+mod room;
 
 use crate::allocators::another;
+use crate::kernel::room::{fence_after, find_room, is_within, make_room};
 use crate::records::Records;
 use crate::served_lists::ServedLists;
 use evl_base::{
-    Board, Call, Entry, LINES, LineNo, MAX_THREADS, MutexId, Play, Refusal, Reply, SemId, Spares,
-    Stage, ThreadId, TimerId,
+    Board, Call, Entry, LineNo, MutexId, Play, Refusal, Reply, SemId, Spares, Stage, ThreadId,
+    TimerId,
 };
 use evl_clock::TimerState;
 use evl_pipeline::{Callback, Handler};
@@ -39,13 +40,6 @@ const MAX_LIMIT: u32 = 1_000_000;
 
 // The most callbacks of a bank.
 const MAX_CALLBACKS: usize = 64;
-
-// The most plays that one call makes: five for each of 64 in-band ones, and one for each line, each of 64 timers and
-// each deadline.
-const MAX_PLAYS: usize = 5 * 64 + LINES + 64 + MAX_THREADS;
-
-// The most boxes that the bytes of one call's reply take: the caller's and the entry's.
-const MAX_BOXES: usize = 2;
 
 /// The kernel: its records, with all calls that it answered and all plays that it made (Xenomai 4: EVL core; the
 /// history is this profile's). The type of the callbacks has no bound here: where a struct asks for a bound with
@@ -59,6 +53,8 @@ pub struct KernelOf<C, A: Allocator> {
     spares: Spares<A>,
     lists: ServedLists,
     limit: usize,
+    // a history that is shorter finds room for one entry more, and so do the plays of its call
+    fence: usize,
 }
 
 /// A kernel over stored callbacks.
@@ -151,6 +147,7 @@ impl<C: Handler, A: Allocator> KernelOf<C, A> {
                     spares,
                     lists,
                     limit: limit as usize,
+                    fence: 0,
                 })
             }
             Err(refusal) => Err(refusal),
@@ -176,6 +173,7 @@ impl<C: Handler, A: Allocator> KernelOf<C, A> {
         if n > self.limit - self.history.len() {
             return Err(Refusal::HistoryFull);
         }
+        self.fence = 0;
         make_room(&mut self.history, &mut self.plays, &mut self.spares, n)
     }
 
@@ -204,10 +202,13 @@ impl<C: Handler, A: Allocator> KernelOf<C, A> {
         if self.answers_quickly(caller, &call) {
             return Ok(Reply::Done);
         }
-        if self.history.len() == self.limit {
-            return Err(Refusal::HistoryFull);
-        }
-        make_room(&mut self.history, &mut self.plays, &mut self.spares, 1)?;
+        find_room(
+            &mut self.history,
+            &mut self.plays,
+            &mut self.spares,
+            &mut self.fence,
+            self.limit,
+        )?;
         let before = self.plays.len();
         match self.records.perform(
             caller,
@@ -217,6 +218,7 @@ impl<C: Handler, A: Allocator> KernelOf<C, A> {
             &mut self.lists,
         ) {
             Err(refusal) => {
+                self.fence = fence_after(self.fence, &self.plays, before);
                 self.history.push_reserved(Entry {
                     caller,
                     call,
@@ -227,6 +229,7 @@ impl<C: Handler, A: Allocator> KernelOf<C, A> {
             }
             Ok(reply) => {
                 let (given, entered) = doubled(reply, &mut self.spares);
+                self.fence = fence_after(self.fence, &self.plays, before);
                 self.history.push_reserved(Entry {
                     caller,
                     call,
@@ -273,7 +276,7 @@ impl<C: Handler, A: Allocator> KernelOf<C, A> {
         ensures legal { IsLegal self.new.history }
         ensures places { AreInOnePlace self.new.callbacks }
     {
-        if !has_place(&self.history, self.limit) {
+        if !is_within(&self.history, self.fence) {
             return false;
         }
         if !self.records.put_quickly(caller, sem) {
@@ -301,7 +304,7 @@ impl<C: Handler, A: Allocator> KernelOf<C, A> {
         ensures legal { IsLegal self.new.history }
         ensures places { AreInOnePlace self.new.callbacks }
     {
-        if !has_place(&self.history, self.limit) {
+        if !is_within(&self.history, self.fence) {
             return false;
         }
         if !self.records.get_quickly(caller, sem) {
@@ -439,43 +442,6 @@ impl<C, A: Allocator> KernelOf<C, A> {
     {
         self.records.waiters(mutex)
     }
-}
-
-// Whether a history has room for one entry more, within its limit.
-#[inline(always)]
-fn has_place<A: Allocator>(history: &Vec<Entry, A>, limit: usize) -> bool
-    ensures room { result ≡ true → vec_len history.now < vec_capacity history.now }
-    ensures within { result ≡ true → length history.now.items < limit }
-{
-    history.len() < limit && history.len() < history.capacity()
-}
-
-// Makes room for the entries, the plays and the bytes of so many calls. `NoMemory` where it was refused.
-#[inline(always)]
-fn make_room<A: Allocator>(
-    history: &mut Vec<Entry, A>,
-    plays: &mut Vec<Play, A>,
-    spares: &mut Spares<A>,
-    n: usize,
-) -> Result<(), Refusal>
-    requires few { n ≤ history_limit }
-    ensures entries { history.new.items ≡ history.old.items }
-    ensures plays { plays.new.items ≡ plays.old.items }
-    ensures room { OnOk result (n ≤ calls_in (vec_capacity history.new - vec_len history.new) (vec_capacity plays.new - vec_len plays.new) spares.new) }
-    ensures keeps { calls_in (vec_capacity history.old - vec_len history.old) (vec_capacity plays.old - vec_len plays.old) spares.old
-        ≤ calls_in (vec_capacity history.new - vec_len history.new) (vec_capacity plays.new - vec_len plays.new) spares.new }
-    ensures memory { OnErr result (calls_in (vec_capacity history.old - vec_len history.old) (vec_capacity plays.old - vec_len plays.old) spares.old < n) }
-    ensures refusal { IfErr result (λ e. e ≡ Refusal.NoMemory) }
-{
-    match history.reserve(n) {
-        Ok(()) => {}
-        Err(_) => return Err(Refusal::NoMemory),
-    }
-    match plays.reserve(n * MAX_PLAYS) {
-        Ok(()) => {}
-        Err(_) => return Err(Refusal::NoMemory),
-    }
-    spares.keep(n * MAX_BOXES)
 }
 
 // A reply twice, for the caller and for the entry: its bytes, if it has any, once more in a box that was kept. No

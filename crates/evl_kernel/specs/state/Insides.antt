@@ -1,5 +1,5 @@
 -- The kernel's fields as contracts see them.
-use Rattle.std.specs.Prelude.{ℕ, ◌-◌, ◌/◌, ◌≤◌, length, min, vec_len, vec_capacity}
+use Rattle.std.specs.Prelude.{ℕ, ◌-◌, ◌/◌, ◌≤◌, ◌<◌, length, min, vec_len, vec_capacity}
 use Rattle.evl_kernel.specs.state.Limits.{history_limit, play_limit, box_limit}
 use Rattle.evl_kernel.specs.histories.Histories.{IsLegal}
 use Rattle.evl_kernel.specs.state.Callbacks.{handlers_in}
@@ -19,7 +19,12 @@ kernel_view k = record {
   room = calls_in (vec_capacity k.history - vec_len k.history) (vec_capacity k.plays - vec_len k.plays) k.spares;
 }
 
+-- a history that is shorter than the fence has room for one entry more, within its limit, and so have the plays of a call
+abbrev pub IsFence : ℕ → ℕ → ℕ → ℕ → ℕ → Type 0
+IsFence limit entries plays length fence = length < fence → (fence ≤ limit) × (fence ≤ entries) × (play_limit ≤ plays)
+
 pub record KernelIsSound {C A : Type 0} (k : Inside C A) : Type 0 where
   pub legal : IsLegal (kernel_view k).history
   pub within : length k.history.items ≤ k.limit
   pub limit : k.limit ≤ history_limit
+  pub fence : IsFence k.limit (vec_capacity k.history) (vec_capacity k.plays - vec_len k.plays) (vec_len k.history) k.fence

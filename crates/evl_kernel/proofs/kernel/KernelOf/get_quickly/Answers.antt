@@ -1,4 +1,4 @@
-use Rattle.std.proofs.Common.{[], List, Ok, refl, ap, arith, length, length-append}
+use Rattle.std.proofs.Common.{◌<◌, [], List, Ok, refl, ap, arith, length, length-append}
 use Rattle.evl_base.specs.declared.entry.Entry.{Entry}
 use Rattle.evl_base.specs.declared.call.Call.TheVariants.{TryGet}
 use Rattle.evl_base.specs.declared.reply.Reply.TheVariants.{Done}
@@ -13,11 +13,11 @@ use Rattle.evl_kernel.proofs.state.OnePlaceLaws.{are_in_one_place}
 use Rattle.evl_kernel.proofs.kernel.KernelOf.get_quickly.Goals as goal
 use Rattle.evl_kernel.proofs.kernel.KernelOf.get_quickly.Goals.{After-push_reserved}
 
-pub returns-then-not-has_place-clause-legal : goal.returns-then-not-has_place-clause-legal
-returns-then-not-has_place-clause-legal g c = rw (← c.self.view_is) c.self.invariant.legal
+pub returns-then-not-is_within-clause-legal : goal.returns-then-not-is_within-clause-legal
+returns-then-not-is_within-clause-legal g c = rw (← c.self.view_is) c.self.invariant.legal
 
-pub returns-then-not-has_place-clause-places : goal.returns-then-not-has_place-clause-places
-returns-then-not-has_place-clause-places g c = rw (← c.self.view_is) (are_in_one_place c.self.inside.records (kernel_view c.self.inside).history c.self.invariant.legal refl refl)
+pub returns-then-not-is_within-clause-places : goal.returns-then-not-is_within-clause-places
+returns-then-not-is_within-clause-places g c = rw (← c.self.view_is) (are_in_one_place c.self.inside.records (kernel_view c.self.inside).history c.self.invariant.legal refl refl)
 
 -- the history after the step
 abbrev after_get : (g : _) (c : After-push_reserved g) → History
@@ -37,11 +37,16 @@ get_adds g c =
 get_legal : (g : _) (c : After-push_reserved g) → IsLegal (after_get g c)
 get_legal g c = legal_more (kernel_view c.self.inside).history (after_get g c) _ [] c.self.invariant.legal (get_adds g c).extends
 
+-- the history was below its limit
+has_room : (g : _) (c : After-push_reserved g) → length c.self.inside.history.items < c.self.inside.limit
+has_room g c = let room = c.self.invariant.fence (c.is_within.ensures.within c.if-not-is_within.false) in omega (arith, c.is_within.ensures.within c.if-not-is_within.false, room.0)
+
 pub invariant_of-self-2 : goal.invariant_of-self-2
 invariant_of-self-2 g c = record {
   legal = get_legal g c;
-  within = let room = c.has_place.ensures.within c.if-not-has_place.false in omega (arith, room, ap (λ (es : List Entry). length es) c.push_reserved.ensures.items, length-append {A = Entry});
+  within = omega (arith, has_room g c, ap (λ (es : List Entry). length es) c.push_reserved.ensures.items, length-append {A = Entry});
   limit = c.self.invariant.limit;
+  fence = λ below. let room = c.self.invariant.fence (c.is_within.ensures.within c.if-not-is_within.false) in (room.0, omega (arith, room.1, c.push_reserved.ensures.capacity), room.2);
 }
 
 pub returns-clause-entry : goal.returns-clause-entry
@@ -57,10 +62,10 @@ pub returns-clause-callbacks : goal.returns-clause-callbacks
 returns-clause-callbacks g c = rw (← c.self.view_is) c.get_quickly.ensures.stands
 
 pub push_reserved-requires : goal.push_reserved-requires
-push_reserved-requires g c = c.has_place.ensures.room c.if-not-has_place.false
+push_reserved-requires g c = let room = c.self.invariant.fence (c.is_within.ensures.within c.if-not-is_within.false) in omega (arith, c.is_within.ensures.within c.if-not-is_within.false, room.1)
 
 pub returns-clause-within : goal.returns-clause-within
-returns-clause-within g c _ = rw (← c.self.view_is) (c.has_place.ensures.within c.if-not-has_place.false)
+returns-clause-within g c _ = rw (← c.self.view_is) (has_room g c)
 
 pub returns-then-not-get_quickly-clause-kept : goal.returns-then-not-get_quickly-clause-kept
 returns-then-not-get_quickly-clause-kept g c _ = rw (c.get_quickly.ensures.kept c.if-not-get_quickly.true, ← c.self.view_is) refl
