@@ -1,3 +1,4 @@
 pub mod GivenLaws
 mod ReadingLaws
+mod RefusalLaws
 pub mod TableLaws

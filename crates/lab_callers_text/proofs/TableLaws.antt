@@ -57,7 +57,7 @@ get_without key other no_members apart = refl
 get_without key other (member l d ms) apart = without_at (slice_cmp nat_cmp other l) key other l d ms refl apart (get_without key other ms apart)
 
 -- the steps of a document, where its board is taken away
-items_without : (document : Members) → items_in (without (codes "board") document) ≡ items_in document
+pub items_without : (document : Members) → items_in (without (codes "board") document) ≡ items_in document
 items_without document = ap (λ (steps : Option Data). value_or as_array no_items steps) (get_without (codes "step") (codes "board") document (λ same. false≢true (ap is_eq same)))
 
 pub marks_without : (document : Members) → marks_in (without (codes "board") document) ≡ marks_in document

@@ -1,7 +1,7 @@
 -- What a document of callers says, and the document of a scenario that is read for it.
-use Rattle.std.specs.Prelude.{ℕ, List, codes, ◌^◌, is_some, if◌then◌else◌, Option, Some, None, option_map, option_and_then, pos, string_bytes}
-use Rattle.std.specs.Option.{option_map_or}
-use Rattle.toml.specs.Data.{Data, string, integer, array, table, Items, no_items, Members, get_member, as_array, as_table}
+use Rattle.std.specs.Prelude.{ℕ, List, [], ◌∷◌, codes, ◌^◌, Bool, true, ◌&&◌, is_some, if◌then◌else◌, Option, Some, None, option_map, option_and_then, pos, string_bytes}
+use Rattle.std.specs.Option.{option_map_or, unwrap_or}
+use Rattle.toml.specs.Data.{Data, string, integer, array, table, Items, no_items, item, Members, no_members, get_member, as_array, as_table}
 use Rattle.toml.specs.View.{items_of}
 use Rattle.lab_callers_text.specs.Names.{pass_named}
 use Rattle.lab_callers_text.specs.Tables.{with_value, without}
@@ -50,6 +50,13 @@ table_with (Some word) step = option_map (with_value (codes "do") (string (stand
 abbrev pub step_as : Data → Option Data
 step_as value = option_map_or (λ step. option_map table (table_with (word_in step) step)) (as_table value) (Some value)
 
+-- it can be read so; and what is read for any step: where it can't, an empty table, which is no step
+abbrev pub is_put : Data → Bool
+is_put value = is_some (mark_in value) && is_some (step_as value)
+
+abbrev pub put_as : Data → Data
+put_as value = if is_put value then unwrap_or (step_as value) (table no_members) else table no_members
+
 -- the word and the name of a mark
 abbrev pub mark_view : Mark → OwnWord × Option (List ℕ)
 mark_view mark = (mark.word, option_map string_bytes mark.name)
@@ -95,4 +102,22 @@ with_parts document board steps = with_value (codes "step") (array (items_of ste
 abbrev pub scenario_in : Members → Option Members
 scenario_in document =
     option_and_then (λ board. option_map (with_parts (without (codes "board") document) board) (steps_in document))
+    (option_and_then plain_board (get_member (codes "board") document))
+
+-- ---- documents with steps that can't be read
+
+-- each step can be
+abbrev pub all_put : Items → Bool
+all_put no_items = true
+all_put (item value rest) = is_put value && all_put rest
+
+-- what is read for each
+abbrev pub put_list : Items → List Data
+put_list no_items = []
+put_list (item value rest) = put_as value ∷ put_list rest
+
+-- the document that is read for any that has a table of a board and a list of steps
+abbrev pub read_for : Members → Option Members
+read_for document =
+    option_and_then (λ board. option_map (λ steps. with_parts (without (codes "board") document) board (put_list steps)) (items_in document))
     (option_and_then plain_board (get_member (codes "board") document))

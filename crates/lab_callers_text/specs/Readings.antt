@@ -1,13 +1,19 @@
 -- What a text of callers says, once its steps are those of a scenario.
-use Rattle.std.specs.Prelude.{◌≡◌, ◌≤◌, ℕ, List, [], ◌∷◌, length, map, Option, Some, option_map, Ok}
-use Rattle.toml.specs.Data.{Members, members_depth}
+use Rattle.std.specs.Prelude.{◌≡◌, ◌≤◌, ◌⊎◌, ℕ, List, [], ◌∷◌, length, map, nat_lt, false, ◌&&◌, if◌then◌else◌, Option, Some, None, option_map, Ok, Err}
+use Rattle.std.specs.List.{list_all}
+use Rattle.std.specs.Str.{is_utf8}
+use Rattle.toml.specs.Data.{Items, Members, members_depth, members_have_valid_dates}
 use Rattle.toml.specs.Parse.{parse_document}
-use Rattle.lab_callers_text.specs.Documents.{mark_view, marks_in, scenario_in, staxes_in}
+use Rattle.lab_callers_text.specs.Documents.{all_put, items_in, mark_view, marks_in, put_list, read_for, scenario_in, staxes_in}
 use Rattle.lab_callers_text.specs.Marks.{act_of}
 use Rattle.lab_callers_text.specs.declared.acts.CallersStep.{CallersStep}
 use Rattle.lab_callers_text.specs.declared.marks.Mark.{Mark}
 use Rattle.lab_callers_text.specs.declared.reading.CallersText.{CallersText}
 use Rattle.evl_scenario.specs.Scenarios.{Script, scenario_of}
+use Rattle.evl_base.specs.Board.{board_fits}
+use Rattle.evl_base.specs.Limits.{stax_fits}
+use Rattle.evl_scenario.specs.declared.faults.Fault.{Fault}
+use Rattle.evl_scenario.specs.declared.faults.Fault.TheVariants as fault
 use Rattle.evl_scenario.specs.declared.steps.Step.{Step}
 
 -- the steps of a scenario in their order, each with the mark of what it stands for
@@ -48,3 +54,47 @@ pub record IsRead (given : Option ℕ) (bytes : List ℕ) (read : CallersText) :
   pub marks : List (Option Mark)
   pub says : SaysSo document text limits marks
   pub opens : OpensAs given text limits marks read
+
+-- ---- why a text is refused
+
+-- the document that a text is
+abbrev pub document_of : List ℕ → Option Members
+document_of bytes =
+    if nat_lt 1048576 (length bytes) then None
+    else if is_utf8 bytes then parse_document bytes
+    else None
+
+-- A scenario's text is none, for this fault. Or it is one, whose board with these staxes has a number out of its limits, or whose
+-- steps aren't so many.
+abbrev pub IsUnfit : Option ℕ → List ℕ → List ℕ → ℕ → Fault → Type 0
+IsUnfit given text limits count e =
+    (scenario_of given text ≡ Err e)
+    ⊎ ((script : Script) × (scenario_of given text ≡ Ok script)
+    × (((e ≡ fault.Board) × (board_fits script.board && list_all stax_fits limits ≡ false)) ⊎ ((e ≡ fault.Text) × (count ≡ length script.steps → ⊥))))
+
+-- The scenario's text that is read for these steps is refused, or a step among them can't be put.
+abbrev pub IsAgainst : Option ℕ → List ℕ → List ℕ → Items → Fault → Type 0
+IsAgainst given text limits steps e =
+    IsUnfit given text limits (length (put_list steps)) e
+    ⊎ ((e ≡ fault.Text) × (all_put steps ≡ false))
+
+-- What a document has of a scenario is refused: a date in it is none; or else the text that is read for it, which has just the keys and
+-- values that are read for it where these have no more than 80 levels.
+abbrev pub IsRefusedFor : Option ℕ → Members → List ℕ → Items → Fault → Type 0
+IsRefusedFor given plain limits steps e =
+    ((e ≡ fault.Text) × (members_have_valid_dates plain ≡ false))
+    ⊎ ((text : List ℕ) × (members_depth plain ≤ 80 → parse_document text ≡ Some plain) × IsAgainst given text limits steps e)
+
+-- A document is refused: it has no table of a board, no list of the limits of staxes, or no list of steps; or else for its scenario.
+abbrev pub IsRefusedIn : Option ℕ → Members → Fault → Type 0
+IsRefusedIn given document e =
+    ((e ≡ fault.Board) × ((staxes_in document ≡ None) ⊎ (items_in document ≡ None)))
+    ⊎ ((limits : List ℕ) × (staxes_in document ≡ Some limits) × (steps : Items) × (items_in document ≡ Some steps) × (plain : Members) × (read_for document ≡ Some plain)
+    × IsRefusedFor given plain limits steps e)
+
+-- Why a text is refused: it's no document; or else for what its document is. Or memory ran out.
+abbrev pub IsRefused : Option ℕ → List ℕ → Fault → Type 0
+IsRefused given bytes e =
+    (e ≡ fault.Memory)
+    ⊎ (((e ≡ fault.Text) × (document_of bytes ≡ None))
+    ⊎ ((document : Members) × (document_of bytes ≡ Some document) × IsRefusedIn given document e))

@@ -1,11 +1,11 @@
 //! Steps of callers in a document, each put as the step of a scenario that has its other keys, so that the reader of
-//! scenarios reads these. A step that can't be put so keeps its word, which that reader refuses.
-ghost use Rattle.std.specs.Prelude.{◌≡◌, IfOk, IfSome, OnOk, Some, codes, option_map, string_bytes};
+//! scenarios reads these.
+ghost use Rattle.std.specs.Prelude.{◌≡◌, ◌⊎◌, IfErr, IfOk, IfSome, OnOk, None, Some, codes, false, option_map, string_bytes};
 ghost use Rattle.std.specs.List.{list_all};
 ghost use Rattle.toml.specs.Data.{string};
 ghost use Rattle.toml.specs.View.{table_view, view};
 ghost use Rattle.evl_base.specs.Limits.{is_within};
-ghost use Rattle.lab_callers_text.specs.Documents.{mark_in, mark_view, marked_word, moved_member, numbered_member, step_as, table_with, unnamed, word_in};
+ghost use Rattle.lab_callers_text.specs.Documents.{is_put, mark_in, mark_view, marked_word, moved_member, numbered_member, step_as, table_with, unnamed, word_in};
 ghost use Rattle.lab_callers_text.specs.Marks.{act_of, named_act, plain_act};
 ghost use Rattle.lab_callers_text.specs.Names.{is_letter, is_name, name_at, pass_named};
 ghost use Rattle.lab_callers_text.specs.Tables.{with_value, without};
@@ -79,7 +79,7 @@ fn word_at(table: &Table) -> Option<OwnWord>
 
 // The name at a key, which is taken away.
 fn take_name(table: &mut Table, key: &str) -> Option<String>
-    ensures name { IfSome result (λ name. name_at key.now (table_view table.old) ≡ Some (string_bytes name)) }
+    ensures name { option_map string_bytes result ≡ name_at key.now (table_view table.old) }
     ensures rest { table_view table.new ≡ without key.now (table_view table.old) }
 {
     match take(table, key) {
@@ -96,7 +96,7 @@ fn take_name(table: &mut Table, key: &str) -> Option<String>
 
 // The name of a word that has one, which is taken away. None where it is missing, or is no name.
 fn take_name_of(table: &mut Table, word: OwnWord) -> Option<Option<String>>
-    ensures name { IfSome result (λ name. pass_named (name_key word) (table_view table.old) ≡ Some (option_map string_bytes name)) }
+    ensures name { option_map (option_map string_bytes) result ≡ pass_named (name_key word) (table_view table.old) }
     ensures rest { table_view table.new ≡ unnamed (name_key word) (table_view table.old) }
 {
     match word.name_key() {
@@ -110,7 +110,8 @@ fn take_name_of(table: &mut Table, word: OwnWord) -> Option<Option<String>>
 
 // Moves what stands at a key to that of a semaphore, where nothing stands yet.
 fn move_number(alloc: Global, table: &mut Table, key: &str) -> Result<(), MarkFault>
-    ensures { OnOk result (moved_member key.now (table_view table.old) ≡ Some (table_view table.new)) }
+    ensures moved { OnOk result (moved_member key.now (table_view table.old) ≡ Some (table_view table.new)) }
+    ensures other { IfErr result (λ fault. (fault ≡ MarkFault.Memory) ⊎ (moved_member key.now (table_view table.old) ≡ None)) }
 {
     if field(table, "sem").is_some() {
         return Err(MarkFault::Step);
@@ -126,7 +127,8 @@ fn move_number(alloc: Global, table: &mut Table, key: &str) -> Result<(), MarkFa
 
 // The same for the number of a word that has one.
 fn move_number_of(alloc: Global, table: &mut Table, word: OwnWord) -> Result<(), MarkFault>
-    ensures { OnOk result (numbered_member (number_key word) (table_view table.old) ≡ Some (table_view table.new)) }
+    ensures moved { OnOk result (numbered_member (number_key word) (table_view table.old) ≡ Some (table_view table.new)) }
+    ensures other { IfErr result (λ fault. (fault ≡ MarkFault.Memory) ⊎ (numbered_member (number_key word) (table_view table.old) ≡ None)) }
 {
     match word.number_key() {
         Some(key) => move_number(alloc, table, key),
@@ -136,7 +138,8 @@ fn move_number_of(alloc: Global, table: &mut Table, word: OwnWord) -> Result<(),
 
 // Puts the word of a step.
 fn put_word(alloc: Global, table: &mut Table, word: &str) -> Result<(), MarkFault>
-    ensures { OnOk result (table_view table.new ≡ with_value (codes "do") (string word.now) (table_view table.old)) }
+    ensures put { OnOk result (table_view table.new ≡ with_value (codes "do") (string word.now) (table_view table.old)) }
+    ensures other { IfErr result (λ fault. fault ≡ MarkFault.Memory) }
 {
     let Ok(value) = Value::string(alloc, word) else {
         return Err(MarkFault::Memory);
@@ -151,6 +154,7 @@ fn put_word(alloc: Global, table: &mut Table, word: &str) -> Result<(), MarkFaul
 fn mark_table(alloc: Global, table: &mut Table, word: OwnWord) -> Result<Mark, MarkFault>
     ensures table { OnOk result (table_with (Some word) (table_view table.old) ≡ Some (table_view table.new)) }
     ensures mark { IfOk result (λ mark. marked_word (Some word) (table_view table.old) ≡ Some (Some (mark_view mark))) }
+    ensures other { IfErr result (λ fault. (fault ≡ MarkFault.Memory) ⊎ ((marked_word (Some word) (table_view table.old) ≡ None) ⊎ (table_with (Some word) (table_view table.old) ≡ None))) }
 {
     let Some(name) = take_name_of(table, word) else {
         return Err(MarkFault::Step);
@@ -169,6 +173,7 @@ fn mark_table(alloc: Global, table: &mut Table, word: OwnWord) -> Result<Mark, M
 fn mark_any(alloc: Global, table: &mut Table) -> Result<Option<Mark>, MarkFault>
     ensures table { OnOk result (table_with (word_in (table_view table.old)) (table_view table.old) ≡ Some (table_view table.new)) }
     ensures mark { IfOk result (λ mark. marked_word (word_in (table_view table.old)) (table_view table.old) ≡ Some (option_map mark_view mark)) }
+    ensures other { IfErr result (λ fault. (fault ≡ MarkFault.Memory) ⊎ ((marked_word (word_in (table_view table.old)) (table_view table.old) ≡ None) ⊎ (table_with (word_in (table_view table.old)) (table_view table.old) ≡ None))) }
 {
     match word_at(table) {
         Some(word) => match mark_table(alloc, table, word) {
@@ -183,6 +188,7 @@ fn mark_any(alloc: Global, table: &mut Table) -> Result<Option<Mark>, MarkFault>
 pub fn mark_step(alloc: Global, value: &mut Value) -> Result<Option<Mark>, MarkFault>
     ensures step { OnOk result (step_as (view value.old) ≡ Some (view value.new)) }
     ensures mark { IfOk result (λ mark. mark_in (view value.old) ≡ Some (option_map mark_view mark)) }
+    ensures other { IfErr result (λ fault. (fault ≡ MarkFault.Memory) ⊎ (is_put (view value.old) ≡ false)) }
 {
     match value.as_table_mut() {
         Some(table) => mark_any(alloc, table),

@@ -1,10 +1,13 @@
 //! Texts of callers, read: a board with its staxes, a limit, and steps of callers among those of a scenario.
-ghost use Rattle.std.specs.Prelude.{◌≡◌, ◌≤◌, IfOk, Some, string_bytes, true};
-ghost use Rattle.toml.specs.Data.{members_depth};
+ghost use Rattle.std.specs.Prelude.{◌≡◌, ◌≤◌, ◌⊎◌, ◌&&◌, IfErr, IfOk, None, Ok, Some, false, length, string_bytes, true};
+ghost use Rattle.std.specs.List.{list_all};
+ghost use Rattle.toml.specs.Data.{members_depth, members_have_valid_dates};
 ghost use Rattle.toml.specs.Parse.{parse_document};
 ghost use Rattle.toml.specs.View.{table_view};
 ghost use Rattle.evl_base.specs.Board.{board_fits};
-ghost use Rattle.lab_callers_text.specs.Readings.{IsRead, OpensAs, steps_as};
+ghost use Rattle.evl_base.specs.Limits.{stax_fits};
+ghost use Rattle.evl_scenario.specs.Scenarios.{Script, scenario_of};
+ghost use Rattle.lab_callers_text.specs.Readings.{IsRead, IsRefused, IsUnfit, OpensAs, document_of, steps_as};
 
 use crate::acts::CallersStep;
 use crate::documents::make_plain;
@@ -28,7 +31,9 @@ pub struct CallersText {
 
 // The document that a text is.
 fn document_of(alloc: Global, bytes: &[u8]) -> Result<Table, Fault>
-    ensures { IfOk result (λ table. parse_document bytes.now ≡ Some (table_view table)) }
+    ensures parsed { IfOk result (λ table. parse_document bytes.now ≡ Some (table_view table)) }
+    ensures document { IfOk result (λ table. document_of bytes.now ≡ Some (table_view table)) }
+    ensures other { IfErr result (λ e. (e ≡ Fault.Memory) ⊎ ((e ≡ Fault.Text) × (document_of bytes.now ≡ None))) }
 {
     if bytes.len() > MOST_BYTES {
         return Err(Fault::Text);
@@ -48,7 +53,8 @@ fn document_of(alloc: Global, bytes: &[u8]) -> Result<Table, Fault>
 
 // The text of a document in which each step is that of a scenario.
 fn text_of(alloc: Global, table: &Table) -> Result<String, Fault>
-    ensures { IfOk result (λ text. members_depth (table_view table.now) ≤ 80 → parse_document (string_bytes text) ≡ Some (table_view table.now)) }
+    ensures text { IfOk result (λ text. members_depth (table_view table.now) ≤ 80 → parse_document (string_bytes text) ≡ Some (table_view table.now)) }
+    ensures other { IfErr result (λ e. (e ≡ Fault.Memory) ⊎ ((e ≡ Fault.Text) × (members_have_valid_dates (table_view table.now) ≡ false))) }
 {
     match toml::table_to_string(alloc, table) {
         Ok(text) => Ok(text),
@@ -95,6 +101,7 @@ fn read_marked(
 ) -> Result<CallersText, Fault>
     ensures fits { IfOk result (λ t. board_fits t.board ≡ true) }
     ensures opens { IfOk result (OpensAs limit text.now staxes.items marks.items) }
+    ensures other { IfErr result (λ e. (e ≡ Fault.Memory) ⊎ IsUnfit limit text.now staxes.items (length marks.items) e) }
 {
     let (board, limit, steps) = read_scenario(alloc, text.as_bytes(), limit)?.into_parts();
     let board = with_staxes(board, staxes);
@@ -114,10 +121,12 @@ fn read_marked(
     }
 }
 
-/// What a text of callers asks for, under a limit that may be handed in. Faults are those of a scenario.
+/// What a text of callers asks for, under a limit that may be handed in. Faults are those of the scenario that it is but for staxes and
+/// callers' words; `Board` also for staxes out of their range, and `Step` for a step of a caller that misses a key.
 pub fn read_callers(alloc: Global, bytes: &[u8], limit: Option<u32>) -> Result<CallersText, Fault>
     ensures fits { IfOk result (λ t. board_fits t.board ≡ true) }
     ensures opens { IfOk result (IsRead limit bytes.now) }
+    ensures refused { IfErr result (IsRefused limit bytes.now) }
 {
     let mut table = document_of(alloc, bytes)?;
     let (staxes, marks) = make_plain(alloc, &mut table)?;
