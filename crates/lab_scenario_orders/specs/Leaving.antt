@@ -5,7 +5,7 @@ use Rattle.evl_base.specs.declared.call.Call.TheVariants as call
 use Rattle.evl_base.specs.declared.stage.Stage.{Stage}
 use Rattle.evl_base.specs.declared.stage.Stage.TheVariants.{Oob, Inband}
 use Rattle.evl_scenario.specs.declared.steps.Step.{Step}
-use Rattle.lab_scenario_orders.specs.Shares.{AreCallersOf}
+use Rattle.lab_scenario_orders.specs.Shares.{AreCallersOf, limit_with}
 use Rattle.lab_scenario_orders.specs.declared.callers.Caller.{Caller}
 use Rattle.lab_scenario_orders.specs.declared.callers.Callers.{Callers}
 
@@ -36,10 +36,10 @@ leaving_step who = record { who = record { 0 = who }; call = call.SetStage Inban
 abbrev pub leaving_steps : List Step → List Step → List Caller → List Step
 leaving_steps setup steps callers = map (λ caller. leaving_step caller.who.0) (filter (stays_there setup steps) callers)
 
--- the same callers, with these steps more, each as the last one of its thread
+-- the same callers, with these steps more, each as the last one of its thread, and room for them
 pub record AreLeaving (read set : Callers) : Type 0 where
   pub board : set.board ≡ read.board
-  pub limit : set.limit ≡ read.limit
+  pub limit : set.limit ≡ limit_with read.limit (length (leaving_steps read.setup.items read.steps.items read.callers.items))
   pub as_picked : set.as_picked ≡ true
   pub setup : set.setup ≡ read.setup
   pub steps : set.steps.items ≡ read.steps.items ++ leaving_steps read.setup.items read.steps.items read.callers.items

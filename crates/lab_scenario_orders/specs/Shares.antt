@@ -1,7 +1,8 @@
 -- Which steps are whose.
-use Rattle.std.specs.Prelude.{ℕ, ◌+◌, ◌≡◌, ◌==◌, if◌then◌else◌, List, [], ◌∷◌, ◌++◌, All, map}
+use Rattle.std.specs.Prelude.{ℕ, ◌+◌, min, ◌≡◌, ◌==◌, if◌then◌else◌, List, [], ◌∷◌, ◌++◌, All, map}
 use Rattle.std.specs.List.{list_any}
 use Rattle.evl_scenario.specs.declared.steps.Step.{Step}
+use Rattle.evl_kernel.specs.state.Limits.{history_limit}
 use Rattle.lab_scenario_orders.specs.declared.callers.Caller.{Caller}
 
 -- the places of a thread's steps, where the first of these steps has the place n
@@ -22,3 +23,7 @@ threads_after threads (step ∷ steps) = threads_after (with_thread threads step
 pub record AreCallersOf (steps : List Step) (callers : List Caller) : Type 0 where
   pub threads : map (λ caller. caller.who.0) callers ≡ threads_after [] steps
   pub places : All (λ caller. caller.places.items ≡ places_from 0 caller.who.0 steps) callers
+
+-- a limit with room for so many entries more, as far as a history can have it
+abbrev pub limit_with : ℕ → ℕ → ℕ
+limit_with limit more = min (limit + more) history_limit

@@ -1,7 +1,7 @@
 //! The callers of a scenario.
 ghost use Rattle.std.specs.Prelude.{◌≡◌, ◌==◌, ◌++◌, All, IfOk, OnOk, drop, false, length, map, take, true};
 ghost use Rattle.std.specs.List.{list_any};
-ghost use Rattle.lab_scenario_orders.specs.Shares.{AreCallersOf, places_from, with_thread};
+ghost use Rattle.lab_scenario_orders.specs.Shares.{AreCallersOf, limit_with, places_from, with_thread};
 
 use evl_base::{Board, ThreadId};
 use evl_scenario::{Scenario, Step};
@@ -118,6 +118,19 @@ fn joined(steps: Vec<Step>, others: Vec<Step>) -> Result<Vec<Step>, AllocError>
     Ok(all)
 }
 
+// The most entries that a history may have.
+const MAX_LIMIT: u32 = 1_000_000;
+
+// A limit with room for so many entries more, as far as a history can have it.
+fn limit_with(limit: u32, more: usize) -> u32
+    ensures { result ≡ limit_with limit more }
+{
+    match u32::try_from(more) {
+        Ok(more) => limit.saturating_add(more).min(MAX_LIMIT),
+        Err(_) => MAX_LIMIT,
+    }
+}
+
 impl Callers {
     /// The callers that have these steps. `AllocError` where memory couldn't grow.
     pub(crate) fn of_steps(
@@ -170,10 +183,10 @@ impl Callers {
         Callers::of_steps(alloc, board, limit, false, setup, steps)
     }
 
-    /// The same with steps more, made as threads are picked. `AllocError` where memory couldn't grow.
+    /// The same with steps more and room for them, made as threads are picked. `AllocError` where memory couldn't grow.
     pub(crate) fn with_steps(self, alloc: Global, more: Vec<Step>) -> Result<Callers, AllocError>
         ensures board { IfOk result (λ set. set.board ≡ self.board) }
-        ensures limit { IfOk result (λ set. set.limit ≡ self.limit) }
+        ensures limit { IfOk result (λ set. set.limit ≡ limit_with self.limit (length more.items)) }
         ensures as_picked { IfOk result (λ set. set.as_picked ≡ true) }
         ensures setup { IfOk result (λ set. set.setup ≡ self.setup) }
         ensures steps { IfOk result (λ set. set.steps.items ≡ self.steps.items ++ more.items) }
@@ -189,6 +202,7 @@ impl Callers {
             count: _,
         } = self;
         drop(callers);
+        let limit = limit_with(limit, more.as_slice().len());
         match joined(steps, more) {
             Ok(all) => Callers::of_steps(alloc, board, limit, true, setup, all),
             Err(error) => Err(error),
