@@ -5,7 +5,7 @@ use Rattle.lab_scenario_orders.specs.Verdicts.{is_count_against}
 use Rattle.lab_scenario_orders.specs.declared.asks.Ask.{Ask}
 use Rattle.lab_step_orders.specs.declared.outcomes.StepOutcomes.{StepOutcomes}
 use Rattle.lab_streams.specs.Endings.{line_about}
-use Rattle.lab_asks.specs.StepOrders.{wanted_text}
+use Rattle.lab_asks.specs.StepOrders.{line_words, wanted_text}
 
 pub is_first : (b : Bool) (A B : Type 0) → b ≡ true → A → MatchBool b A B
 is_first true A B e a = a
@@ -21,6 +21,9 @@ pub step_line : (name words said : List ℕ) (number : ℕ) → said ≡ words
 step_line name words said number same =
     ap (λ (w : List ℕ). name ++ (codes ": bad step " ++ (decimal number ++ (codes ": " ++ (w ++ codes "\n"))))) same
     ∙ ap (λ (rest : List ℕ). name ++ (codes ": bad step " ++ rest)) (sym (append_assoc (decimal number) (codes ": " ++ words) (codes "\n")))
+
+pub about_line : (name words : List ℕ) (number : ℕ) → name ++ (codes ": line " ++ (decimal number ++ (codes ": " ++ (words ++ codes "\n")))) ≡ line_about name (line_words number words)
+about_line name words number = ap (λ (rest : List ℕ). name ++ (codes ": line " ++ rest)) (sym (append_assoc (decimal number) (codes ": " ++ words) (codes "\n")))
 
 -- other outcomes than as many as are asked for
 pub counted_text : (name : List ℕ) (asks : Ask) (found : StepOutcomes) (o : Option ℕ) (wanted : ℕ) → o ≡ Some wanted → is_count_against wanted found.whole (length found.all.items) ≡ true

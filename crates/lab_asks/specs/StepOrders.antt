@@ -1,12 +1,12 @@
 -- What `lab orders` tells of the orders of callers' atomic steps.
-use Rattle.std.specs.Prelude.{◌≡◌, ◌⊎◌, ◌+◌, ◌-◌, ◌^◌, min, ℕ, Bool, ◌||◌, MatchBool, if◌then◌else◌, length, nat_lt, List, ◌++◌, codes, decimal, position, slice_get, string_bytes, Option, Some, None, IsSomeAnd, option_and_then}
+use Rattle.std.specs.Prelude.{◌≡◌, ◌⊎◌, ◌+◌, ◌-◌, ◌^◌, min, ℕ, Bool, ◌||◌, MatchBool, if◌then◌else◌, length, nat_lt, List, ◌++◌, codes, decimal, position, slice_get, string_bytes, Option, Some, None, IsSomeAnd, option_and_then, Result, Ok, Err}
 use Rattle.toml.specs.Parse.{parse_document}
 use Rattle.lab_orders.specs.declared.levels.OrdersError.TheVariants.{Count}
 use Rattle.lab_orders.specs.declared.tallies.Tally.{Tally}
 use Rattle.lab_scenario_orders.specs.Asks.{Asks, ask_table, is_against}
 use Rattle.lab_scenario_orders.specs.KeyLines.{IsPlaced}
 use Rattle.lab_scenario_orders.specs.Splits.{ask_part}
-use Rattle.lab_scenario_orders.specs.Verdicts.{asks_anything, is_count_against}
+use Rattle.lab_scenario_orders.specs.Verdicts.{asks_anything, is_count_against, state_against}
 use Rattle.lab_scenario_orders.specs.declared.asks.Ask.{Ask}
 use Rattle.lab_scenario_orders.specs.declared.asks.AskFault.{AskFault}
 use Rattle.lab_scenario_orders.specs.declared.asks.Never.{Never}
@@ -15,10 +15,12 @@ use Rattle.lab_step_orders.specs.Reports.{outcome_text, report_text}
 use Rattle.lab_step_orders.specs.declared.crews.Crew.{Crew}
 use Rattle.lab_step_orders.specs.declared.outcomes.StepOutcomes.{StepOutcomes}
 use Rattle.lab_step_texts.specs.Answers.{first_impossible}
+use Rattle.lab_step_texts.specs.Asks.{IsAskOf}
 use Rattle.lab_step_texts.specs.Crews.{IsReadAs, IsRefused}
 use Rattle.lab_step_texts.specs.Faults.{step_words}
+use Rattle.lab_step_texts.specs.Questions.{unasked_part}
 use Rattle.lab_step_texts.specs.declared.faults.StepsFault.{StepsFault}
-use Rattle.lab_step_texts.specs.declared.faults.StepsFault.TheVariants.{Text, Mixed, Mutex, Step, WhatIf}
+use Rattle.lab_step_texts.specs.declared.faults.StepsFault.TheVariants.{Text, Mixed, Mutex, Limit, Step, WhatIf, Question, Lacking}
 use Rattle.lab_streams.specs.Endings.{fault_words, line_about}
 use Rattle.lab_asks.specs.Asks.{ask_fault_line, impossible_text}
 use Rattle.lab_streams.specs.Outputs.{Output, refuses}
@@ -59,13 +61,31 @@ abbrev pub wanted_status : Ask → StepOutcomes → Option ℕ → ℕ
 wanted_status asks found None = none_status asks found
 wanted_status asks found (Some wanted) = if is_count_against wanted found.whole (length found.all.items) then 1 else none_status asks found
 
+-- or what was found of the question about moments with this number is against it
+abbrev pub first_state : Ask → StepOutcomes → Option ℕ
+first_state asks found = state_against found.firsts.items found.whole 0 asks.watches.items
+
+abbrev pub state_text : List ℕ → Ask → StepOutcomes → Option ℕ → List ℕ
+state_text name asks found None = wanted_text name asks found asks.outcomes
+state_text name asks found (Some place) = codes "lab: " ++ (name ++ (codes ": state " ++ (decimal (min (place + 1) (2 ^ 64 - 1)) ++ codes " is against what is asked\n")))
+
+abbrev pub state_status : Ask → StepOutcomes → Option ℕ → ℕ
+state_status asks found None = wanted_status asks found asks.outcomes
+state_status asks found (Some place) = 1
+
+abbrev pub states_text : List ℕ → Ask → StepOutcomes → List ℕ
+states_text name asks found = state_text name asks found (first_state asks found)
+
+abbrev pub states_status : Ask → StepOutcomes → ℕ
+states_status asks found = state_status asks found (first_state asks found)
+
 -- or the outcome with this number is against it, from 1
 abbrev pub asked_text : List ℕ → Ask → StepOutcomes → Option ℕ → List ℕ
-asked_text name asks found None = wanted_text name asks found asks.outcomes
+asked_text name asks found None = states_text name asks found
 asked_text name asks found (Some place) = codes "lab: " ++ (name ++ (codes ": outcome " ++ (decimal (min (place + 1) (2 ^ 64 - 1)) ++ codes " is against what is asked\n")))
 
 abbrev pub asked_status : Ask → StepOutcomes → Option ℕ → ℕ
-asked_status asks found None = wanted_status asks found asks.outcomes
+asked_status asks found None = states_status asks found
 asked_status asks found (Some place) = 1
 
 -- this is printed, and what came of what is asked is said
@@ -79,58 +99,70 @@ abbrev pub one_told : List ℕ → ℕ → Crew → Ask → StepOutcomes → Opt
 one_told name number crew asks found None = refuses 2 (line_about name (codes "there is no outcome " ++ decimal number))
 one_told name number crew asks found (Some outcome) = verdict (outcome_of crew number outcome) name asks found
 
--- the report, or one outcome alone; there are no questions about moments, no JSON, and no order alone
-abbrev pub outcomes_told : Shown → List ℕ → Crew → Ask → StepOutcomes → Output
-outcomes_told Report name crew asks found = verdict (report_of crew found) name asks found
-outcomes_told Json name crew asks found = refuses 2 (line_about name (codes "--json is for orders of whole calls"))
-outcomes_told (Outcome number) name crew asks found = one_told name number crew asks found (slice_get found.all.items (number - 1))
-outcomes_told (State number) name crew asks found = refuses 2 (line_about name (codes "no order leads to state " ++ decimal number))
-outcomes_told Alone name crew asks found = refuses 2 (line_about name (codes "--ask is for orders of whole calls"))
-outcomes_told First name crew asks found = refuses 2 (line_about name (codes "--first is for orders of whole calls"))
-outcomes_told (Order text) name crew asks found = refuses 2 (line_about name (codes "--order is for orders of whole calls"))
+-- the report, or one outcome alone
+abbrev pub outcomes_told : Option ℕ → List ℕ → Crew → Ask → StepOutcomes → Output
+outcomes_told None name crew asks found = verdict (report_of crew found) name asks found
+outcomes_told (Some number) name crew asks found = one_told name number crew asks found (slice_get found.all.items (number - 1))
 
 -- the outcomes of all orders, or that there are more of these, or of runs of one length, than a count can tell
-abbrev pub TellsFound : ℕ → Shown → List ℕ → Crew → Ask → Output → Type 0
+abbrev pub TellsFound : ℕ → Option ℕ → List ℕ → Crew → Ask → Output → Type 0
 TellsFound most one name crew asks output =
     ((found : StepOutcomes) × AreOutcomes crew most found × (output ≡ outcomes_told one name crew asks found))
     ⊎ (CanNotTell crew Count × (output ≡ refuses 2 (line_about name (codes "more orders than can be counted"))))
+
+-- the number of the outcome that is asked for alone, if one is; or why orders of steps can't be told so
+abbrev pub told_for : Shown → Result (Option ℕ) (List ℕ)
+told_for Report = Ok None
+told_for (Outcome number) = Ok (Some number)
+told_for Json = Err (codes "--json is for orders of whole calls")
+told_for (State number) = Err (codes "--state is for orders of whole calls")
+told_for Alone = Err (codes "--ask is for orders of whole calls")
+told_for First = Err (codes "--first is for orders of whole calls")
+told_for (Order text) = Err (codes "--order is for orders of whole calls")
+
+abbrev pub TellsGone : ℕ → List ℕ → Crew → Ask → Result (Option ℕ) (List ℕ) → Output → Type 0
+TellsGone most name crew asks (Ok one) output = TellsFound most one name crew asks output
+TellsGone most name crew asks (Err words) output = output ≡ refuses 2 (line_about name words)
 
 -- ---- what is asked
 
 -- where each answer of `never` is possible
 abbrev pub TellsPossible : ℕ → Shown → List ℕ → Crew → Ask → Option Never → Output → Type 0
-TellsPossible most one name crew asks None output = TellsFound most one name crew asks output
+TellsPossible most one name crew asks None output = TellsGone most name crew asks (told_for one) output
 TellsPossible most one name crew asks (Some never) output = output ≡ refuses 2 (impossible_text name never None)
 
 unfoldable pub impossible_in : Crew → Ask → Option Never
 impossible_in crew asks = first_impossible crew.callers.items asks.never.items
 
--- what can't be asked of orders of steps: threads aren't picked, and no facts are known of a moment
+-- what can't be asked of orders of steps: threads aren't picked
 abbrev pub asks_whole : Ask → Bool
-asks_whole asks = asks.as_picked || nat_lt 0 (length asks.watches.items)
+asks_whole asks = asks.as_picked
 
 abbrev pub TellsUnpicked : ℕ → Shown → List ℕ → Crew → Ask → Bool → Output → Type 0
 TellsUnpicked most one name crew asks whole output =
-    MatchBool whole (output ≡ refuses 2 (line_about name (codes "as_picked, never_state, sometimes and always are for orders of whole calls"))) (TellsPossible most one name crew asks (impossible_in crew asks) output)
-
--- the tables `[ask]` of a text ask this
-abbrev pub IsAskOf : List ℕ → Ask → Type 0
-IsAskOf text asks = IsSomeAnd (option_and_then ask_table (parse_document (ask_part text))) (λ table. Asks table asks)
+    MatchBool whole (output ≡ refuses 2 (line_about name (codes "as_picked is for orders of whole calls"))) (TellsPossible most one name crew asks (impossible_in crew asks) output)
 
 -- what is asked; or it can't be read, for some fault
 abbrev pub TellsAsked : ℕ → Shown → List ℕ → Crew → List ℕ → Output → Type 0
 TellsAsked most one name crew text output =
-    ((asks : Ask) × IsAskOf text asks × TellsUnpicked most one name crew asks (asks_whole asks) output)
-    ⊎ ((fault : AskFault) × IsPlaced text fault × IsSomeAnd (ask_fault_line name fault) (λ line. output ≡ refuses 2 line))
+    ((asks : Ask) × IsAskOf text crew asks × TellsUnpicked most one name crew asks (asks_whole asks) output)
+    ⊎ ((fault : AskFault) × IsPlaced (unasked_part text) fault × IsSomeAnd (ask_fault_line name fault) (λ line. output ≡ refuses 2 line))
 
 -- ---- the text
+
+-- these words about a line
+abbrev pub line_words : ℕ → List ℕ → List ℕ
+line_words line words = codes "line " ++ (decimal line ++ (codes ": " ++ words))
 
 -- why it isn't gone through
 abbrev pub steps_fault_words : StepsFault → Option (List ℕ)
 steps_fault_words (Text fault) = fault_words fault
 steps_fault_words Mixed = Some (codes "a [[setup]] behind a [[step]]")
 steps_fault_words Mutex = Some (codes "bad board: a mutex that nests or has a ceiling goes through the core's lock")
+steps_fault_words Limit = Some (codes "more steps than the limit")
 steps_fault_words WhatIf = Some (codes "[what_if] has one line, with true: offer_drops_mark, claim_sets_no_mark, unlock_skips_kernel or leave_keeps_mark")
+steps_fault_words (Question line) = Some (line_words line (codes "facts are asked on one line, as never_state = [\"T1 has the core and mutex 0 claimed\"]"))
+steps_fault_words (Lacking line) = Some (line_words line (codes "it asks of a thread, a stax or a mutex that the board lacks"))
 steps_fault_words (Step number fault) = Some (codes "bad step " ++ (decimal number ++ (codes ": " ++ step_words fault)))
 
 abbrev pub TellsSteps : ℕ → Shown → List ℕ → List ℕ → Output → Type 0

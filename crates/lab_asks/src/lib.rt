@@ -3,6 +3,7 @@
 
 mod alone;
 mod copies;
+mod numbered;
 mod one_order;
 mod order_faults;
 mod orders;

@@ -1,14 +1,14 @@
 //! `lab orders`: every order in which the callers of a scenario may come.
-ghost use Rattle.std.specs.Prelude.{◌≡◌, ◌-◌, ◌++◌, codes, decimal, map, option_map, slice_get, IfOk, OnOk, IfErr, false};
+ghost use Rattle.std.specs.Prelude.{◌≡◌, map, option_map, IfOk, OnOk, IfErr, false};
 ghost use Rattle.std.specs.Io.KnownBytes.{Appends};
 ghost use Rattle.evl_plans.specs.Told.{handler_of};
-ghost use Rattle.lab_streams.specs.Endings.{line_about};
-ghost use Rattle.lab_asks.specs.Orders.{IsSetTo, IsUnpicked, TellsAll, TellsAsked, TellsEither, TellsGiven, TellsOrders, TellsOutcomes, TellsPossible, TellsRead, TellsText, impossible_in, json_of, json_told, order_at, order_in, order_of, outcomes_told, report_of, report_told, scenario_of, scenario_told, state_told, text_name};
+ghost use Rattle.lab_asks.specs.Orders.{IsSetTo, IsUnpicked, TellsAll, TellsAsked, TellsEither, TellsGiven, TellsOrders, TellsOutcomes, TellsPossible, TellsRead, TellsText, impossible_in, json_of, json_told, order_of, outcomes_told, report_of, report_told, scenario_of, scenario_told, state_told, text_name};
 ghost use Rattle.lab_streams.specs.Outputs.{Writes, WritesOfText};
 ghost use Rattle.lab_streams.specs.Streams.{EndsEarly};
 
 use crate::alone::tell_alone;
 use crate::copies::Copies;
+use crate::numbered::{order_at, outcome_at, tell_no_outcome, tell_no_state};
 use crate::one_order::{print_order, tell_first, tell_order};
 use crate::order_faults::{tell_ask_fault, tell_impossible, tell_text_fault};
 use crate::step_orders::tell_steps;
@@ -16,7 +16,7 @@ use crate::verdicts::tell_against;
 use evl_plans::Planned;
 use lab_kinds::kind_of;
 use lab_lines::callers_text;
-use lab_orders::{First, OrdersError, Tally};
+use lab_orders::{OrdersError, Tally};
 use lab_scenario_orders::{
     Ask, Asked as Answered, Callers, Never, ask_all, first_impossible, leaving, read_ask,
     read_callers, write_json, write_report,
@@ -131,16 +131,6 @@ fn print_scenario<O: Stream>(
     print_order(alloc, callers, bank, outcome.order.as_slice(), out)
 }
 
-/// Tells that there is no outcome with this number, and answers the status.
-pub fn tell_no_outcome<E: Stream>(err: &mut E, name: &str, number: u32) -> io::Result<u8>
-    ensures status { IfOk result (λ status. status ≡ 2) }
-    ensures line { OnOk result (Appends (E.contents err.old) (E.contents err.new) (line_about name.now (codes "there is no outcome " ++ decimal number))) }
-    ensures early { IfErr result (EndsEarly false false (E.has_failed err.new)) }
-{
-    writeln!(err, "{name}: there is no outcome {number}")?;
-    Ok(AT_FAULT)
-}
-
 // Prints the scenario of this outcome alone, tells what came of what is asked, and answers the status.
 fn tell_scenario<O: Stream, E: Stream>(
     alloc: Global,
@@ -164,16 +154,6 @@ fn tell_scenario<O: Stream, E: Stream>(
         }
         None => tell_no_outcome(err, asked.name(), number),
     }
-}
-
-/// Tells that no order leads to a moment as the question with this number looks for, and answers the status.
-pub fn tell_no_state<E: Stream>(err: &mut E, name: &str, number: u32) -> io::Result<u8>
-    ensures status { IfOk result (λ status. status ≡ 2) }
-    ensures line { OnOk result (Appends (E.contents err.old) (E.contents err.new) (line_about name.now (codes "no order leads to state " ++ decimal number))) }
-    ensures early { IfErr result (EndsEarly false false (E.has_failed err.new)) }
-{
-    writeln!(err, "{name}: no order leads to state {number}")?;
-    Ok(AT_FAULT)
 }
 
 // Prints the first order to a moment as the question with this number looks for, if there is one, tells what came of what
@@ -200,33 +180,6 @@ fn tell_state<O: Stream, E: Stream>(
         }
         None => tell_no_state(err, asked.name(), number),
     }
-}
-
-// The order to a first moment, if there is one.
-fn order_in(first: &First) -> Option<&[u16]>
-    ensures { option_map (λ places. places.now) result ≡ order_in first.now }
-{
-    match first {
-        First::After(order) => Some(order.as_slice()),
-        First::Nowhere => None,
-    }
-}
-
-// The first order of the question with this number, from 1.
-fn order_at(all: &[First], number: u32) -> Option<&[u16]>
-    ensures { option_map (λ places. places.now) result ≡ order_at all.now number }
-{
-    match all.get(number.saturating_sub(1) as usize) {
-        Some(first) => order_in(first),
-        None => None,
-    }
-}
-
-/// The outcome with this number, from 1.
-pub fn outcome_at(all: &[Tally], number: u32) -> Option<&Tally>
-    ensures { option_map (λ outcome. outcome.now) result ≡ slice_get all.now (number - 1) }
-{
-    all.get(number.saturating_sub(1) as usize)
 }
 
 // Prints what is asked for of the outcomes, tells what came of what is asked, and answers the status.

@@ -1,18 +1,19 @@
 //! `lab orders` on a text of callers: every order of their atomic steps on words.
-ghost use Rattle.std.specs.Prelude.{◌≡◌, ◌-◌, ◌++◌, codes, decimal, option_map, slice_get, string_bytes, IfOk, OnOk, IsSomeAnd, IfErr, false};
+ghost use Rattle.std.specs.Prelude.{◌≡◌, ◌-◌, ◌++◌, codes, decimal, option_map, slice_get, string_bytes, Err, None, Ok, IfOk, OnOk, IsSomeAnd, IfErr, false};
 ghost use Rattle.std.specs.Io.KnownBytes.{Appends};
 ghost use Rattle.lab_streams.specs.Endings.{line_about};
 ghost use Rattle.lab_asks.specs.Orders.{impossible_text, text_name};
 ghost use Rattle.lab_streams.specs.Outputs.{Writes};
-ghost use Rattle.lab_asks.specs.StepOrders.{TellsAsked, TellsFound, TellsPossible, TellsSteps, TellsUnpicked, asked_status, asked_text, asks_whole, first_against, impossible_in, none_status, none_text, one_told, outcome_of, outcomes_told, report_of, steps_fault_words, verdict, wanted_status, wanted_text};
+ghost use Rattle.lab_asks.specs.StepOrders.{TellsAsked, TellsFound, TellsGone, TellsPossible, TellsSteps, TellsUnpicked, asked_status, asked_text, asks_whole, first_against, impossible_in, line_words, none_status, none_text, one_told, outcome_of, outcomes_told, report_of, states_status, states_text, steps_fault_words, told_for, verdict, wanted_status, wanted_text};
 ghost use Rattle.lab_streams.specs.Streams.{EndsEarly};
-ghost use Rattle.lab_streams.specs.declared.words.Shown.TheVariants.{Report};
 
+use crate::numbered::{outcome_at, tell_no_outcome};
 use crate::order_faults::{tell_ask_fault, tell_meant};
-use crate::orders::{outcome_at, tell_no_outcome, tell_no_state};
 use crate::verdicts::{tell_holds, tell_unanswered};
 use lab_orders::{OrdersError, Tally};
-use lab_scenario_orders::{Ask, Never, asks_anything, first_against, is_count_against};
+use lab_scenario_orders::{
+    Ask, Never, asks_anything, first_against, is_count_against, state_against,
+};
 use lab_step_orders::{
     Crew, StepOutcomes, step_outcomes_of, write_step_outcome, write_step_report,
 };
@@ -60,6 +61,27 @@ fn tell_number<E: Stream>(
     tell_none(err, name, ask, found)
 }
 
+// Tells the first question about moments against which it is what was found, and else what holds, and answers the status.
+fn tell_states<E: Stream>(
+    err: &mut E,
+    name: &str,
+    ask: &Ask,
+    found: &StepOutcomes,
+) -> io::Result<u8>
+    ensures status { IfOk result (λ status. status ≡ states_status ask.now found.now) }
+    ensures line { OnOk result (Appends (E.contents err.old) (E.contents err.new) (states_text name.now ask.now found.now)) }
+    ensures early { IfErr result (EndsEarly false false (E.has_failed err.new)) }
+{
+    match state_against(ask.watches.as_slice(), found.firsts.as_slice(), found.whole) {
+        Some(place) => {
+            let number = place.saturating_add(1);
+            writeln!(err, "lab: {name}: state {number} is against what is asked")?;
+            Ok(AGAINST)
+        }
+        None => tell_number(err, name, ask, found),
+    }
+}
+
 // Tells what came of what is asked, and answers the status.
 fn tell_against<E: Stream>(
     err: &mut E,
@@ -80,7 +102,7 @@ fn tell_against<E: Stream>(
         )?;
         return Ok(AGAINST);
     }
-    tell_number(err, name, ask, found)
+    tell_states(err, name, ask, found)
 }
 
 // The place of the first outcome that is against what is asked.
@@ -138,7 +160,7 @@ fn tell_report<O: Stream, E: Stream>(
     out: &mut O,
     err: &mut E,
 ) -> io::Result<u8>
-    ensures writes { IfOk result (Writes (λ output. output ≡ outcomes_told Report name.now crew.now ask.now found.now) (O.contents out.old) (O.contents out.new) (E.contents err.old) (E.contents err.new)) }
+    ensures writes { IfOk result (Writes (λ output. output ≡ outcomes_told None name.now crew.now ask.now found.now) (O.contents out.old) (O.contents out.new) (E.contents err.old) (E.contents err.new)) }
     ensures early { IfErr result (EndsEarly false (O.has_failed out.new) (E.has_failed err.new)) }
 {
     match report_of(alloc, crew, found) {
@@ -189,51 +211,25 @@ fn tell_one<O: Stream, E: Stream>(
     }
 }
 
-// Prints what is asked for of the outcomes, and answers the status.
+// Prints the report, or the outcome with this number alone, and answers the status.
 fn tell_found<O: Stream, E: Stream>(
     alloc: Global,
-    asked: &Asked<'_>,
+    name: &str,
+    number: Option<u32>,
     crew: &Crew,
     ask: &Ask,
     found: &StepOutcomes,
     out: &mut O,
     err: &mut E,
 ) -> io::Result<u8>
-    ensures writes { IfOk result (Writes (λ output. output ≡ outcomes_told asked.now.shown (text_name asked.now) crew.now ask.now found.now) (O.contents out.old) (O.contents out.new) (E.contents err.old) (E.contents err.new)) }
+    ensures writes { IfOk result (Writes (λ output. output ≡ outcomes_told number name.now crew.now ask.now found.now) (O.contents out.old) (O.contents out.new) (E.contents err.old) (E.contents err.new)) }
     ensures early { IfErr result (EndsEarly false (O.has_failed out.new) (E.has_failed err.new)) }
 {
-    match asked.shown {
-        Shown::Report => tell_report(alloc, asked.name(), crew, ask, found, out, err),
-        Shown::Json => {
-            let told = tell_refused(err, asked.name(), "--json is for orders of whole calls");
-            refused(told)
-        }
-        Shown::Outcome(number) => {
+    match number {
+        None => tell_report(alloc, name, crew, ask, found, out, err),
+        Some(number) => {
             let outcome = outcome_at(found.all.as_slice(), number);
-            tell_one(
-                alloc,
-                asked.name(),
-                number,
-                crew,
-                ask,
-                found,
-                outcome,
-                out,
-                err,
-            )
-        }
-        Shown::State(number) => tell_no_state(err, asked.name(), number),
-        Shown::Alone => {
-            let told = tell_refused(err, asked.name(), "--ask is for orders of whole calls");
-            refused(told)
-        }
-        Shown::First => {
-            let told = tell_refused(err, asked.name(), "--first is for orders of whole calls");
-            refused(told)
-        }
-        Shown::Order(_) => {
-            let told = tell_refused(err, asked.name(), "--order is for orders of whole calls");
-            refused(told)
+            tell_one(alloc, name, number, crew, ask, found, outcome, out, err)
         }
     }
 }
@@ -242,21 +238,56 @@ fn tell_found<O: Stream, E: Stream>(
 fn go_through<O: Stream, E: Stream>(
     alloc: Global,
     asked: &Asked<'_>,
+    number: Option<u32>,
     crew: &Crew,
     ask: &Ask,
     out: &mut O,
     err: &mut E,
 ) -> io::Result<u8>
-    ensures writes { IfOk result (Writes (TellsFound asked.now.most asked.now.shown (text_name asked.now) crew.now ask.now) (O.contents out.old) (O.contents out.new) (E.contents err.old) (E.contents err.new)) }
+    ensures writes { IfOk result (Writes (TellsFound asked.now.most number (text_name asked.now) crew.now ask.now) (O.contents out.old) (O.contents out.new) (E.contents err.old) (E.contents err.new)) }
     ensures early { IfErr result (EndsEarly false (O.has_failed out.new) (E.has_failed err.new)) }
 {
     match step_outcomes_of(alloc, crew, asked.most) {
-        Ok(found) => tell_found(alloc, asked, crew, ask, &found, out, err),
+        Ok(found) => tell_found(alloc, asked.name(), number, crew, ask, &found, out, err),
         Err(OrdersError::Count) => {
             let told = tell_refused(err, asked.name(), "more orders than can be counted");
             refused(told)
         }
         Err(OrdersError::Memory) => Err(AllocError.into()),
+    }
+}
+
+// The number of the outcome that is asked for alone, if one is; or why orders of steps can't be told so.
+fn told_for(shown: Shown<'_>) -> Result<Option<u32>, &'static str>
+    ensures number { IfOk result (λ number. told_for shown.entry ≡ Ok number) }
+    ensures words { IfErr result (λ words. told_for shown.entry ≡ Err words.now) }
+{
+    match shown {
+        Shown::Report => Ok(None),
+        Shown::Outcome(number) => Ok(Some(number)),
+        Shown::Json => Err("--json is for orders of whole calls"),
+        Shown::State(_) => Err("--state is for orders of whole calls"),
+        Shown::Alone => Err("--ask is for orders of whole calls"),
+        Shown::First => Err("--first is for orders of whole calls"),
+        Shown::Order(_) => Err("--order is for orders of whole calls"),
+    }
+}
+
+// Goes through all orders, unless they can't be told as is asked; answers the status.
+fn tell_gone<O: Stream, E: Stream>(
+    alloc: Global,
+    asked: &Asked<'_>,
+    crew: &Crew,
+    ask: &Ask,
+    out: &mut O,
+    err: &mut E,
+) -> io::Result<u8>
+    ensures writes { IfOk result (Writes (TellsGone asked.now.most (text_name asked.now) crew.now ask.now (told_for asked.now.shown)) (O.contents out.old) (O.contents out.new) (E.contents err.old) (E.contents err.new)) }
+    ensures early { IfErr result (EndsEarly false (O.has_failed out.new) (E.has_failed err.new)) }
+{
+    match told_for(asked.shown) {
+        Ok(number) => go_through(alloc, asked, number, crew, ask, out, err),
+        Err(words) => refused(tell_refused(err, asked.name(), words)),
     }
 }
 
@@ -286,7 +317,7 @@ fn tell_possible<O: Stream, E: Stream>(
     ensures early { IfErr result (EndsEarly false (O.has_failed out.new) (E.has_failed err.new)) }
 {
     match found {
-        None => go_through(alloc, asked, crew, ask, out, err),
+        None => tell_gone(alloc, asked, crew, ask, out, err),
         Some(never) => refused(tell_meant(alloc, err, asked.name(), never, None)),
     }
 }
@@ -321,11 +352,7 @@ fn tell_unpicked<O: Stream, E: Stream>(
     ensures early { IfErr result (EndsEarly false (O.has_failed out.new) (E.has_failed err.new)) }
 {
     if whole {
-        let told = tell_refused(
-            err,
-            asked.name(),
-            "as_picked, never_state, sometimes and always are for orders of whole calls",
-        );
+        let told = tell_refused(err, asked.name(), "as_picked is for orders of whole calls");
         refused(told)
     } else {
         tell_asked(alloc, asked, crew, ask, out, err)
@@ -336,7 +363,7 @@ fn tell_unpicked<O: Stream, E: Stream>(
 fn asks_whole(ask: &Ask) -> bool
     ensures { result ≡ asks_whole ask.now }
 {
-    ask.as_picked || ask.watches.len() > 0
+    ask.as_picked
 }
 
 // Tells what is asked of callers, and answers the status.
@@ -375,6 +402,15 @@ fn tell_step<E: Stream>(
     Ok(true)
 }
 
+// Tells what is wrong with a line.
+fn tell_line<E: Stream>(err: &mut E, name: &str, line: usize, words: &str) -> io::Result<bool>
+    ensures text { OnOk result (Appends (E.contents err.old) (E.contents err.new) (line_about name.now (line_words line words.now))) }
+    ensures early { IfErr result (EndsEarly false false (E.has_failed err.new)) }
+{
+    writeln!(err, "{name}: line {line}: {words}")?;
+    Ok(true)
+}
+
 // Tells why a text isn't gone through.
 fn tell_steps_fault<E: Stream>(err: &mut E, name: &str, fault: StepsFault) -> io::Result<bool>
     ensures text { OnOk result (IsSomeAnd (steps_fault_words fault) (λ words. Appends (E.contents err.old) (E.contents err.new) (line_about name.now words))) }
@@ -390,11 +426,28 @@ fn tell_steps_fault<E: Stream>(err: &mut E, name: &str, fault: StepsFault) -> io
                 "bad board: a mutex that nests or has a ceiling goes through the core's lock",
             )
         }
+        StepsFault::Limit => tell_refused(err, name, "more steps than the limit"),
         StepsFault::WhatIf => {
             tell_refused(
                 err,
                 name,
                 "[what_if] has one line, with true: offer_drops_mark, claim_sets_no_mark, unlock_skips_kernel or leave_keeps_mark",
+            )
+        }
+        StepsFault::Question(line) => {
+            tell_line(
+                err,
+                name,
+                line,
+                "facts are asked on one line, as never_state = [\"T1 has the core and mutex 0 claimed\"]",
+            )
+        }
+        StepsFault::Lacking(line) => {
+            tell_line(
+                err,
+                name,
+                line,
+                "it asks of a thread, a stax or a mutex that the board lacks",
             )
         }
         StepsFault::Step(number, fault) => tell_step(err, name, number, fault),

@@ -24,7 +24,7 @@ use Rattle.lab_callers_text.specs.declared.reading.CallersText.{CallersText}
 use Rattle.lab_kinds.specs.Asking.{AskedLast}
 use Rattle.lab_kinds.specs.Callers.{CallersTell}
 use Rattle.lab_kinds.specs.Kinds.{is_headed, kind_of}
-use Rattle.lab_kinds.specs.Plains.{plain_within}
+use Rattle.lab_kinds.specs.Plains.{plain_within, unquestioned_within}
 use Rattle.lab_kinds.specs.Tables.{field_faults}
 use Rattle.lab_kinds.specs.Words.{ask_keys, is_word, step_ask_keys}
 use Rattle.lab_kinds.specs.declared.kinds.TextKind.{TextKind}
@@ -115,7 +115,7 @@ refusal_answers =
 
 -- what steps of callers alone are answered
 unfoldable pub step_answers : List (List ℕ)
-step_answers = codes "pass" ∷ codes "Raced" ∷ codes "done, others want in" ∷ []
+step_answers = codes "pass" ∷ codes "Raced" ∷ codes "CoreBusy" ∷ codes "done, others want in" ∷ []
 
 abbrev pub has_front : List ℕ → List ℕ → Bool
 has_front answer front = begins front answer
@@ -199,23 +199,23 @@ abbrev pub StepsTell : List ℕ → List ℕ → ℕ → List ℕ → List Told 
 StepsTell text scenario setup asked faults =
     ((read : CallersText) × IsRead None scenario read × AskedTells text scenario setup asked faults) ⊎ ((fault : Fault) × CallersTell scenario fault faults)
 
-abbrev pub PartsTell : List ℕ → List ℕ → List ℕ → ℕ → List ℕ → List Told → Type 0
-PartsTell text scenario plain setup asked faults =
-    MatchBool (is_of_steps scenario) (StepsTell text plain setup asked faults) (TextTells text scenario setup asked faults)
+abbrev pub PartsTell : List ℕ → List ℕ → List ℕ → ℕ → List ℕ → List ℕ → List Told → Type 0
+PartsTell text scenario plain setup asked own faults =
+    MatchBool (is_of_steps scenario) (StepsTell text plain setup own faults) (TextTells text scenario setup asked faults)
 
 -- where nothing is found in its parts, the orders of whole calls can be asked for, or are refused for what reads them
 abbrev pub Behind : List ℕ → Bool → List Told → List Told → Type 0
 Behind text is_of_steps (one ∷ rest) faults = faults ≡ one ∷ rest
 Behind text is_of_steps [] faults = MatchBool is_of_steps (faults ≡ []) (AskedLast text faults)
 
--- in a text of steps those of the text of callers in it
-pub record PartedTells (text scenario plain : List ℕ) (setup : ℕ) (asked : List ℕ) (faults : List Told) : Type 0 where
+-- in a text of steps those of the text of callers in it, and of what is asked but of moments
+pub record PartedTells (text scenario plain : List ℕ) (setup : ℕ) (asked own : List ℕ) (faults : List Told) : Type 0 where
   pub found : List Told
-  pub parts : PartsTell text scenario plain setup asked found
+  pub parts : PartsTell text scenario plain setup asked own found
   pub behind : Behind text (is_of_steps scenario) found faults
 
 abbrev pub LinesTell : List ℕ → List Told → Type 0
-LinesTell text faults = PartedTells text (scenario_within text) (plain_within text) (setup_count text) (asked_within text) faults
+LinesTell text faults = PartedTells text (scenario_within text) (plain_within text) (setup_count text) (asked_within text) (unquestioned_within text) faults
 
 -- of bytes that may be no text
 pub record OrdersTell (text : List ℕ) (faults : List Told) : Type 0 where

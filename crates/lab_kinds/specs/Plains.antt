@@ -1,10 +1,11 @@
 -- Lines that texts of steps have beside those of texts of callers: `lasts` of a step, and the table `[what_if]`.
-use Rattle.std.specs.Prelude.{ℕ, Bool, false, ◌||◌, List, [], ◌∷◌, ◌++◌, Option, codes, if◌then◌else◌, option_and_then, option_map}
+use Rattle.std.specs.Prelude.{ℕ, Bool, false, ◌||◌, ◌&&◌, not, List, [], ◌∷◌, ◌++◌, Option, codes, if◌then◌else◌, option_and_then, option_map}
 use Rattle.std.specs.Option.{option_map_or}
 use Rattle.std.specs.Str.{bytes_eq, trim}
 use Rattle.std.specs.Str.Lines.{lines}
 use Rattle.evl_scenario.specs.Lines.{line_feed}
 use Rattle.evl_scenario.specs.Values.{past_front}
+use Rattle.lab_scenario_orders.specs.KeyLines.{key_set}
 use Rattle.lab_scenario_orders.specs.Splits.{as_step, bare, is_asked, is_head, is_table}
 
 -- to what a line sets a key, if it does
@@ -39,3 +40,23 @@ plain_from asked own (line ∷ rest) =
 
 abbrev pub plain_within : List ℕ → List ℕ
 plain_within text = plain_from false false (lines text)
+
+-- ---- what is asked
+
+-- a line sets a key that asks of moments
+abbrev pub is_question_key : List ℕ → Bool
+is_question_key key = (bytes_eq key (codes "never_state") || bytes_eq key (codes "sometimes")) || bytes_eq key (codes "always")
+
+abbrev pub is_question : List ℕ → Bool
+is_question line = option_map_or is_question_key (key_set line) false
+
+-- the other lines of what is asked, each at its place
+abbrev pub unquestioned_line : Bool → List ℕ → List ℕ
+unquestioned_line is line = if is then line ++ line_feed else line_feed
+
+abbrev pub unquestioned_from : Bool → List (List ℕ) → List ℕ
+unquestioned_from was [] = []
+unquestioned_from was (line ∷ rest) = unquestioned_line (is_asked was line && not (is_question line)) line ++ unquestioned_from (is_asked was line) rest
+
+abbrev pub unquestioned_within : List ℕ → List ℕ
+unquestioned_within text = unquestioned_from false (lines text)

@@ -19,7 +19,7 @@ const PLAIN_ANSWERS: [&str; 5] = ["done", "begun", "timed out", "thread none", "
 
 const NUMBER_ANSWERS: [&str; 6] = ["count ", "bits ", "number ", "bytes ", "thread ", "next "];
 
-const STEP_ANSWERS: [&str; 3] = ["pass", "Raced", "done, others want in"];
+const STEP_ANSWERS: [&str; 4] = ["pass", "Raced", "CoreBusy", "done, others want in"];
 
 const REFUSAL_ANSWERS: [&str; 11] = [
     "HistoryFull",

@@ -12,7 +12,7 @@ use crate::asks::{callers_of, check_ask};
 use crate::callers::explain;
 use crate::kinds::{TextKind, is_headed, kind_of};
 use crate::parts::{asked_in, lines_of, scenario_in, setups_in};
-use crate::plains::plain_in;
+use crate::plains::{plain_in, unquestioned_in};
 use evl_scenario::Fault;
 use lab_callers_text::read_callers;
 use lab_faults::{Finding, Found, Heading, check, found_in_text, items_of};
@@ -199,12 +199,13 @@ fn found_in_parts(
     plain: &[u8],
     setup: usize,
     asked: &str,
+    own: &str,
     is_of_steps: bool,
 ) -> Result<Vec<Found>, AllocError>
-    ensures { IfOk result (λ found. MatchBool is_of_steps (StepsTell text.now plain.now setup asked.now (map fault_told found.items)) (TextTells text.now scenario.now setup asked.now (map fault_told found.items))) }
+    ensures { IfOk result (λ found. MatchBool is_of_steps (StepsTell text.now plain.now setup own.now (map fault_told found.items)) (TextTells text.now scenario.now setup asked.now (map fault_told found.items))) }
 {
     if is_of_steps {
-        let found = found_in_steps(alloc, text, plain, setup, asked)?;
+        let found = found_in_steps(alloc, text, plain, setup, own)?;
         return Ok(found);
     }
     let found = found_around(alloc, text, scenario, setup, asked)?;
@@ -245,11 +246,21 @@ fn found_parted(
     plain: &[u8],
     setup: usize,
     asked: &str,
+    own: &str,
 ) -> Result<Vec<Found>, AllocError>
-    ensures { IfOk result (λ found. PartedTells text.now scenario.now plain.now setup asked.now (map fault_told found.items)) }
+    ensures { IfOk result (λ found. PartedTells text.now scenario.now plain.now setup asked.now own.now (map fault_told found.items)) }
 {
     let steps = is_of_steps(alloc, scenario)?;
-    let found = found_in_parts(alloc, text.as_bytes(), scenario, plain, setup, asked, steps)?;
+    let found = found_in_parts(
+        alloc,
+        text.as_bytes(),
+        scenario,
+        plain,
+        setup,
+        asked,
+        own,
+        steps,
+    )?;
     found_behind(alloc, text, steps, found)
 }
 
@@ -262,6 +273,7 @@ fn found_in_lines(alloc: Global, text: &str) -> Result<Vec<Found>, AllocError>
     let scenario = scenario_in(alloc, lines)?;
     let plain = plain_in(alloc, lines)?;
     let asked = asked_in(alloc, lines)?;
+    let own = unquestioned_in(alloc, lines)?;
     found_parted(
         alloc,
         text,
@@ -269,6 +281,7 @@ fn found_in_lines(alloc: Global, text: &str) -> Result<Vec<Found>, AllocError>
         plain.as_str().as_bytes(),
         setups_in(lines),
         asked.as_str(),
+        own.as_str(),
     )
 }
 

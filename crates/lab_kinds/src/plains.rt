@@ -3,7 +3,8 @@ ghost use Rattle.std.specs.Prelude.{◌≡◌, ◌++◌, IfOk, OnOk, codes, fals
 ghost use Rattle.std.specs.Str.{trim};
 ghost use Rattle.evl_scenario.specs.Values.{past_front};
 ghost use Rattle.lab_kinds.specs.Plains as plains;
-ghost use Rattle.lab_kinds.specs.Plains.{is_lasts, is_own, is_set_to, is_what_if, is_what_if_head, plain_from, plain_line, value_set};
+ghost use Rattle.lab_scenario_orders.specs.KeyLines as keys;
+ghost use Rattle.lab_kinds.specs.Plains.{is_question, is_question_key, unquestioned_from, unquestioned_line, is_lasts, is_own, is_set_to, is_what_if, is_what_if_head, plain_from, plain_line, value_set};
 ghost use Rattle.lab_scenario_orders.specs.Splits as splits;
 
 use crate::parts::begins;
@@ -127,6 +128,56 @@ pub fn plain_in(alloc: Global, lines: &[&str]) -> Result<String, AllocError>
         asked = is_asked(asked, *line);
         own = is_what_if(own, *line);
         put_plain(&mut text, asked || is_own(own, *line), *line)?;
+    }
+    Ok(text)
+}
+
+// What stands before the first `=`, and what behind it.
+fn around_equals(text: &str) -> Option<(&str, &str)>
+    ensures { option_map (λ parts. (parts.0.now, parts.1.now)) result ≡ keys.around_equals text.now }
+{
+    match text.split_once('=') {
+        Some(parts) => Some(parts),
+        None => None,
+    }
+}
+
+// Whether a key asks of moments.
+fn is_question_key(key: &str) -> bool
+    ensures { result ≡ is_question_key key.now }
+{
+    key == "never_state" || key == "sometimes" || key == "always"
+}
+
+// Whether a line sets such a key.
+fn is_question(line: &str) -> bool
+    ensures { result ≡ is_question line.now }
+{
+    match around_equals(bare(line)) {
+        Some((key, _)) => is_question_key(key.trim()),
+        None => false,
+    }
+}
+
+// Puts a line of what is asked, empty where it is none.
+fn put_unquestioned(text: &mut String, is_asked: bool, line: &str) -> Result<(), AllocError>
+    ensures { OnOk result (string_bytes text.new ≡ string_bytes text.old ++ unquestioned_line is_asked line.now) }
+{
+    if is_asked {
+        text.push_str(line)?;
+    }
+    text.push_str("\n")
+}
+
+/// What is asked in these lines but of moments, each at its place. `AllocError` where memory couldn't grow.
+pub fn unquestioned_in(alloc: Global, lines: &[&str]) -> Result<String, AllocError>
+    ensures { IfOk result (λ text. string_bytes text ≡ unquestioned_from false (map (λ line. line.now) lines.now)) }
+{
+    let mut text = String::new(alloc);
+    let mut was = false;
+    for line in lines {
+        was = is_asked(was, *line);
+        put_unquestioned(&mut text, was && !is_question(*line), *line)?;
     }
     Ok(text)
 }

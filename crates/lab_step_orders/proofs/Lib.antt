@@ -1,4 +1,5 @@
 pub mod Alike
+pub mod FactLaws
 pub mod FirstLaws
 pub mod HeldLaws
 pub mod Opening

@@ -10,8 +10,8 @@ use Rattle.lab_step_orders.specs.Cores.{use_of, with_core, is_early, take_turn, 
 use Rattle.lab_step_orders.specs.Outcomes.{told_text, staxes_text, mutexes_text}
 use Rattle.lab_step_orders.specs.Programs.{next_call}
 use Rattle.lab_step_orders.specs.Seen.{Seen, after, first_seen, free_word, go, machine, next_ahead}
-use Rattle.lab_step_orders.specs.Told.{caller_line, lines_below, stuck_line, waits_text}
-use Rattle.lab_step_orders.specs.Visits.{set_up, visit_turn}
+use Rattle.lab_step_orders.specs.Told.{caller_line, lines_below, resting_line, stuck_line, waits_text}
+use Rattle.lab_step_orders.specs.Visits.{goes_on, set_up, visit_turn}
 use Rattle.lab_step_orders.specs.WholeVisits.{AreWhole, EndsSo, NobodyGivesUp, VisitsAreWhole, calls_of}
 use Rattle.lab_step_orders.proofs.WholeFrees.{HasDone, Holds, IsHeld, own_led}
 use Rattle.lab_step_orders.proofs.WholeSteps.{all_at, all_so, begun_goes, cored, held_goes, none_is, take_goes, whole_goes, whole_led}
@@ -166,12 +166,18 @@ module _ (c w : Crew) (board : w.board ≡ c.board) (same : map calls_of w.calle
       lines_alike (stuck_line (alike c w) s.made s.waits) (stuck_line c s.made s.waits)
       (λ k. ap (λ (b : Bool). if b then codes "stuck: T" ++ (decimal k ++ (waits_text (slice_index_or s.waits k None) ++ codes "\n")) else []) (left_is c w board same k (slice_index s.made k))) (length (alike c w).callers.items)
       ∙ ap (λ (m : ℕ). lines_below (stuck_line c s.made s.waits) m) (count_is c w board same) in
+      let resting : lines_below (resting_line (alike c w) s.made s.waits s.state) (length (alike c w).callers.items) ≡ lines_below (resting_line c s.made s.waits s.state) n =
+      lines_alike (resting_line (alike c w) s.made s.waits s.state) (resting_line c s.made s.waits s.state)
+      (λ k. ap (λ (b : Bool). if b then [] else if goes_on s.state k then codes "T" ++ (decimal k ++ (waits_text (slice_index_or s.waits k None) ++ codes "\n")) else []) (left_is c w board same k (slice_index s.made k))) (length (alike c w).callers.items)
+      ∙ ap (λ (m : ℕ). lines_below (resting_line c s.made s.waits s.state) m) (count_is c w board same) in
       let answers : lines_below (caller_line (alike c w) s.answers) (length (alike c w).callers.items) ≡ lines_below (caller_line c s.answers) n =
       lines_alike (caller_line (alike c w) s.answers) (caller_line c s.answers)
       (λ k. ap (λ (b : Bool). if b then codes "T" ++ (decimal k ++ (slice_index_or s.answers k [] ++ codes "\n")) else []) (calls_is c w board same k)) (length (alike c w).callers.items)
       ∙ ap (λ (m : ℕ). lines_below (caller_line c s.answers) m) (count_is c w board same) in
-      ap (λ (l : List ℕ). l ++ (lines_below (caller_line (alike c w) s.answers) (length (alike c w).callers.items) ++ words)) stuck
-      ∙ ap (λ (l : List ℕ). lines_below (stuck_line c s.made s.waits) n ++ (l ++ words)) answers
+      let rest : List ℕ = lines_below (caller_line (alike c w) s.answers) (length (alike c w).callers.items) ++ words in
+      ap (λ (l : List ℕ). l ++ (lines_below (resting_line (alike c w) s.made s.waits s.state) (length (alike c w).callers.items) ++ rest)) stuck
+      ∙ ap (λ (l : List ℕ). lines_below (stuck_line c s.made s.waits) n ++ (l ++ rest)) resting
+      ∙ ap (λ (l : List ℕ). lines_below (stuck_line c s.made s.waits) n ++ (lines_below (resting_line c s.made s.waits s.state) n ++ (l ++ words))) answers
 
 all_begin : (xs : List CrewCaller) → length (map (λ x. Begins) xs) ≡ length xs
 all_begin [] = refl

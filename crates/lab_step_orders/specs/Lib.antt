@@ -1,4 +1,5 @@
 pub mod Cores
+pub mod Facts
 pub mod Moments
 pub mod Outcomes
 pub mod Programs

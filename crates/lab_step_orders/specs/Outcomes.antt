@@ -1,5 +1,6 @@
 -- What all orders of atomic steps end in.
 use Rattle.std.specs.Prelude.{ℕ, ◌≡◌, ◌≤◌, ◌<◌, ◌⊎◌, true, false, List, [], ◌++◌, length, map, All, AllPairs, Some, string_bytes}
+use Rattle.lab_orders.specs.Firsts.{AreFirsts}
 use Rattle.lab_orders.specs.Fronts.{IsGone}
 use Rattle.lab_orders.specs.Machines.{is_over, led_along, orders, runs}
 use Rattle.lab_orders.specs.Tallies.{AreDistinct, told_weight}
@@ -7,9 +8,10 @@ use Rattle.lab_orders.specs.Weights.{count_limit, total}
 use Rattle.lab_orders.specs.declared.levels.OrdersError.{OrdersError}
 use Rattle.lab_orders.specs.declared.levels.OrdersError.TheVariants.{Memory, Count}
 use Rattle.lab_orders.specs.declared.tallies.Tally.{Tally}
+use Rattle.lab_step_orders.specs.Facts.{is_noted_at}
 use Rattle.lab_step_orders.specs.Moments.{seen_of}
 use Rattle.lab_step_orders.specs.Seen.{Seen, first_seen, machine}
-use Rattle.lab_step_orders.specs.Told.{caller_line, lines_below, mutex_line, stax_line, stuck_line}
+use Rattle.lab_step_orders.specs.Told.{caller_line, lines_below, mutex_line, resting_line, stax_line, stuck_line}
 use Rattle.lab_step_orders.specs.Words.{Shared}
 use Rattle.lab_step_orders.specs.declared.crews.Crew.{Crew}
 use Rattle.lab_step_orders.specs.declared.outcomes.StepOutcomes.{StepOutcomes}
@@ -20,11 +22,13 @@ staxes_text gates = lines_below (stax_line gates) (length gates)
 abbrev pub mutexes_text : List Shared → List ℕ
 mutexes_text mutexes = lines_below (mutex_line mutexes) (length mutexes)
 
--- what is told where callers and words stand so: who is stuck, what each caller with calls was answered, and how the words stand
+-- what is told where callers and words stand so: who is stuck, who waits with no call left, what each caller with calls was
+-- answered, and how the words stand
 abbrev pub told_text : Crew → Seen → List ℕ
 told_text c s =
     lines_below (stuck_line c s.made s.waits) (length c.callers.items)
-    ++ (lines_below (caller_line c s.answers) (length c.callers.items) ++ (staxes_text s.gates ++ mutexes_text s.mutexes))
+    ++ (lines_below (resting_line c s.made s.waits s.state) (length c.callers.items)
+    ++ (lines_below (caller_line c s.answers) (length c.callers.items) ++ (staxes_text s.gates ++ mutexes_text s.mutexes)))
 
 -- this order leads from here to where nobody can make a step, and just this is told there
 pub record LeadsTo (c : Crew) (s : Seen) (told order : List ℕ) : Type 0 where
@@ -73,3 +77,6 @@ pub record AreOutcomes (c : Crew) (most : ℕ) (found : StepOutcomes) : Type 0 w
   pub whole : found.whole ≡ true → runs (machine c) (first_seen c) found.steps ≡ []
   pub cut : found.whole ≡ false → (found.steps ≡ 18446744073709551615) ⊎ (most < length (runs (machine c) (first_seen c) found.steps))
   pub more : found.whole ≡ false → 0 < length (runs (machine c) (first_seen c) found.steps)
+  -- of each question about moments, the first order to one as it looks for, among the runs that were gone through
+  pub asked : AreFirsts (machine c) (first_seen c) (is_noted_at c) found.steps 0 found.firsts.items
+  pub each : length found.firsts.items ≡ length c.watches.items

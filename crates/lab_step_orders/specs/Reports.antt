@@ -1,9 +1,13 @@
 -- The report of all orders of atomic steps, as a text.
-use Rattle.std.specs.Prelude.{ℕ, ◌+◌, ◌==◌, Bool, List, [], ◌∷◌, ◌++◌, codes, flat_map, if◌then◌else◌, is_some, length, Option, Some, None, string_bytes}
+use Rattle.std.specs.Prelude.{ℕ, ◌+◌, ◌==◌, Bool, true, false, List, [], ◌∷◌, ◌++◌, codes, flat_map, if◌then◌else◌, is_some, length, Option, Some, None, slice_get, string_bytes}
 use Rattle.std.specs.Fmt.{decimal}
 use Rattle.std.specs.Option.{option_map_or}
 use Rattle.std.specs.Str.Lines.{lines}
+use Rattle.lab_orders.specs.declared.firsts.First.{First}
+use Rattle.lab_orders.specs.declared.firsts.First.TheVariants.{Nowhere, After}
 use Rattle.lab_orders.specs.declared.tallies.Tally.{Tally}
+use Rattle.lab_scenario_orders.specs.Reports.{found_text, reach_text}
+use Rattle.lab_scenario_orders.specs.WatchTexts.{when_key}
 use Rattle.lab_step_orders.specs.Seen.{Seen, after, first_seen, next_turn}
 use Rattle.lab_step_orders.specs.declared.crews.Crew.{Crew}
 use Rattle.lab_step_orders.specs.declared.outcomes.StepOutcomes.{StepOutcomes}
@@ -16,6 +20,7 @@ use Rattle.lab_step_orders.specs.declared.steps.MutexStep.TheVariants.{Try, Unlo
 use Rattle.lab_step_orders.specs.declared.steps.Turn.{Turn}
 use Rattle.lab_step_orders.specs.declared.steps.WordStep.{WordStep}
 use Rattle.lab_step_orders.specs.declared.steps.WordStep.TheVariants.{AtGate, AtMutex}
+use Rattle.lab_step_orders.specs.declared.watches.StepWatch.{StepWatch}
 
 -- a number with its word, of which there is one or of which there are others
 abbrev pub number_text : ℕ → List ℕ → List ℕ
@@ -94,5 +99,22 @@ counts_text found =
     orders_text found ++ (codes ", " ++ (number_text found.moments (codes "moment") ++ (line_feed
     ++ (if found.whole then [] else codes "# cut off: there are longer orders\n"))))
 
+-- what came of a question about moments, with the first order to one as it looks for
+abbrev pub watch_line : ℕ → StepWatch → Bool → Bool → List ℕ
+watch_line n watch found whole =
+    codes "# state " ++ (decimal n ++ (codes ": " ++ (when_key watch.when ++ (codes ": " ++ (string_bytes watch.text ++ (codes ": " ++ (found_text watch.when found ++ reach_text found whole)))))))
+
+abbrev pub state_text : Crew → Bool → ℕ → StepWatch → First → List ℕ
+state_text c whole n watch Nowhere = watch_line n watch false whole
+state_text c whole n watch (After order) = watch_line n watch true whole ++ order_text c order.items
+
+abbrev pub state_at : Crew → Bool → ℕ → StepWatch → List First → List ℕ
+state_at c whole place watch firsts = option_map_or (state_text c whole (place + 1) watch) (slice_get firsts place) []
+
+-- of the questions from this place on
+abbrev pub states_text : Crew → Bool → ℕ → List StepWatch → List First → List ℕ
+states_text c whole place [] firsts = []
+states_text c whole place (watch ∷ rest) firsts = state_at c whole place watch firsts ++ states_text c whole (place + 1) rest firsts
+
 abbrev pub report_text : Crew → StepOutcomes → List ℕ
-report_text c found = counts_text found ++ outcomes_text c 1 found.all.items
+report_text c found = counts_text found ++ (states_text c found.whole 0 c.watches.items found.firsts.items ++ outcomes_text c 1 found.all.items)

@@ -4,8 +4,10 @@ use Rattle.std.specs.Fmt.{decimal, signed_decimal}
 use Rattle.std.specs.Option.{option_map_or}
 use Rattle.evl_base.specs.Refusal.{name_of}
 use Rattle.evl_base.specs.Stage.{stage_text}
+use Rattle.evl_kernel.specs.state.States.{State}
 use Rattle.evl_words.specs.GateWord.{count_in, stage_in, mark_in}
 use Rattle.evl_words.specs.MutexBits.{number_in}
+use Rattle.lab_step_orders.specs.Visits.{goes_on}
 use Rattle.lab_step_orders.specs.Words.{Shared}
 use Rattle.lab_step_orders.specs.declared.calls.Answer.{Answer}
 use Rattle.lab_step_orders.specs.declared.calls.Answer.TheVariants.{Passed, Done, Wanted, Refused, Begun, TimedOut, Count, Bits, Number, Chosen}
@@ -50,6 +52,13 @@ waits_text None = codes " waits"
 
 abbrev pub stuck_line : Crew → List ℕ → List (Option Waiting) → ℕ → List ℕ
 stuck_line c made waits k = if has_left c k (slice_index made k) then codes "stuck: T" ++ (decimal k ++ (waits_text (slice_index_or waits k None) ++ codes "\n")) else []
+
+-- a caller with no call left, whose wait goes on
+abbrev pub resting_line : Crew → List ℕ → List (Option Waiting) → State → ℕ → List ℕ
+resting_line c made waits s k =
+    if has_left c k (slice_index made k) then []
+    else if goes_on s k then codes "T" ++ (decimal k ++ (waits_text (slice_index_or waits k None) ++ codes "\n"))
+    else []
 
 -- what such a caller was answered
 abbrev pub caller_line : Crew → List (List ℕ) → ℕ → List ℕ

@@ -6,6 +6,7 @@ ghost use Rattle.evl_base.specs.declared.refusal.Refusal.TheVariants.{Range};
 
 use crate::calls::WordCall;
 use crate::steps::{CoreUse, WhatIf};
+use crate::watches::StepWatch;
 use evl_base::{Board, MAX_THREADS, Refusal, Stage};
 use evl_scenario::Step;
 
@@ -32,6 +33,8 @@ pub struct Crew {
     pub callers: Vec<CrewCaller>,
     /// The wrong step that they make, if any.
     pub what_if: Option<WhatIf>,
+    /// What is asked of each moment.
+    pub watches: Vec<StepWatch>,
     // How many callers there are.
     count: u16,
     ghost counted: { count ≡ length callers.items },
@@ -56,6 +59,7 @@ impl Crew {
         steps: Vec<Step>,
         callers: Vec<CrewCaller>,
         what_if: Option<WhatIf>,
+        watches: Vec<StepWatch>,
     ) -> Result<Crew, Refusal>
         ensures board { IfOk result (λ crew. crew.board ≡ board) }
         ensures limit { IfOk result (λ crew. crew.limit ≡ limit) }
@@ -63,6 +67,7 @@ impl Crew {
         ensures steps { IfOk result (λ crew. crew.steps ≡ steps) }
         ensures callers { IfOk result (λ crew. crew.callers ≡ callers) }
         ensures what_if { IfOk result (λ crew. crew.what_if ≡ what_if) }
+        ensures watches { IfOk result (λ crew. crew.watches ≡ watches) }
         ensures range { (result ≡ Err Range) ↔ ¬ ((length callers.items ≤ thread_limit) × (list_all stax_fits board.staxes.items ≡ true)) }
         ensures err { IfErr result (λ refusal. refusal ≡ Range) }
     {
@@ -77,6 +82,7 @@ impl Crew {
             steps,
             callers,
             what_if,
+            watches,
             count,
         })
     }

@@ -6,6 +6,7 @@ mod calls;
 mod cores;
 mod crews;
 mod digests;
+mod facts;
 mod going;
 mod kernels;
 mod laws;
@@ -15,9 +16,11 @@ mod programs;
 mod reports;
 mod seen;
 mod shared;
+mod states;
 mod steps;
 mod told;
 mod visits;
+mod watches;
 mod words;
 mod worlds;
 mod wrongs;
@@ -33,4 +36,5 @@ pub use steps::{
     Ahead, Asked, CoreChange, CoreUse, GateStep, MutexStep, Place, Taken, Then, Turn, Visit,
     WaitChange, Waiting, WhatIf, WordStep,
 };
+pub use watches::{StepClaim, StepFact, StepWatch};
 pub use worlds::Stepping;

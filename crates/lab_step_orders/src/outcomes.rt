@@ -1,9 +1,11 @@
 //! The outcomes of all orders of atomic steps.
 ghost use Rattle.std.specs.Prelude.{ℕ, List, ◌≡◌, ◌+◌, ◌*◌, ◌<◌, ◌≤◌, ◌⊎◌, [], true, false, IfErr, IfOk, OnOk, length, string_bytes, sum_by};
+ghost use Rattle.lab_orders.specs.Firsts.{AreFirsts};
 ghost use Rattle.lab_orders.specs.Fronts.{AreLed, AreOver, AreShortest, IsGone};
 ghost use Rattle.lab_orders.specs.Machines.{orders, runs};
 ghost use Rattle.lab_orders.specs.Tallies.{AreDistinct, told_weight};
 ghost use Rattle.lab_orders.specs.Weights.{count_limit, total, weight};
+ghost use Rattle.lab_step_orders.specs.Facts.{is_noted_at};
 ghost use Rattle.lab_step_orders.specs.Moments.{seen_of};
 ghost use Rattle.lab_step_orders.specs.Outcomes.{AreOutcomes, AreRisen, AreRising, CanNotTell, LeadThere, LeadsTo, told_text};
 ghost use Rattle.lab_step_orders.specs.Seen.{Seen, first_seen, machine};
@@ -12,7 +14,7 @@ use crate::crews::Crew;
 use crate::moments::{Moment, first_moment};
 use crate::told::told_of;
 use crate::worlds::Stepping;
-use lab_orders::{Explored, Node, OrdersError, Tally, add_tally, explore};
+use lab_orders::{Explored, First, Node, OrdersError, Tally, add_tally, explore};
 use std::alloc::{AllocError, Global};
 
 /// The outcomes of the orders of callers' steps, each once, those of the shortest orders first.
@@ -21,6 +23,8 @@ pub struct StepOutcomes {
     /// What is told of each: what each caller was answered, and how each stax and each mutex stands at the end. How many
     /// orders end so, and the first of them that was found.
     pub all: Vec<Tally>,
+    /// Of each question about moments the first order that leads to one as it looks for.
+    pub firsts: Vec<First>,
     /// How many orders there are.
     pub count: u128,
     /// How many steps were gone through: the orders are those of fewer.
@@ -122,6 +126,8 @@ fn ends_of(alloc: Global, crew: &Crew, most: usize) -> Result<Explored<Moment>, 
     ensures gone { IfOk result (λ found. IsGone (machine crew.now) (seen_of crew.now) (first_seen crew.now) most found.steps found.moments) }
     ensures more { IfOk result (λ found. found.whole ≡ false → 0 < length (runs (machine crew.now) (first_seen crew.now) found.steps)) }
     ensures shortest { IfOk result (λ found. AreShortest found.steps found.ends.items) }
+    ensures firsts { IfOk result (λ found. AreFirsts (machine crew.now) (first_seen crew.now) (is_noted_at crew.now) found.steps 0 found.firsts.items) }
+    ensures each { IfOk result (λ found. length found.firsts.items ≡ length crew.now.watches.items) }
     ensures uncounted { IfErr result (CanNotTell crew.now) }
 {
     let start = match first_moment(alloc, crew) {
@@ -144,7 +150,7 @@ pub fn step_outcomes_of(
 {
     let Explored {
         ends,
-        firsts: _,
+        firsts,
         steps,
         moments,
         whole,
@@ -159,6 +165,7 @@ pub fn step_outcomes_of(
     match outcomes_at(alloc, crew, ends) {
         Ok(all) => Ok(StepOutcomes {
             all,
+            firsts,
             count,
             steps,
             moments,

@@ -10,6 +10,7 @@ use crate::crews::Crew;
 use crate::going::next_turn;
 use crate::moments::{Moment, first_moment, moment_after};
 use crate::outcomes::StepOutcomes;
+use crate::states::put_states;
 use crate::steps::{CoreChange, GateStep, MutexStep, Turn, WordStep};
 use lab_orders::Tally;
 use std::alloc::{AllocError, Global};
@@ -130,8 +131,13 @@ fn put_turns(
     Ok(())
 }
 
-// Writes an order, from the first moment on.
-fn put_order(alloc: Global, text: &mut String, crew: &Crew, order: &[u16]) -> Result<(), AllocError>
+/// Writes an order, from the first moment on.
+pub(crate) fn put_order(
+    alloc: Global,
+    text: &mut String,
+    crew: &Crew,
+    order: &[u16],
+) -> Result<(), AllocError>
     ensures { OnOk result (string_bytes text.new ≡ string_bytes text.old ++ order_text crew.now order.now) }
 {
     let start = first_moment(alloc, crew)?;
@@ -248,8 +254,8 @@ fn put_outcomes(
     Ok(())
 }
 
-/// The report of all outcomes: how many orders lead to each, what is told of it, and the first of its orders as steps.
-/// Each line begins with `# `. `AllocError` where memory couldn't grow.
+/// The report of all outcomes: what came of the questions about moments; how many orders lead to each outcome, what is
+/// told of it, and the first of its orders as steps. Each line begins with `# `. `AllocError` where memory couldn't grow.
 pub fn write_step_report(
     alloc: Global,
     crew: &Crew,
@@ -259,6 +265,7 @@ pub fn write_step_report(
 {
     let mut text = String::new(alloc);
     put_counts(&mut text, found)?;
+    put_states(alloc, &mut text, crew, found, crew.watches.as_slice())?;
     put_outcomes(alloc, &mut text, crew, found.all.as_slice())?;
     Ok(text)
 }

@@ -3,13 +3,15 @@ ghost use Rattle.std.specs.Prelude.{◌≡◌, ◌++◌, [], IfOk, OnOk, length,
 ghost use Rattle.evl_words.specs.MutexBits.{number_in};
 ghost use Rattle.lab_step_orders.specs.Moments.{seen_of, shared_of};
 ghost use Rattle.lab_step_orders.specs.Outcomes.{mutexes_text, staxes_text, told_text};
-ghost use Rattle.lab_step_orders.specs.Told.{caller_line, has_calls, has_left, lines_below, mark_text, mutex_text, owner_text, stax_text, stuck_line, waits_text};
+ghost use Rattle.lab_step_orders.specs.Told.{caller_line, has_calls, has_left, lines_below, mark_text, mutex_text, owner_text, resting_line, stax_text, stuck_line, waits_text};
 
 use crate::crews::Crew;
+use crate::kernels::{NoPlans, goes_on, leave, led};
 use crate::moments::Moment;
 use crate::shared::SharedWord;
 use crate::steps::Waiting;
 use crate::words::{count_in, mark_in, stage_in};
+use evl_kernel::KernelOf;
 use std::alloc::{AllocError, Global};
 
 // Lines that are told one by one.
@@ -249,7 +251,61 @@ fn put_stuck(
     put_lines(text, &Stuck { crew, made, waits }, crew.callers.len())
 }
 
-/// What is told of an end: what each caller was answered, and how each stax and each mutex stands.
+// Writes that a caller waits, where it has no call left and its wait goes on.
+fn put_rest<C>(
+    text: &mut String,
+    crew: &Crew,
+    moment: &Moment,
+    kernel: &KernelOf<C, Global>,
+    caller: u16,
+) -> Result<(), AllocError>
+    ensures { OnOk result (string_bytes text.new ≡ string_bytes text.old ++ resting_line crew.now moment.now.made.items moment.now.waits.items kernel.now.history.state caller) }
+{
+    let place = usize::from(caller);
+    let made = moment.made.get(place).copied().unwrap_or(0);
+    if has_left(crew, place, made) || !goes_on(kernel, caller) {
+        return Ok(());
+    }
+    write!(text, "T{caller}")?;
+    put_waits(text, moment.waits.get(place).copied().unwrap_or(None))?;
+    text.push_str("\n")
+}
+
+// Writes who waits with no call left.
+fn put_resting<C>(
+    text: &mut String,
+    crew: &Crew,
+    moment: &Moment,
+    kernel: &KernelOf<C, Global>,
+) -> Result<(), AllocError>
+    ensures { OnOk result (string_bytes text.new ≡ string_bytes text.old ++ lines_below (resting_line crew.now moment.now.made.items moment.now.waits.items kernel.now.history.state) (length crew.now.callers.items)) }
+{
+    for caller in 0..crew.count() {
+        match put_rest(text, crew, moment, kernel, caller) {
+            Ok(()) => {}
+            Err(error) => return Err(error),
+        }
+    }
+    Ok(())
+}
+
+// The same at a moment.
+fn put_rests(
+    alloc: Global,
+    text: &mut String,
+    crew: &Crew,
+    moment: &Moment,
+) -> Result<(), AllocError>
+    ensures { OnOk result (string_bytes text.new ≡ string_bytes text.old ++ lines_below (resting_line crew.now moment.now.made.items moment.now.waits.items (seen_of crew.now moment.now).state) (length crew.now.callers.items)) }
+{
+    let kernel = led(alloc, crew, &NoPlans, moment.trail.as_slice())?;
+    let put = put_resting(text, crew, moment, &kernel);
+    leave(kernel);
+    put
+}
+
+/// What is told of an end: who is stuck, who waits with no call left, what each caller was answered, and how each stax
+/// and each mutex stands.
 pub(crate) fn told_of(alloc: Global, crew: &Crew, moment: &Moment) -> Result<String, AllocError>
     ensures { IfOk result (λ told. string_bytes told ≡ told_text crew.now (seen_of crew.now moment.now)) }
 {
@@ -260,6 +316,7 @@ pub(crate) fn told_of(alloc: Global, crew: &Crew, moment: &Moment) -> Result<Str
         moment.made.as_slice(),
         moment.waits.as_slice(),
     )?;
+    put_rests(alloc, &mut text, crew, moment)?;
     put_answers(&mut text, crew, moment.answers.as_slice())?;
     put_staxes(&mut text, moment.gates.as_slice())?;
     put_mutexes(&mut text, moment.mutexes.as_slice())?;

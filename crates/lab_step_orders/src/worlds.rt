@@ -1,6 +1,7 @@
 //! Callers that step on words, as a world.
 use crate::crews::Crew;
 use crate::digests::digest_of;
+use crate::facts::is_noted_at;
 use crate::going::next_moment;
 use crate::moments::{Moment, are_same};
 use crate::seen::SeenSteps;
@@ -15,7 +16,8 @@ pub struct Stepping<'a> {
 }
 
 impl<'a> World for Stepping<'a> {
-    ghost use Rattle.std.specs.Prelude.{false, ⊤};
+    ghost use Rattle.std.specs.Prelude.{length, ⊤};
+    ghost use Rattle.lab_step_orders.specs.Facts.{is_noted_at};
     ghost use Rattle.lab_step_orders.specs.Moments.{IsMoment, seen_of};
     ghost use Rattle.lab_step_orders.specs.Seen.{Seen, machine};
 
@@ -33,9 +35,9 @@ impl<'a> World for Stepping<'a> {
 
     ghost is_at_hand = { λ stepping hand moment. ⊤ };
 
-    ghost holds = { λ stepping question seen. false };
+    ghost holds = { λ stepping question seen. is_noted_at stepping.crew.now question seen };
 
-    ghost asked = { λ stepping. 0 };
+    ghost asked = { λ stepping. length stepping.crew.now.watches.items };
 
     ghost complete = { λ stepping. ⊥ };
 
@@ -67,10 +69,10 @@ impl<'a> World for Stepping<'a> {
     }
 
     fn questions(&self) -> usize {
-        0
+        self.crew.watches.len()
     }
 
-    fn holds(&self, _question: usize, _moment: &Moment) -> bool {
-        false
+    fn holds(&self, question: usize, moment: &Moment) -> bool {
+        is_noted_at(self.crew, question, moment)
     }
 }

@@ -1,3 +1,4 @@
 pub mod CallLaws
 pub mod CrewLaws
+pub mod QuestionLaws
 pub mod ReadingLaws

@@ -1,5 +1,5 @@
 -- The callers of a text, with their calls.
-use Rattle.std.specs.Prelude.{◌≡◌, ◌⊎◌, ℕ, Bool, true, false, List, [], drop, length, Some, None, Ok, Err, map, min, slice_get, take}
+use Rattle.std.specs.Prelude.{◌≡◌, ◌≤◌, ◌<◌, ◌⊎◌, ℕ, Bool, true, false, List, [], drop, length, Some, None, Ok, Err, map, min, slice_get, take}
 use Rattle.std.specs.List.{list_all}
 use Rattle.std.specs.Str.Lines.{lines}
 use Rattle.evl_base.specs.declared.mutex_kind.MutexKind.{MutexKind}
@@ -13,11 +13,12 @@ use Rattle.lab_step_orders.specs.declared.crews.CrewCaller.{CrewCaller}
 use Rattle.lab_step_texts.specs.Calls.{attaches, calls_behind, kernel_step, own_calls, stage_in, unattached}
 use Rattle.lab_step_orders.specs.declared.steps.CoreUse.{CoreUse}
 use Rattle.lab_step_texts.specs.Extras.{is_unclear, own_ways, plain_part, ways_part, wrong_part}
+use Rattle.lab_step_texts.specs.Questions.{AreAsked, IsUnasked, are_there}
 use Rattle.lab_step_texts.specs.declared.calls.CallerCall.{CallerCall}
 use Rattle.lab_step_texts.specs.declared.extras.Extras.{Extras}
 use Rattle.lab_step_texts.specs.declared.faults.StepFault.TheVariants.{Setup}
 use Rattle.lab_step_texts.specs.declared.faults.StepsFault.{StepsFault}
-use Rattle.lab_step_texts.specs.declared.faults.StepsFault.TheVariants.{Text, Mixed, Mutex, Step, WhatIf}
+use Rattle.lab_step_texts.specs.declared.faults.StepsFault.TheVariants.{Text, Mixed, Mutex, Limit, Step, WhatIf, Question, Lacking}
 
 -- a mutex that neither nests nor has a ceiling
 abbrev pub is_plain : MutexKind → Bool
@@ -33,6 +34,7 @@ caller_of setup steps ways calls k caller =
 -- the callers are the threads of the board, with the calls that all steps but those that are set up are
 pub record IsCrewOf (extras : Extras) (read : CallersText) (count : ℕ) (crew : Crew) : Type 0 where
   pub plain : list_all is_plain read.board.mutexes.items ≡ true
+  pub room : length read.steps.items ≤ read.limit
   pub attached : unattached read.board.threads 1 [] (take count read.steps.items) ≡ None
   pub calls : List CallerCall
   pub are : calls_behind read.board.threads count read.steps.items ≡ Ok calls
@@ -65,13 +67,19 @@ pub record IsReadAs (text : List ℕ) (crew : Crew) : Type 0 where
   pub extras : Extras
   pub are : AreExtras text extras
   pub is_of : IsReadOf extras (scenario_part (plain_part text)) (setup_count (plain_part text)) crew
+  -- its questions are those of the text, and name what the board has
+  pub asked : AreAsked false (lines text) crew.watches.items
+  pub there : are_there crew.board crew.watches.items ≡ true
 
 -- Why a text of callers that was read isn't gone through.
 abbrev pub IsKept : CallersText → ℕ → StepsFault → Type 0
 IsKept read count (Text fault) = Unit {0}
 IsKept read count Mixed = ⊥
 IsKept read count WhatIf = ⊥
+IsKept read count (Question line) = ⊥
+IsKept read count (Lacking line) = ⊥
 IsKept read count Mutex = list_all is_plain read.board.mutexes.items ≡ false
+IsKept read count Limit = read.limit < length read.steps.items
 IsKept read count (Step n fault) =
     ((fault ≡ Setup) × (unattached read.board.threads 1 [] (take count read.steps.items) ≡ Some n)) ⊎ (calls_behind read.board.threads count read.steps.items ≡ Err (n, fault))
 
@@ -80,8 +88,14 @@ abbrev pub IsKeptOf : List ℕ → ℕ → StepsFault → Type 0
 IsKeptOf scenario count (Text fault) = Unit {0}
 IsKeptOf scenario count fault = (read : CallersText) × IsRead None scenario read × IsKept read (set_up count read) fault
 
+-- or these lines ask something else of its moments
+abbrev pub IsStopped : List (List ℕ) → List ℕ → ℕ → StepsFault → Type 0
+IsStopped all scenario count (Question line) = (read : CallersText) × IsRead None scenario read × IsUnasked read.board all (Question line)
+IsStopped all scenario count (Lacking line) = (read : CallersText) × IsRead None scenario read × IsUnasked read.board all (Lacking line)
+IsStopped all scenario count fault = IsKeptOf scenario count fault
+
 -- why a text isn't
 abbrev pub IsRefused : List ℕ → StepsFault → Type 0
 IsRefused text Mixed = is_mixed (lines (plain_part text)) ≡ true
 IsRefused text WhatIf = is_unclear text ≡ true
-IsRefused text fault = IsKeptOf (scenario_part (plain_part text)) (setup_count (plain_part text)) fault
+IsRefused text fault = IsStopped (lines text) (scenario_part (plain_part text)) (setup_count (plain_part text)) fault

@@ -1,6 +1,9 @@
 pub mod Answers
+pub mod Asks
 pub mod Calls
 pub mod Crews
 pub mod Extras
+pub mod FactTexts
 pub mod Faults
 pub mod Kinds
+pub mod Questions

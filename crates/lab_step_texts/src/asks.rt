@@ -1,12 +1,17 @@
 //! What is asked of the orders of steps.
-ghost use Rattle.std.specs.Prelude.{◌≡◌, IfErr, IfOk, IsSomeAnd, option_and_then};
+ghost use Rattle.std.specs.Prelude.{[], ◌≡◌, IfErr, IfOk, IsSomeAnd, map, option_and_then, string_bytes, true};
 ghost use Rattle.toml.specs.Parse.{parse_document};
 ghost use Rattle.lab_scenario_orders.specs.Asks.{Asks, ask_table};
 ghost use Rattle.lab_scenario_orders.specs.KeyLines.{IsPlaced};
+ghost use Rattle.lab_scenario_orders.specs.declared.asks.Ask.{Ask};
 ghost use Rattle.lab_scenario_orders.specs.Splits.{ask_part};
+ghost use Rattle.lab_step_texts.specs.Asks.{AreJoined, IsAskOf};
+ghost use Rattle.lab_step_texts.specs.Questions.{unasked_part};
 
-use lab_scenario_orders::{Ask, AskFault, Callers, read_ask, read_callers};
-use lab_step_orders::{Crew, CrewCaller};
+use crate::extras::lines_of;
+use crate::questions::unasked_in;
+use lab_scenario_orders::{Ask, AskFault, Callers, Watch, read_ask, read_callers};
+use lab_step_orders::{Crew, CrewCaller, StepWatch};
 use std::alloc::{AllocError, Global};
 
 // Writes a step of a caller that has calls.
@@ -50,16 +55,97 @@ fn ask_of(alloc: Global, callers: &Callers, bytes: &[u8]) -> Result<Ask, AskFaul
     }
 }
 
-/// What the table `[ask]` of a text asks: nothing where there is none. Each answer of `never` is one of a thread that has
-/// calls.
-pub fn read_step_ask(alloc: Global, crew: &Crew, bytes: &[u8]) -> Result<Ask, AskFault>
-    ensures asks { IfOk result (λ ask. IsSomeAnd (option_and_then ask_table (parse_document (ask_part bytes.now))) (λ table. Asks table ask)) }
+// As many questions, each asked when one of these is; their facts are the crew's.
+fn states_of(alloc: Global, watches: &[StepWatch]) -> Result<Vec<Watch>, AllocError>
+    ensures { IfOk result (λ all. map (λ watch. watch.when) all.items ≡ map (λ watch. watch.when) watches.now) }
+{
+    let mut all = Vec::new(alloc);
+    for watch in watches {
+        all.push(Watch {
+            when: watch.when,
+            text: String::new(alloc),
+            claims: Vec::new(alloc),
+        })?;
+    }
+    Ok(all)
+}
 
-    // A fault of a key is told with the first line that sets it.
+// Whether there are no questions.
+fn are_none(watches: &[Watch]) -> bool
+    ensures { result ≡ true → watches.now ≡ [] }
+{
+    matches!(watches, [])
+}
+
+// What is asked, with these questions.
+fn with_states(ask: Ask, watches: Vec<Watch>) -> Ask
+    ensures never { result.never ≡ ask.never }
+    ensures always_ends { result.always_ends ≡ ask.always_ends }
+    ensures ends_waits { result.ends_waits ≡ ask.ends_waits }
+    ensures as_picked { result.as_picked ≡ ask.as_picked }
+    ensures outcomes { result.outcomes ≡ ask.outcomes }
+    ensures watches { result.watches.items ≡ watches.items }
+{
+    let Ask {
+        never,
+        always_ends,
+        ends_waits,
+        as_picked,
+        watches: _,
+        outcomes,
+    } = ask;
+    Ask {
+        never,
+        always_ends,
+        ends_waits,
+        as_picked,
+        watches,
+        outcomes,
+    }
+}
+
+// The same of bytes without the lines of questions, with the crew's questions.
+fn read_joined(alloc: Global, crew: &Crew, callers: &Callers, bytes: &[u8]) -> Result<Ask, AskFault>
+    ensures asks { IfOk result (λ ask. (read : Ask) × IsSomeAnd (option_and_then ask_table (parse_document (ask_part bytes.now))) (λ table. Asks table read) × AreJoined crew.now read ask) }
     ensures placed { IfErr result (IsPlaced bytes.now) }
 {
+    let ask = match ask_of(alloc, callers, bytes) {
+        Ok(ask) => ask,
+        Err(fault) => return Err(fault),
+    };
+    if !are_none(ask.watches.as_slice()) {
+        return Err(AskFault::Table);
+    }
+    match states_of(alloc, crew.watches.as_slice()) {
+        Ok(watches) => Ok(with_states(ask, watches)),
+        Err(_) => Err(AskFault::Memory),
+    }
+}
+
+// A text without the lines of questions.
+fn unasked_of(alloc: Global, text: &str) -> Result<String, AllocError>
+    ensures { IfOk result (λ plain. string_bytes plain ≡ unasked_part text.now) }
+{
+    let all = lines_of(alloc, text)?;
+    unasked_in(alloc, all.as_slice())
+}
+
+/// What the table `[ask]` of a text asks: nothing where there is none. Each answer of `never` is one of a thread that has
+/// calls. Its questions about moments are the crew's.
+pub fn read_step_ask(alloc: Global, crew: &Crew, bytes: &[u8]) -> Result<Ask, AskFault>
+    ensures asks { IfOk result (IsAskOf bytes.now crew.now) }
+
+    // A fault of a key is told with the first line that sets it.
+    ensures placed { IfErr result (IsPlaced (unasked_part bytes.now)) }
+{
+    let Ok(text) = str::from_utf8(bytes) else {
+        return Err(AskFault::Table);
+    };
+    let Ok(plain) = unasked_of(alloc, text) else {
+        return Err(AskFault::Memory);
+    };
     match named(alloc, crew) {
-        Ok(callers) => ask_of(alloc, &callers, bytes),
+        Ok(callers) => read_joined(alloc, crew, &callers, plain.as_str().as_bytes()),
         Err(_) => Err(AskFault::Memory),
     }
 }

@@ -14,7 +14,7 @@ use crate::faults::{StepFault, StepsFault};
 use evl_base::{Call, MutexKind, Policy, Stage, ThreadId};
 use evl_scenario::{Fault, Step};
 use lab_callers_text::{Act, CallersStep, CallersText};
-use lab_step_orders::{CoreUse, Crew, CrewCaller, WordCall};
+use lab_step_orders::{CoreUse, Crew, CrewCaller, StepWatch, WordCall};
 use std::alloc::{AllocError, Global};
 
 // Whether a mutex neither nests nor has a ceiling.
@@ -233,6 +233,7 @@ fn crew_with(
     count: usize,
     extras: &Extras,
     calls: &[CallerCall],
+    watches: Vec<StepWatch>,
 ) -> Result<Crew, Fault>
     requires { count ≤ length read.steps.items }
     ensures board { IfOk result (λ crew. crew.board ≡ read.board) }
@@ -242,6 +243,7 @@ fn crew_with(
     ensures each { IfOk result (λ crew. length crew.callers.items ≡ read.board.threads) }
     ensures callers { IfOk result (λ crew. (k : ℕ) (caller : CrewCaller) → slice_get crew.callers.items k ≡ Some caller → caller_of (take count read.steps.items) (drop count read.steps.items) extras.now.ways.items calls.now k caller) }
     ensures what_if { IfOk result (λ crew. crew.what_if ≡ extras.now.what_if) }
+    ensures watches { IfOk result (λ crew. crew.watches.items ≡ watches.items) }
 {
     let CallersText {
         board,
@@ -260,7 +262,7 @@ fn crew_with(
     let Ok(all) = steps_of(alloc, steps) else {
         return Err(Fault::Memory);
     };
-    match Crew::new(board, limit, setup, all, callers, extras.what_if) {
+    match Crew::new(board, limit, setup, all, callers, extras.what_if, watches) {
         Ok(crew) => Ok(crew),
         Err(_) => Err(Fault::Board),
     }
@@ -272,15 +274,20 @@ pub(crate) fn crew_of(
     read: CallersText,
     count: usize,
     extras: &Extras,
+    watches: Vec<StepWatch>,
 ) -> Result<Crew, StepsFault>
     requires { count ≤ length read.steps.items }
     ensures crew { IfOk result (IsCrewOf extras.now read count) }
     ensures kept { IfErr result (IsKept read count) }
+    ensures watches { IfOk result (λ crew. crew.watches.items ≡ watches.items) }
 {
     if !are_plain(read.board.mutexes.as_slice()) {
         return Err(StepsFault::Mutex);
     }
     let steps = read.steps.as_slice();
+    if steps.len() > read.limit as usize {
+        return Err(StepsFault::Limit);
+    }
     if let Some(number) = unattached(read.board.threads, &steps[..count]) {
         return Err(StepsFault::Step(number, StepFault::Setup));
     }
@@ -289,7 +296,7 @@ pub(crate) fn crew_of(
         Err(CallsFault::Step(number, fault)) => return Err(StepsFault::Step(number, fault)),
         Err(CallsFault::Memory) => return Err(StepsFault::Text(Fault::Memory)),
     };
-    match crew_with(alloc, read, count, extras, calls.as_slice()) {
+    match crew_with(alloc, read, count, extras, calls.as_slice(), watches) {
         Ok(crew) => Ok(crew),
         Err(fault) => Err(StepsFault::Text(fault)),
     }

@@ -186,8 +186,8 @@ fn plain_in(alloc: Global, lines: &[&str]) -> Result<String, AllocError>
     Ok(text)
 }
 
-// The lines of a text, in order.
-fn lines_of(alloc: Global, text: &str) -> Result<Vec<&str>, AllocError>
+/// The lines of a text, in order.
+pub(crate) fn lines_of(alloc: Global, text: &str) -> Result<Vec<&str>, AllocError>
     ensures { IfOk result (λ all. map (λ line. line.now) all.items ≡ lines text.now) }
 {
     text.lines().collect(alloc)

@@ -43,8 +43,14 @@ pub enum StepsFault {
     Mixed,
     /// A mutex of the board nests, or has a ceiling.
     Mutex,
+    /// It has more steps than its history's limit, those that are set up counted too.
+    Limit,
     /// A line of `[what_if]` names no wrong step, or not as `true`.
     WhatIf,
+    /// This line, from 1, of `[ask]` asks of moments, and isn't texts of facts in brackets.
+    Question(usize),
+    /// This one asks of a thread, a stax or a mutex that the board lacks.
+    Lacking(usize),
     /// The step with this number, from 1, those that are set up counted too.
     Step(usize, StepFault),
 }

@@ -6,7 +6,9 @@ mod asks;
 mod calls;
 mod crews;
 mod extras;
+mod fact_texts;
 mod faults;
+mod questions;
 mod reading;
 
 pub use answers::first_impossible;

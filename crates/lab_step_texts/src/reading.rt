@@ -1,17 +1,21 @@
 //! Texts of callers whose orders of steps are asked for, read.
-ghost use Rattle.std.specs.Prelude.{◌≡◌, IfErr, IfOk, string_bytes};
+ghost use Rattle.std.specs.Prelude.{◌≡◌, IfErr, IfOk, false, string_bytes, true};
+ghost use Rattle.std.specs.Str.Lines.{lines};
 ghost use Rattle.lab_kinds.specs.Kinds.{kind_of};
-ghost use Rattle.lab_step_texts.specs.Crews.{IsKeptOf, IsReadAs, IsReadOf, IsRefused};
+ghost use Rattle.lab_step_texts.specs.Crews.{IsReadAs, IsReadOf, IsRefused, IsStopped};
 ghost use Rattle.lab_step_texts.specs.Kinds.{asks_steps, is_of_callers};
+ghost use Rattle.lab_step_texts.specs.Questions.{AreAsked, IsUnasked, are_there};
 
 use crate::crews::crew_of;
-use crate::extras::{Extras, extras_of};
+use crate::extras::{Extras, extras_of, lines_of};
 use crate::faults::StepsFault;
+use crate::questions::questions_in;
+use evl_base::Board;
 use evl_scenario::Fault;
 use lab_callers_text::{CallersText, read_callers};
 use lab_kinds::{TextKind, kind_of};
 use lab_scenario_orders::{Split, split_text};
-use lab_step_orders::Crew;
+use lab_step_orders::{Crew, StepWatch};
 use std::alloc::{AllocError, Global};
 
 // Whether the steps of a text are those of callers.
@@ -37,18 +41,36 @@ pub fn asks_steps(alloc: Global, bytes: &[u8]) -> Result<bool, AllocError>
     is_of_callers(alloc, split.scenario.as_str().as_bytes())
 }
 
+// What a text asks of moments, on this board.
+fn questions_of(alloc: Global, board: &Board, text: &str) -> Result<Vec<StepWatch>, StepsFault>
+    ensures asked { IfOk result (λ all. AreAsked false (lines text.now) all.items) }
+    ensures there { IfOk result (λ all. are_there board.now all.items ≡ true) }
+    ensures refused { IfErr result (IsUnasked board.now (lines text.now)) }
+{
+    let Ok(all) = lines_of(alloc, text) else {
+        return Err(StepsFault::Text(Fault::Memory));
+    };
+    questions_in(alloc, board, all.as_slice())
+}
+
 // The callers of a text that was split.
-fn read_split(alloc: Global, extras: &Extras, split: &Split) -> Result<Crew, StepsFault>
+fn read_split(alloc: Global, extras: &Extras, split: &Split, text: &str) -> Result<Crew, StepsFault>
     ensures crew { IfOk result (IsReadOf extras.now (string_bytes split.now.scenario) split.now.setup) }
-    ensures kept { IfErr result (IsKeptOf (string_bytes split.now.scenario) split.now.setup) }
+    ensures asked { IfOk result (λ crew. AreAsked false (lines text.now) crew.watches.items) }
+    ensures there { IfOk result (λ crew. are_there crew.board crew.watches.items ≡ true) }
+    ensures kept { IfErr result (IsStopped (lines text.now) (string_bytes split.now.scenario) split.now.setup) }
 {
     let read = match read_callers(alloc, split.scenario.as_str().as_bytes(), None) {
         Ok(read) => read,
         Err(fault) => return Err(StepsFault::Text(fault)),
     };
+    let watches = match questions_of(alloc, &read.board, text) {
+        Ok(watches) => watches,
+        Err(fault) => return Err(fault),
+    };
     let steps = read.steps.as_slice();
     let count = split.setup.min(steps.len());
-    crew_of(alloc, read, count, extras)
+    crew_of(alloc, read, count, extras, watches)
 }
 
 /// The callers of a text, with their calls on words: a text of callers, in which `[[setup]]` stands for a step that comes
@@ -72,5 +94,5 @@ pub fn read_steps(alloc: Global, bytes: &[u8]) -> Result<Crew, StepsFault>
     if split.is_mixed {
         return Err(StepsFault::Mixed);
     }
-    read_split(alloc, &extras, &split)
+    read_split(alloc, &extras, &split, text)
 }

@@ -2,6 +2,8 @@
 #![tactic(auto)]
 
 #[cfg(test)]
+mod moments;
+#[cfg(test)]
 mod turns;
 #[cfg(test)]
 mod words;

@@ -2,8 +2,10 @@
 use arrayvec::ArrayVec;
 use evl_base::{Board, Call, MutexId, MutexKind, Policy, Refusal, Stage, StaxId, ThreadId};
 use evl_scenario::Step;
+use lab_scenario_orders::When;
 use lab_step_orders::{
-    CoreUse, Crew, CrewCaller, StepOutcomes, WhatIf, WordCall, step_outcomes_of, write_step_report,
+    CoreUse, Crew, CrewCaller, StepClaim, StepFact, StepOutcomes, StepWatch, WhatIf, WordCall,
+    step_outcomes_of, write_step_report,
 };
 use std::alloc::{AllocError, Global};
 
@@ -75,6 +77,7 @@ fn crew_of(alloc: Global, limit: u16, rows: &[Row]) -> Result<Crew, Refusal> {
         Vec::new(alloc),
         callers,
         None,
+        Vec::new(alloc),
     )
 }
 
@@ -84,7 +87,7 @@ pub(crate) struct Counts {
     orders: u128,
     outcomes: usize,
     moments: usize,
-    with_answer: u128,
+    pub(crate) with_answer: u128,
 }
 
 // What was found of them.
@@ -314,7 +317,62 @@ fn crew_by(
         return None;
     };
     let board = board_of(1, true, 4);
-    Crew::new(board, 1000, setup, steps, callers, what_if).ok()
+    Crew::new(board, 1000, setup, steps, callers, what_if, Vec::new(alloc)).ok()
+}
+
+// All of these facts are claimed.
+fn claims_of(alloc: Global, facts: &[StepFact]) -> Result<Vec<StepClaim>, AllocError> {
+    let mut claims = Vec::new(alloc);
+    for fact in facts {
+        claims.push(StepClaim {
+            fact: *fact,
+            is_so: true,
+        })?;
+    }
+    Ok(claims)
+}
+
+// One question.
+fn question(alloc: Global, when: When, facts: &[StepFact]) -> Result<Vec<StepWatch>, AllocError> {
+    let mut watches = Vec::new(alloc);
+    watches.push(StepWatch {
+        when,
+        text: String::new(alloc),
+        claims: claims_of(alloc, facts)?,
+    })?;
+    Ok(watches)
+}
+
+// The outcomes of threads of rank 10, of whose moments this is asked.
+pub(crate) fn watched_by(
+    alloc: Global,
+    rows: &[Row],
+    way: CoreUse,
+    when: When,
+    facts: &[StepFact],
+) -> Option<StepOutcomes> {
+    let Ok(callers) = callers_of(alloc, rows, way) else {
+        return None;
+    };
+    let Ok(setup) = attached(alloc, &[10, 10]) else {
+        return None;
+    };
+    let Ok(watches) = question(alloc, when, facts) else {
+        return None;
+    };
+    let steps = Vec::new(alloc);
+    match Crew::new(
+        board_of(2, false, 2),
+        1000,
+        setup,
+        steps,
+        callers,
+        None,
+        watches,
+    ) {
+        Ok(crew) => step_outcomes_of(alloc, &crew, 100_000).ok(),
+        Err(_) => None,
+    }
 }
 
 pub(crate) fn counts_by(

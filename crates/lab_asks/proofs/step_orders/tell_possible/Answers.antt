@@ -1,7 +1,7 @@
 use Rattle.std.proofs.Common.{None, Some, codes, option_map, refl}
 use Rattle.std.specs.Prelude.{unwrap_or}
 use Rattle.lab_asks.specs.Asks.{impossible_text}
-use Rattle.lab_asks.specs.StepOrders.{TellsFound, TellsPossible}
+use Rattle.lab_asks.specs.StepOrders.{TellsGone, TellsPossible, told_for}
 use Rattle.lab_streams.proofs.OutputLemmas.{told, written_as}
 use Rattle.lab_asks.proofs.step_orders.tell_possible.Goals as goal
 
@@ -10,8 +10,8 @@ returns-in-None-clause-writes g c =
     let name = unwrap_or (option_map (λ file. file.now) c.args.asked.now.file) (codes "-") in
     let most = c.args.asked.now.most in
     let one = c.args.asked.now.shown in
-    rw c.in-None.is (written_as _ (TellsPossible most one name c.args.crew.now c.args.ask.now None) _ _ _ _ (TellsFound most one name c.args.crew.now c.args.ask.now) c.go_through.result
-    (λ output h. h) c.go_through.ensures.writes)
+    rw c.in-None.is (written_as _ (TellsPossible most one name c.args.crew.now c.args.ask.now None) _ _ _ _ (TellsGone most name c.args.crew.now c.args.ask.now (told_for one)) c.tell_gone.result
+    (λ output h. h) c.tell_gone.ensures.writes)
 
 pub returns-in-Some-clause-writes : goal.returns-in-Some-clause-writes
 returns-in-Some-clause-writes g c =

@@ -1,5 +1,4 @@
-use Rattle.std.proofs.Common.{◌≡◌, ◌∙◌, ℕ, List, ap}
-use Rattle.lab_streams.specs.declared.words.Shown.TheVariants.{Report}
+use Rattle.std.proofs.Common.{◌≡◌, ◌∙◌, ℕ, List, None, ap}
 use Rattle.lab_asks.specs.StepOrders.{outcomes_told, verdict}
 use Rattle.lab_streams.proofs.OutputLemmas.{written_as}
 use Rattle.lab_asks.proofs.step_orders.tell_report.Goals as goal
@@ -10,5 +9,5 @@ returns-in-Ok-clause-writes g c =
     let ask = c.args.ask.now in
     let found = c.args.found.now in
     let is = ap (λ (text : List ℕ). verdict text name ask found) (c.as_str.ensures.value ∙ c.in-Ok.ensures) in
-    written_as _ (λ output. output ≡ outcomes_told Report name c.args.crew.now ask found) _ _ _ _ (λ output. output ≡ verdict c.as_str.result.now name ask found) c.tell_printed.result (λ output h. h ∙ is)
+    written_as _ (λ output. output ≡ outcomes_told None name c.args.crew.now ask found) _ _ _ _ (λ output. output ≡ verdict c.as_str.result.now name ask found) c.tell_printed.result (λ output h. h ∙ is)
     c.tell_printed.ensures.writes

@@ -8,7 +8,7 @@ use Rattle.lab_asks.proofs.step_orders.tell_unpicked.Goals as goal
 pub returns-then-whole-clause-writes : goal.returns-then-whole-clause-writes
 returns-then-whole-clause-writes g c =
     let name = unwrap_or (option_map (λ file. file.now) c.args.asked.now.file) (codes "-") in
-    rw c.if-whole.true (told _ (TellsUnpicked c.args.asked.now.most c.args.asked.now.shown name c.args.crew.now c.args.ask.now true) _ _ _ (line_about name (codes "as_picked, never_state, sometimes and always are for orders of whole calls"))
+    rw c.if-whole.true (told _ (TellsUnpicked c.args.asked.now.most c.args.asked.now.shown name c.args.crew.now c.args.ask.now true) _ _ _ (line_about name (codes "as_picked is for orders of whole calls"))
     c.tell_refused-told.result c.refused.result refl (rw c.name.ensures at c.tell_refused-told.ensures.line) c.refused.ensures.status)
 
 pub returns-else-whole-clause-writes : goal.returns-else-whole-clause-writes

@@ -31,6 +31,8 @@ returns-in-Ok-outcomes_at-clause-outcomes c =
       whole = ends.whole;
       cut = ends.cut;
       more = ends.more;
+      asked = ends.firsts;
+      each = ends.each;
     }
 
 pub returns-in-Err-count_of-clause-uncounted : goal.returns-in-Err-count_of-clause-uncounted

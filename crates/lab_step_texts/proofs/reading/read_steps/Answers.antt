@@ -7,7 +7,7 @@ returns-clause-crew c =
     let extras = c.in-Ok-extras_of.ensures in
     let split = c.in-Ok-split_text.ensures in
     crew_split c.read_split.result c.in-Ok-extras_of.extras c.args.bytes.now c.in-Ok.text.now _ _ _ c.in-Ok.ensures.cases.0 (sym extras.unclear ∙ c.if-extras.false) (record { ways = extras.ways; what_if = extras.what_if })
-    (c.as_str.ensures.value ∙ extras.plain) (sym split.mixed ∙ c.if-split.false) split.scenario split.setup c.read_split.ensures.crew
+    (c.as_str.ensures.value ∙ extras.plain) (sym split.mixed ∙ c.if-split.false) split.scenario split.setup c.read_split.ensures.asked c.read_split.ensures.there c.read_split.ensures.crew
 
 pub returns-clause-refused : goal.returns-clause-refused
 returns-clause-refused c =

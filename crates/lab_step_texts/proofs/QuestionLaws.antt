@@ -1,0 +1,108 @@
+-- Texts with others between them, what lines ask, and why one asks nothing.
+use Rattle.std.proofs.Common.{Bor, append_assoc, ◌≡◌, ℕ, Bool, true, false, ◌&&◌, List, [], ◌∷◌, ◌++◌, length, drop, get_or, zero, suc, ◌+◌, ◌-◌, ◌<◌, ◌≤◌, map, Option, Some, None, refl, sym, ◌∙◌, ap, subst, arith, add-one, append-nil}
+use Rattle.std.specs.Prelude.{IsSomeAnd, is_some, slice_get}
+use Rattle.std.proofs.lemmas.List.{drop_all, map-append}
+use Rattle.std.proofs.lemmas.List.Folds.{list_all-append}
+use Rattle.evl_base.specs.declared.board.Board.{Board}
+use Rattle.lab_scenario_orders.specs.declared.watches.When.{When}
+use Rattle.lab_scenario_orders.specs.Splits.{is_asked}
+use Rattle.lab_step_orders.specs.declared.watches.StepWatch.{StepWatch}
+use Rattle.lab_step_texts.specs.Questions.{AreAsked, IsLineFault, IsUnasked, LineAsks, are_there, joined_by, names_there, when_asked, when_set}
+use Rattle.lab_step_texts.specs.declared.faults.StepsFault.{StepsFault}
+use Rattle.lab_step_texts.specs.declared.faults.StepsFault.TheVariants.{Text, Mixed, Mutex, Limit, Step, WhatIf, Question, Lacking}
+
+joined_more : (between : List ℕ) (done : List (List ℕ)) (one rest : List ℕ) → joined_by between (done ++ one ∷ (rest ∷ [])) ≡ joined_by between (done ++ (one ++ (between ++ rest)) ∷ [])
+joined_more between [] one rest = refl
+joined_more between (first ∷ []) one rest = refl
+joined_more between (first ∷ (next ∷ done)) one rest = ap (λ text. first ++ (between ++ text)) (joined_more between (next ∷ done) one rest)
+
+-- the same of what a loop has
+pub parts_more : (between : List ℕ) (done all : List (Bor (List ℕ))) (one : Bor (List ℕ)) (rest behind text : List ℕ) → all ≡ done ++ one ∷ [] → rest ≡ one.now ++ (between ++ behind)
+    → joined_by between (map (λ one. one.now) done ++ rest ∷ []) ≡ text → joined_by between (map (λ one. one.now) all ++ behind ∷ []) ≡ text
+parts_more between done all one rest behind text more split before =
+    let texts : List (Bor (List ℕ)) → List (List ℕ) = λ l. map (λ (one : Bor (List ℕ)). one.now) l in
+    ap (λ (l : List (Bor (List ℕ))). joined_by between (texts l ++ behind ∷ [])) more
+    ∙ (ap (λ (l : List (List ℕ)). joined_by between (l ++ behind ∷ [])) (map-append (λ (one : Bor (List ℕ)). one.now) done (one ∷ []))
+    ∙ (ap (λ (l : List (List ℕ)). joined_by between l) (append_assoc (texts done) (one.now ∷ []) (behind ∷ []))
+    ∙ (joined_more between (texts done) one.now behind
+    ∙ (ap (λ (t : List ℕ). joined_by between (texts done ++ t ∷ [])) (sym split) ∙ before))))
+
+-- what a line asks more
+pub asked_more : (was : Bool) (line : List ℕ) (rest whole : List (List ℕ)) (all next now : List StepWatch) → next ≡ all ++ now → LineAsks (when_asked (is_asked was line) line) line now
+    → ((later : List StepWatch) → AreAsked was (line ∷ rest) later → AreAsked false whole (all ++ later))
+    → (later : List StepWatch) → AreAsked (is_asked was line) rest later → AreAsked false whole (next ++ later)
+asked_more was line rest whole all next now more asks before later behind =
+    subst (λ (l : List StepWatch). AreAsked false whole l) (sym (ap (λ (l : List StepWatch). l ++ later) more ∙ append_assoc all now later))
+    (before (now ++ later) (now, later, refl, asks, behind))
+
+drop_one : {A : Type 0} (xs : List A) (i : ℕ) (d : A) → i < length xs → drop i xs ≡ get_or xs i d ∷ drop (suc i) xs
+drop_one [] i d lt = absurd (omega arith)
+drop_one (x ∷ xs) zero d lt = refl
+drop_one (x ∷ xs) (suc i) d lt = drop_one xs i d (omega arith)
+
+-- the same of what a loop has
+pub asked_next : {A : Type 0} (f : A → List ℕ) (lines : List A) (i : ℕ) (d : A) (was is : Bool) (o : Option When) (all next : List StepWatch) → i < length lines
+    → is ≡ is_asked was (f (get_or lines i d)) → o ≡ when_asked is (f (get_or lines i d)) → (now : List StepWatch) × (next ≡ all ++ now) × LineAsks o (f (get_or lines i d)) now
+    → ((later : List StepWatch) → AreAsked was (map f (drop i lines)) later → AreAsked false (map f lines) (all ++ later))
+    → (later : List StepWatch) → AreAsked is (map f (drop (i + 1) lines)) later → AreAsked false (map f lines) (next ++ later)
+asked_next {A} f lines i d was is o all next lt same at line before later behind =
+    let x = get_or lines i d in
+    let rest = drop (suc i) lines in
+    let asks = subst (λ (b : Bool). LineAsks (when_asked b (f x)) (f x) line.0) same (subst (λ (w : Option When). LineAsks w (f x) line.0) at line.2) in
+    let here = subst (λ (l : List A). (later : List StepWatch) → AreAsked was (map f l) later → AreAsked false (map f lines) (all ++ later)) (drop_one lines i d lt) before in
+    let more = subst (λ (n : ℕ). AreAsked is (map f (drop n lines)) later) (add-one i) behind in
+    asked_more was (f x) (map f rest) (map f lines) all next line.0 line.1 asks here later (subst (λ (b : Bool). AreAsked b (map f rest) later) same more)
+
+pub asked_whole : {A : Type 0} (f : A → List ℕ) (lines : List A) (i : ℕ) (is : Bool) (all : List StepWatch) → length lines ≤ i
+    → ((later : List StepWatch) → AreAsked is (map f (drop i lines)) later → AreAsked false (map f lines) (all ++ later)) → AreAsked false (map f lines) all
+asked_whole {A} f lines i is all le before =
+    subst (λ (l : List StepWatch). AreAsked false (map f lines) l) (append-nil all)
+    (before [] (subst (λ (l : List A). AreAsked is (map f l) []) (sym (drop_all i lines le)) refl))
+
+-- the board has what these name, and what those do
+pub there_next : (board : Board) (all next now : List StepWatch) → next ≡ all ++ now → are_there board all ≡ true → are_there board now ≡ true → are_there board next ≡ true
+there_next board all next now more there here =
+    ap (λ (l : List StepWatch). are_there board l) more
+    ∙ (list_all-append (names_there board) all now
+    ∙ (ap (λ (b : Bool). b && are_there board now) there ∙ here))
+
+-- ---- why a line asks nothing
+
+no_way : {A : Type 0} → false ≡ true → A
+no_way e = cc
+
+one_at : {A : Type 0} (f : A → List ℕ) (lines : List A) (i : ℕ) (d : A) → i < length lines → slice_get (map f lines) i ≡ Some (f (get_or lines i d))
+one_at f [] i d lt = absurd (omega arith)
+one_at f (x ∷ xs) zero d lt = refl
+one_at f (x ∷ xs) (suc i) d lt = one_at f xs i d (omega arith)
+
+line_at : {A : Type 0} (f : A → List ℕ) (lines : List A) (i : ℕ) (d : A) (n : ℕ) → i < length lines → n ≡ i + 1 → slice_get (map f lines) (n - 1) ≡ Some (f (get_or lines i d))
+line_at f lines i d n lt is =
+    let at : n - 1 ≡ i = omega (arith, is) in
+    ap (λ (k : ℕ). slice_get (map f lines) k) at ∙ one_at f lines i d lt
+
+set_so : (is : Bool) (line : List ℕ) (o : Option When) → o ≡ when_asked is line → is_some o ≡ true → is_some (when_set line) ≡ true
+set_so true line o at some = subst (λ (w : Option When). is_some w ≡ true) at some
+set_so false line o at some = no_way (subst (λ (w : Option When). is_some w ≡ true) at some)
+
+lacks_so : (is : Bool) (line : List ℕ) (o : Option When) (board : Board) (watches : List StepWatch) → o ≡ when_asked is line → LineAsks o line watches → are_there board watches ≡ false
+    → LineAsks (when_set line) line watches
+lacks_so true line o board watches at asks lacks = subst (λ (w : Option When). LineAsks w line watches) at asks
+lacks_so false line o board watches at asks lacks =
+    let none : watches ≡ [] = subst (λ (w : Option When). LineAsks w line watches) at asks in
+    no_way (sym (subst (λ (l : List StepWatch). are_there board l ≡ false) none lacks))
+
+-- so of the line in a loop
+pub unasked_at : {A : Type 0} (f : A → List ℕ) (lines : List A) (i : ℕ) (d : A) (board : Board) (is : Bool) (o : Option When) (fault : StepsFault) → i < length lines
+    → o ≡ when_asked is (f (get_or lines i d)) → IsLineFault board o (f (get_or lines i d)) (i + 1) fault → IsUnasked board (map f lines) fault
+unasked_at f lines i d board is o (Text fault) lt at h = tt
+unasked_at f lines i d board is o Mixed lt at h = absurd h
+unasked_at f lines i d board is o Mutex lt at h = absurd h
+unasked_at f lines i d board is o Limit lt at h = absurd h
+unasked_at f lines i d board is o WhatIf lt at h = absurd h
+unasked_at f lines i d board is o (Step n fault) lt at h = absurd h
+unasked_at f lines i d board is o (Question n) lt at h =
+    subst (λ (l : Option (List ℕ)). IsSomeAnd l (λ line. is_some (when_set line) ≡ true)) (sym (line_at f lines i d n lt h.0)) (set_so is (f (get_or lines i d)) o at h.1)
+unasked_at f lines i d board is o (Lacking n) lt at h =
+    subst (λ (l : Option (List ℕ)). IsSomeAnd l (λ line. (watches : List StepWatch) × LineAsks (when_set line) line watches × (are_there board watches ≡ false))) (sym (line_at f lines i d n lt h.0))
+    (h.1.0, lacks_so is (f (get_or lines i d)) o board h.1.0 at h.1.1 h.1.2, h.1.2)

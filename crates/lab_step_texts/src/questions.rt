@@ -1,0 +1,350 @@
+//! Questions about moments, each on a line of a table `[ask]`.
+ghost use Rattle.std.specs.Prelude.{ℕ, List, ◌≡◌, ◌++◌, ◌<◌, All, IfErr, IfOk, IfSome, OnOk, Some, codes, false, is_some, length, map, option_map, string_bytes, true};
+ghost use Rattle.evl_scenario.specs.Lines.{line_feed};
+ghost use Rattle.lab_scenario_orders.specs.KeyLines as keys;
+ghost use Rattle.lab_scenario_orders.specs.Splits.{joined_lines};
+ghost use Rattle.lab_step_orders.specs.declared.watches.StepWatch.{StepWatch};
+ghost use Rattle.lab_step_texts.specs.FactTexts.{claim_in};
+ghost use Rattle.lab_step_texts.specs.Questions.{AreAsked, AreOn, Claims, IsLineFault, IsOne, IsUnasked, LineAsks, are_there, is_there, joined_by, names_there, unasked_line, unasked_lines, value_set, when_asked, when_named, when_set};
+
+use crate::fact_texts::claim_in;
+use crate::faults::StepsFault;
+use evl_base::Board;
+use evl_scenario::Fault;
+use lab_kinds::bare;
+use lab_scenario_orders::{When, is_asked};
+use lab_step_orders::{StepClaim, StepFact, StepWatch};
+use std::alloc::{AllocError, Global};
+
+// What stands before the first `=`, and what behind it.
+fn around_equals(text: &str) -> Option<(&str, &str)>
+    ensures { option_map (λ parts. (parts.0.now, parts.1.now)) result ≡ keys.around_equals text.now }
+{
+    match text.split_once('=') {
+        Some(parts) => Some(parts),
+        None => None,
+    }
+}
+
+// When a key asks for facts.
+fn when_named(key: &str) -> Option<When>
+    ensures { result ≡ when_named key.now }
+{
+    match key {
+        "never_state" => Some(When::Never),
+        "sometimes" => Some(When::Sometimes),
+        "always" => Some(When::Always),
+        _ => None,
+    }
+}
+
+// When a line asks for facts.
+fn when_set(line: &str) -> Option<When>
+    ensures { result ≡ when_set line.now }
+{
+    match around_equals(bare(line)) {
+        Some((key, _)) => when_named(key.trim()),
+        None => None,
+    }
+}
+
+// The same of a line that is in a table `[ask]` or not.
+fn when_asked(is_in: bool, line: &str) -> Option<When>
+    ensures { result ≡ when_asked is_in line.now }
+{
+    if is_in { when_set(line) } else { None }
+}
+
+// To what a line sets its key.
+fn value_set(line: &str) -> Option<&str>
+    ensures { option_map (λ value. value.now) result ≡ value_set line.now }
+{
+    match around_equals(bare(line)) {
+        Some((_, value)) => Some(value.trim()),
+        None => None,
+    }
+}
+
+// What stands before and behind a text in another one.
+fn around<'a>(text: &'a str, between: &str) -> Option<(&'a str, &'a str)>
+    ensures { IfSome result (λ parts. text.now ≡ parts.0.now ++ (between.now ++ parts.1.now)) }
+{
+    match text.split_once(between) {
+        Some(parts) => Some(parts),
+        None => None,
+    }
+}
+
+// What stands within the brackets of a list and its first and last quotes.
+fn listed(value: &str) -> Option<&str>
+    ensures { IfSome result (λ texts. value.now ≡ codes "[\"" ++ (texts.now ++ codes "\"]")) }
+{
+    let (front, rest) = around(value, "[\"")?;
+    let (texts, behind) = around(rest, "\"]")?;
+    if front == "" && behind == "" {
+        Some(texts)
+    } else {
+        None
+    }
+}
+
+// The texts between which this stands.
+fn pieces<'a>(alloc: Global, text: &'a str, between: &str) -> Result<Vec<&'a str>, AllocError>
+    requires { 0 < length between.now }
+    ensures { IfOk result (λ texts. joined_by between.now (map (λ one. one.now) texts.items) ≡ text.now) }
+{
+    let mut texts = Vec::new(alloc);
+    let mut rest = text;
+    while let Some((one, behind)) = around(rest, between) {
+        texts.push(one)?;
+        rest = behind;
+    }
+    texts.push(rest)?;
+    Ok(texts)
+}
+
+// What each of these texts claims; none where one isn't a fact.
+fn claims_of(alloc: Global, texts: &[&str]) -> Result<Option<Vec<StepClaim>>, AllocError>
+    ensures { IfOk result (λ all. IfSome all (λ claims. map claim_in (map (λ one. one.now) texts.now) ≡ map (λ claim. Some claim) claims.items)) }
+{
+    let mut claims = Vec::new(alloc);
+    for text in texts {
+        match claim_in(*text) {
+            Some(claim) => claims.push(claim)?,
+            None => return Ok(None),
+        }
+    }
+    Ok(Some(claims))
+}
+
+// What a text claims; none where it isn't facts with `and` between them.
+fn claims_in(alloc: Global, text: &str) -> Result<Option<Vec<StepClaim>>, AllocError>
+    ensures { IfOk result (λ all. IfSome all (λ claims. Claims text.now claims.items)) }
+{
+    let texts = pieces(alloc, text, " and ")?;
+    claims_of(alloc, texts.as_slice())
+}
+
+// A question with this text, which claims this.
+fn claimed(
+    alloc: Global,
+    when: When,
+    text: &str,
+    claims: Vec<StepClaim>,
+) -> Result<StepWatch, AllocError>
+    requires { Claims text.now claims.items }
+    ensures text { IfOk result (λ watch. string_bytes watch.text ≡ text.now) }
+    ensures is { IfOk result (IsOne when) }
+{
+    let text = String::from_str(alloc, text)?;
+    Ok(StepWatch { when, text, claims })
+}
+
+// The question that a text asks; none where it isn't facts.
+fn question(alloc: Global, when: When, text: &str) -> Result<Option<StepWatch>, AllocError>
+    ensures text { IfOk result (λ all. IfSome all (λ watch. string_bytes watch.text ≡ text.now)) }
+    ensures is { IfOk result (λ all. IfSome all (IsOne when)) }
+{
+    match claims_in(alloc, text)? {
+        Some(claims) => Ok(Some(claimed(alloc, when, text, claims)?)),
+        None => Ok(None),
+    }
+}
+
+// The questions that these texts ask; none where one isn't facts.
+fn questions(
+    alloc: Global,
+    when: When,
+    texts: &[&str],
+) -> Result<Option<Vec<StepWatch>>, AllocError>
+    ensures texts { IfOk result (λ all. IfSome all (λ watches. map (λ watch. string_bytes watch.text) watches.items ≡ map (λ one. one.now) texts.now)) }
+    ensures are { IfOk result (λ all. IfSome all (λ watches. All (IsOne when) watches.items)) }
+{
+    let mut watches = Vec::new(alloc);
+    for text in texts {
+        match question(alloc, when, *text)? {
+            Some(watch) => watches.push(watch)?,
+            None => return Ok(None),
+        }
+    }
+    Ok(Some(watches))
+}
+
+// The questions of a key that is set to this.
+fn questions_on(
+    alloc: Global,
+    when: When,
+    value: &str,
+) -> Result<Option<Vec<StepWatch>>, AllocError>
+    ensures { IfOk result (λ all. IfSome all (λ watches. AreOn when value.now watches.items)) }
+{
+    match listed(value) {
+        Some(text) => {
+            let texts = pieces(alloc, text, "\", \"")?;
+            questions(alloc, when, texts.as_slice())
+        }
+        None => Ok(None),
+    }
+}
+
+// The questions of a line that sets a key for this; none where it isn't set to facts.
+fn questions_at(alloc: Global, when: When, line: &str) -> Result<Option<Vec<StepWatch>>, AllocError>
+    ensures { IfOk result (λ all. IfSome all (λ watches. LineAsks (Some when) line.now watches.items)) }
+{
+    match value_set(line) {
+        Some(value) => questions_on(alloc, when, value),
+        None => Ok(None),
+    }
+}
+
+// These with others behind them.
+fn joined(watches: Vec<StepWatch>, others: Vec<StepWatch>) -> Result<Vec<StepWatch>, AllocError>
+    ensures { IfOk result (λ all. all.items ≡ watches.items ++ others.items) }
+{
+    let mut all = watches;
+    for watch in others {
+        all.push(watch)?;
+    }
+    Ok(all)
+}
+
+// These with the questions of a line behind them that sets a key for this.
+fn with_questions(
+    alloc: Global,
+    board: &Board,
+    all: Vec<StepWatch>,
+    when: When,
+    line: &str,
+    number: usize,
+) -> Result<Vec<StepWatch>, StepsFault>
+    ensures asked { IfOk result (λ next. (now : List StepWatch) × (next.items ≡ all.items ++ now) × LineAsks (Some when) line.now now × (are_there board.now now ≡ true)) }
+    ensures refused { IfErr result (IsLineFault board.now (Some when) line.now number) }
+{
+    let Ok(asked) = questions_at(alloc, when, line) else {
+        return Err(StepsFault::Text(Fault::Memory));
+    };
+    let Some(now) = asked else {
+        return Err(StepsFault::Question(number));
+    };
+    if !are_there(board, now.as_slice()) {
+        return Err(StepsFault::Lacking(number));
+    }
+    match joined(all, now) {
+        Ok(next) => Ok(next),
+        Err(_) => Err(StepsFault::Text(Fault::Memory)),
+    }
+}
+
+// These with the questions of a line behind them.
+fn with_line(
+    alloc: Global,
+    board: &Board,
+    all: Vec<StepWatch>,
+    when: Option<When>,
+    line: &str,
+    number: usize,
+) -> Result<Vec<StepWatch>, StepsFault>
+    ensures asked { IfOk result (λ next. (now : List StepWatch) × (next.items ≡ all.items ++ now) × LineAsks when line.now now × (are_there board.now now ≡ true)) }
+    ensures refused { IfErr result (IsLineFault board.now when line.now number) }
+{
+    match when {
+        Some(when) => with_questions(alloc, board, all, when, line, number),
+        None => Ok(all),
+    }
+}
+
+/// The questions of a text's lines, which name what the board has.
+pub(crate) fn questions_in(
+    alloc: Global,
+    board: &Board,
+    lines: &[&str],
+) -> Result<Vec<StepWatch>, StepsFault>
+    ensures asked { IfOk result (λ all. AreAsked false (map (λ line. line.now) lines.now) all.items) }
+    ensures there { IfOk result (λ all. are_there board.now all.items ≡ true) }
+    ensures refused { IfErr result (IsUnasked board.now (map (λ line. line.now) lines.now)) }
+{
+    let mut all = Vec::new(alloc);
+    let mut is = false;
+    for (i, line) in lines.iter().enumerate() {
+        is = is_asked(is, *line);
+        match with_line(alloc, board, all, when_asked(is, *line), *line, i + 1) {
+            Ok(next) => all = next,
+            Err(fault) => return Err(fault),
+        }
+    }
+    Ok(all)
+}
+
+// Whether a line that is in a table `[ask]` or not asks for facts.
+fn asks_facts(is_in: bool, line: &str) -> bool
+    ensures { result ≡ is_some (when_asked is_in line.now) }
+{
+    when_asked(is_in, line).is_some()
+}
+
+// Puts a line to the text without these lines, blank where it is one.
+fn put_unasked(text: &mut String, is_in: bool, line: &str) -> Result<(), AllocError>
+    ensures { OnOk result (string_bytes text.new ≡ string_bytes text.old ++ (unasked_line is_in line.now ++ line_feed)) }
+{
+    if !asks_facts(is_in, line) {
+        text.push_str(line)?;
+    }
+    text.push_str("\n")
+}
+
+/// A text without these lines, each other one at its place.
+pub(crate) fn unasked_in(alloc: Global, lines: &[&str]) -> Result<String, AllocError>
+    ensures { IfOk result (λ text. string_bytes text ≡ joined_lines (unasked_lines false (map (λ line. line.now) lines.now))) }
+{
+    let mut text = String::new(alloc);
+    let mut is = false;
+    for line in lines {
+        is = is_asked(is, *line);
+        put_unasked(&mut text, is, *line)?;
+    }
+    Ok(text)
+}
+
+// Whether a board has what a fact names.
+fn is_there(board: &Board, fact: StepFact) -> bool
+    ensures { result ≡ is_there board.now fact }
+{
+    match fact {
+        StepFact::HoldsStax(who, stax) => {
+            who.0 < board.threads && usize::from(stax.0) < board.staxes.len()
+        }
+        StepFact::HeldOn(stax, _) => usize::from(stax.0) < board.staxes.len(),
+        StepFact::StaxClaimed(stax) => usize::from(stax.0) < board.staxes.len(),
+        StepFact::HoldsMutex(who, mutex) => {
+            who.0 < board.threads && usize::from(mutex.0) < board.mutexes.len()
+        }
+        StepFact::MutexFree(mutex) => usize::from(mutex.0) < board.mutexes.len(),
+        StepFact::MutexClaimed(mutex) => usize::from(mutex.0) < board.mutexes.len(),
+        StepFact::HasCore(who) => who.0 < board.threads,
+        StepFact::CoreFree => true,
+    }
+}
+
+// Whether it has what a question names.
+fn names_there(board: &Board, watch: &StepWatch) -> bool
+    ensures { result ≡ names_there board.now watch.now }
+{
+    for claim in &watch.claims {
+        if !is_there(board, claim.fact) {
+            return false;
+        }
+    }
+    true
+}
+
+// Whether it has what these name.
+fn are_there(board: &Board, watches: &[StepWatch]) -> bool
+    ensures { result ≡ are_there board.now watches.now }
+{
+    for watch in watches {
+        if !names_there(board, watch) {
+            return false;
+        }
+    }
+    true
+}
