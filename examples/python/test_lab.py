@@ -13,7 +13,7 @@ TOP = os.path.dirname(os.path.dirname(os.path.dirname(os.path.abspath(__file__))
 if not os.path.isdir(f"{TOP}/scenarios"):
     TOP = os.path.join(os.path.dirname(os.path.abspath(evlsim.__file__)), "../../../../share/doc/evlsim")
 BOARD = "[board]\nthreads = 2\nsems = [0]\n"
-OTHER_KINDS = ("a text for lab orders", "a text for lab callers", "a bank, for --bank")
+OTHER_KINDS = ("a text for lab orders", "a bank, for --bank")
 
 
 def text_of(name):
@@ -93,8 +93,8 @@ def checked_by_the_program(data):
 
 
 def is_refusal(told, why):
-    """Whether the program refuses a picture as the library does; of orders, callers, a bank and lines it says more, and behind
-    it the first fault."""
+    """Whether the program refuses a picture as the library does; of orders, a bank and lines it says more, and behind it the
+    first fault."""
     told = told.split("\n", 1)[0]
     says_more = told.endswith(OTHER_KINDS) or re.match(r"lab:\d+:\d+: ", told)
     return told == f"lab: {why}" or bool(says_more and ", and as a scenario it has " in why)
@@ -108,7 +108,8 @@ def test_same_as_the_program():
         with open(path, "rb") as file:
             data = file.read()
         assert [str(it) for it in evlsim.check(data)] == checked_by_the_program(data), path
-        for form in ("svg", "lanes", "csv", "perfetto"):
+        # of callers the library draws what was printed, and the program their text too
+        for form in ("svg", "lanes", "csv", "perfetto") if "/callers/" not in path else ():
             status, out, told = by_the_program(data, "draw", f"--{form}")
             if status == 0:
                 assert evlsim.draw(data, form) == out, path

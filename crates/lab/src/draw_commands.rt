@@ -136,7 +136,7 @@ fn drawn_file<'a>(alloc: Global) -> Arg<'a>
     ensures { IsWord file_rule result }
 {
     Arg::new(alloc, "FILE").action(ArgAction::Set).help(
-        "A trace or a scenario; without it, or with -, standard input",
+        "A trace, a scenario or a text for callers; without it, or with -, standard input",
     )
 }
 

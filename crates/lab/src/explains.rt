@@ -265,10 +265,10 @@ pub fn explained_draws<R: Files + AllocGlobal, I: Read, O: Stream, E: Stream>(
     out: &mut O,
     err: &mut E,
 ) -> io::Result<u8>
-    ensures told { IfOk result (Behind (Draws drawing (option_map (λ name. name.now) bank.entry) (option_map (λ name. name.now) file.entry) (I.remaining input.old)) Takes.Scenarios (named (option_map (λ name. name.now) file.entry)) (O.contents out.old) (O.contents out.new) (E.contents err.old) (E.contents err.new)) }
+    ensures told { IfOk result (Behind (Draws drawing (option_map (λ name. name.now) bank.entry) (option_map (λ name. name.now) file.entry) (I.remaining input.old)) Takes.Callers (named (option_map (λ name. name.now) file.entry)) (O.contents out.old) (O.contents out.new) (E.contents err.old) (E.contents err.new)) }
     ensures early { IfErr result (EndsEarly false (O.has_failed out.new) (E.has_failed err.new)) }
 {
     let status = draw(rt, drawing, bank, file, input, out, err)?;
-    explain_one(rt, Takes::Scenarios, status, file, err)?;
+    explain_one(rt, Takes::Callers, status, file, err)?;
     Ok(status)
 }

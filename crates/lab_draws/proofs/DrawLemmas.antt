@@ -1,7 +1,8 @@
 -- What is drawn of a text, by what each call of the body draws.
-use Rattle.std.proofs.Common.{◌≡◌, ◌∙◌, ◌⊎◌, inl, inr, ℕ, ◌-◌, ◌++◌, List, Bool, true, false, codes, Option, Result, Ok, Err, IfOk, OnOk, length, map, refl, sym, ap, ap₂, subst}
-use Rattle.std.specs.Prelude.{IsSomeAnd}
+use Rattle.std.proofs.Common.{◌≡◌, ◌∙◌, ◌⊎◌, inl, inr, ℕ, ◌-◌, ◌++◌, List, Bool, true, false, codes, Option, Result, Ok, Err, IfOk, OnOk, decimal, length, map, refl, sym, ap, ap₂, append_assoc, string_bytes, subst}
+use Rattle.std.specs.Prelude.{IsSomeAnd, None, Some, is_some}
 use Rattle.std.specs.List.{All}
+use Rattle.std.specs.Option.{option_map_or}
 use Rattle.std.specs.Str.{is_utf8}
 use Rattle.std.specs.Io.KnownBytes.{Appends}
 use Rattle.std.proofs.KnownBytes.{Appends-trans}
@@ -17,13 +18,15 @@ use Rattle.lab_drawing.specs.Pictures.{going_text, shown_with}
 use Rattle.lab_drawing.specs.Rows.{rows_text}
 use Rattle.lab_drawing.specs.Tables.{table_text}
 use Rattle.lab_drawing.specs.declared.frames.Goes.{Goes}
-use Rattle.lab_drawing.specs.declared.frames.Shows.TheVariants.{Words}
+use Rattle.lab_drawing.specs.declared.frames.Shows.TheVariants as shows
 use Rattle.lab_drawing.specs.Html.{html_text}
 use Rattle.lab_drawing.specs.declared.marks.Mark.{Mark}
 use Rattle.lab_drawing.specs.declared.snapshots.Snapshot.{Snapshot}
 use Rattle.lab_drawing.specs.declared.moments.Moment.{Moment}
 use Rattle.lab_reports.specs.Events.{events_text}
-use Rattle.lab_draws.specs.Draws.{AreLinesOf, AreMomentsOf, DrawsIf, DrawsPage, DrawsPlayed, DrawsText, IsDrawn, IsPicture, Origin, SaysFirst, callers, events_of, fault_words, goes_for, html_of, moments_at, undrawn_text, origin_of, page_at, page_text, picture_text, rows_of, scenario, table_of, trace}
+use Rattle.lab_draws.specs.Draws.{AreLinesOf, AreMomentsOf, DrawsCallers, DrawsIf, DrawsKind, DrawsMade, DrawsPage, DrawsPlayed, DrawsRun, DrawsText, IsDrawn, IsPicture, Origin, SaysFirst, callers, events_of, fault_words, goes_for, html_of, moments_at, undrawn_text, origin_of, page_at, page_text, picture_text, rows_of, scenario, table_of, threads, trace}
+use Rattle.lab_caller_pictures.specs.declared.plays.CallersRun.{CallersRun}
+use Rattle.lab_caller_pictures.specs.declared.plays.Entered.{Entered}
 use Rattle.lab_kinds.specs.Kinds.{kind_of}
 use Rattle.lab_kinds.specs.declared.kinds.TextKind.{TextKind}
 use Rattle.lab_kinds.specs.declared.kinds.TextKind.TheVariants as kinds
@@ -48,9 +51,14 @@ pub rows_is : (marks : List Mark) → rows_text marks ≡ rows_of marks
 unfolding rows_of
 rows_is marks = refl
 
-pub callers_is : (goes : Goes) (marks : List Mark) (moments : List Moment) → going_text goes Words moments marks ≡ picture_text goes callers marks moments
+pub callers_is : (goes : Goes) (marks : List Mark) (moments : List Moment) → going_text goes shows.Words moments marks ≡ picture_text goes callers marks moments
 unfolding picture_text
 callers_is goes marks moments = refl
+
+pub threads_is : (goes : Goes) (bank : List Handler) (text counts : List ℕ) (marks : List Mark) (moments : List Moment)
+    → going_text goes shows.Callers moments marks ≡ picture_text goes (threads bank text counts) marks moments
+unfolding picture_text
+threads_is goes bank text counts marks moments = refl
 
 pub trace_is : (goes : Goes) (marks : List Mark) (moments : List Moment) → going_text goes (shown_with moments) moments marks ≡ picture_text goes trace marks moments
 unfolding picture_text
@@ -68,21 +76,12 @@ same_picture : (goes : Goes) (origin : Origin) (marks page : List Mark) (number 
 same_picture goes origin marks page number known behind text are page_is behind_is text_is =
     (known, are, text_is ∙ ap₂ (λ (p : List Mark) (b : List Moment). picture_text goes origin p b) page_is behind_is)
 
--- of callers, and of anything else
-pub told_picture : (goes : Goes) (s : Source) (marks page : List Mark) (number : ℕ) (known behind : List Moment) (text : List ℕ) → s ≡ source.Callers → AreMomentsOf (origin_of s) marks known
-    → page ≡ page_at marks number → behind ≡ moments_at marks known number → text ≡ going_text goes Words behind page → IsPicture goes (origin_of s) marks number text
-told_picture goes s marks page number known behind text is are page_is behind_is text_is =
+-- by where marks come from
+pub picture_by : (goes : Goes) (o : Origin) (s : Source) (marks page : List Mark) (number : ℕ) (known behind : List Moment) (text : List ℕ) → origin_of s ≡ o → AreMomentsOf (origin_of s) marks known
+    → page ≡ page_at marks number → behind ≡ moments_at marks known number → text ≡ picture_text goes o page behind → IsPicture goes (origin_of s) marks number text
+picture_by goes o s marks page number known behind text is are page_is behind_is text_is =
     same_picture goes (origin_of s) marks page number known behind text are page_is behind_is
-    (text_is ∙ callers_is goes page behind ∙ ap (λ (o : Source). picture_text goes (origin_of o) page behind) (sym is))
-
-pub known_picture : (goes : Goes) (s : Source) (marks page : List Mark) (number : ℕ) (known behind : List Moment) (text : List ℕ) → (s ≡ source.Callers → ⊥) → AreMomentsOf (origin_of s) marks known
-    → page ≡ page_at marks number → behind ≡ moments_at marks known number → text ≡ going_text goes (shown_with behind) behind page → IsPicture goes (origin_of s) marks number text
-known_picture goes source.Callers marks page number known behind text isnt are page_is behind_is text_is = absurd (isnt refl)
-known_picture goes source.Trace marks page number known behind text isnt are page_is behind_is text_is =
-    same_picture goes trace marks page number known behind text are page_is behind_is (text_is ∙ trace_is goes page behind)
-known_picture goes (source.Scenario b t) marks page number known behind text isnt are page_is behind_is text_is =
-    let bank = map handler_of b.now in
-    same_picture goes (scenario bank t.now) marks page number known behind text are page_is behind_is (text_is ∙ scenario_is goes bank t.now page behind)
+    (text_is ∙ ap (λ (from : Origin). picture_text goes from page behind) (sym is))
 
 -- a form that has no table of the machine
 pub pictured : (form : Form) (goes : Goes) (origin : Origin) (marks : List Mark) (number : ℕ) (text : List ℕ) → (form ≡ Html → ⊥) → IsPicture goes origin marks number text
@@ -131,20 +130,69 @@ pub line_of_misread : (text : List ℕ) (m : ℕ) → (misread.Line m ≡ misrea
 line_of_misread text m (inl h) = cc
 line_of_misread text m (inr h) = let same : m ≡ h.0 = cc (h.1) in subst (λ (n : ℕ). IsMisread text n) (sym same) h.2
 
--- a fault for which a text of a kind isn't played
-pub unplayed : (E : Type 0) (bank : List Handler) (drawing : Drawing) (text : List ℕ) (line : ℕ) (made : Result (List ℕ) Fault) (kind : TextKind) (e : Fault) (old quiet spoken : Option (List ℕ)) (r : Result ℕ E)
-    → kind ≡ kind_of text → Refuses made e → OnOk r (IsSomeAnd (fault_words e) (λ words. Appends quiet spoken (undrawn_text kind line words))) → IfOk r (λ s. s ≡ 2)
-    → IfOk r (Writes (DrawsPlayed bank drawing text line made) old old quiet spoken)
-unplayed E bank drawing text line made kind e old quiet spoken r same is says ends =
-    said_of E (DrawsPlayed bank drawing text line made) old quiet spoken (undrawn_text (kind_of text) line) (fault_words e) r (by e is)
-    (subst (λ (k : TextKind). OnOk r (IsSomeAnd (fault_words e) (λ words. Appends quiet spoken (undrawn_text k line words)))) same says) ends
+-- a fault for which a text isn't played
+pub unplayed : (E : Type 0) (bank : List Handler) (drawing : Drawing) (text : List ℕ) (line : ℕ) (made : Result (List ℕ) Fault) (e : Fault) (old new quiet spoken : Option (List ℕ)) (r : Result ℕ E)
+    → Refuses made e → IfOk r (Writes (λ output. IsSomeAnd (fault_words e) (λ words. DrawsKind (kind_of text) bank drawing text line words output)) old new quiet spoken)
+    → IfOk r (Writes (DrawsPlayed bank drawing text line made) old new quiet spoken)
+unplayed E bank drawing text line made e old new quiet spoken r is w = written_as E (DrawsPlayed bank drawing text line made) old new quiet spoken (instead e) r (by e is) w
   where
-    by : (f : Fault) → Refuses made f → (output : Output) → IsSomeAnd (fault_words f) (λ w. output ≡ refuses 2 (undrawn_text (kind_of text) line w)) → DrawsPlayed bank drawing text line made output
+    instead : Fault → Output → Type 0
+    instead f output = IsSomeAnd (fault_words f) (λ words. DrawsKind (kind_of text) bank drawing text line words output)
+
+    by : (f : Fault) → Refuses made f → (output : Output) → instead f output → DrawsPlayed bank drawing text line made output
     by Text h output o = rw h o
     by Board h output o = rw h o
     by (Step n) h output o = rw h o
     by Memory h output o = absurd o
     by Write h output o = absurd o
+
+-- the number of a step and why it can't be made, in a line
+pub step_line : (words said : List ℕ) (number : ℕ) → said ≡ words
+    → codes "lab: bad step " ++ (decimal number ++ (codes ": " ++ (said ++ codes "\n"))) ≡ line_about (codes "lab") (codes "bad step " ++ (decimal number ++ (codes ": " ++ words)))
+step_line words said number same =
+    ap (λ (w : List ℕ). codes "lab: bad step " ++ (decimal number ++ (codes ": " ++ (w ++ codes "\n")))) same
+    ∙ ap (λ (rest : List ℕ). codes "lab: bad step " ++ rest) (sym (append_assoc (decimal number) (codes ": " ++ words) (codes "\n")))
+
+-- of a fault that has words
+all_some : (words : Option (List ℕ)) (P : List ℕ → Type 0) → is_some words ≡ true → ((w : List ℕ) → P w) → IsSomeAnd words P
+all_some (Some w) P some each = each w
+all_some None P some each = let no = some in cc
+
+each_some : (words : Option (List ℕ)) (P Q : List ℕ → Type 0) → ((w : List ℕ) → P w → Q w) → IsSomeAnd words P → IsSomeAnd words Q
+each_some (Some w) P Q each h = each w h
+each_some None P Q each h = absurd h
+
+-- a run, by what is known of its calls
+pub run_drawn : (bank : List Handler) (drawing : Drawing) (run : CallersRun) (known : Option Entered) (lines : List ℕ) (output : Output) → run.entered ≡ known → lines ≡ string_bytes run.lines
+    → DrawsMade bank drawing (option_map_or (λ (k : Entered). threads bank (string_bytes k.scenario) k.counts.items) known callers) lines output → DrawsRun bank drawing run output
+run_drawn bank drawing run known lines output is same h =
+    subst (λ (o : Option Entered). DrawsMade bank drawing (option_map_or (λ (k : Entered). threads bank (string_bytes k.scenario) k.counts.items) o callers) (string_bytes run.lines) output) (sym is)
+    (subst (λ (l : List ℕ). DrawsMade bank drawing (option_map_or (λ (k : Entered). threads bank (string_bytes k.scenario) k.counts.items) known callers) l output) same h)
+
+-- callers are drawn
+pub callers_drawn : (E : Type 0) (bank : List Handler) (drawing : Drawing) (text : List ℕ) (line : ℕ) (kind : TextKind) (e : Fault) (old new quiet spoken : Option (List ℕ)) (r : Result ℕ E)
+    → is_some (fault_words e) ≡ true → kind ≡ kind_of text → kind ≡ kinds.Callers → IfOk r (Writes (DrawsCallers bank drawing text) old new quiet spoken)
+    → IfOk r (Writes (λ output. IsSomeAnd (fault_words e) (λ words. DrawsKind (kind_of text) bank drawing text line words output)) old new quiet spoken)
+callers_drawn E bank drawing text line kind e old new quiet spoken r some same is w =
+    written_as E (λ output. IsSomeAnd (fault_words e) (λ words. DrawsKind (kind_of text) bank drawing text line words output)) old new quiet spoken (DrawsCallers bank drawing text) r
+    (λ output h. all_some (fault_words e) (λ words. DrawsKind (kind_of text) bank drawing text line words output) some
+    (λ words. subst (λ (k : TextKind). DrawsKind k bank drawing text line words output) (sym is ∙ same) h)) w
+
+-- of another kind it is said what it is
+said_other : (kind : TextKind) (bank : List Handler) (drawing : Drawing) (text : List ℕ) (line : ℕ) (words : List ℕ) (output : Output) → (kind ≡ kinds.Callers → ⊥)
+    → output ≡ refuses 2 (undrawn_text kind line words) → DrawsKind kind bank drawing text line words output
+said_other kinds.Callers bank drawing text line words output other is = absurd (other refl)
+said_other kinds.Scenario bank drawing text line words output other is = is
+said_other kinds.Orders bank drawing text line words output other is = is
+said_other kinds.Bank bank drawing text line words output other is = is
+
+pub others_said : (E : Type 0) (bank : List Handler) (drawing : Drawing) (text : List ℕ) (line : ℕ) (kind : TextKind) (e : Fault) (old quiet spoken : Option (List ℕ)) (r : Result ℕ E)
+    → kind ≡ kind_of text → (kind ≡ kinds.Callers → ⊥) → OnOk r (IsSomeAnd (fault_words e) (λ words. Appends quiet spoken (undrawn_text kind line words))) → IfOk r (λ s. s ≡ 2)
+    → IfOk r (Writes (λ output. IsSomeAnd (fault_words e) (λ words. DrawsKind (kind_of text) bank drawing text line words output)) old old quiet spoken)
+others_said E bank drawing text line kind e old quiet spoken r same other says ends =
+    said_of E (λ output. IsSomeAnd (fault_words e) (λ words. DrawsKind (kind_of text) bank drawing text line words output)) old quiet spoken (undrawn_text kind line) (fault_words e) r
+    (λ output h. each_some (fault_words e) (λ words. output ≡ refuses 2 (undrawn_text kind line words)) (λ words. DrawsKind (kind_of text) bank drawing text line words output)
+    (λ words is. subst (λ (k : TextKind). DrawsKind k bank drawing text line words output) same (said_other kind bank drawing text line words output other is)) h) says ends
 
 -- for which part a text is
 pub other_told : (kind : TextKind) (line : ℕ) (e : Fault) (quiet spoken : Option (List ℕ)) → (kind ≡ kinds.Scenario → ⊥)

@@ -1,6 +1,7 @@
 -- What `lab draw` draws of a text.
-use Rattle.std.specs.Prelude.{◌≡◌, ◌⊎◌, ◌<◌, ◌≤◌, ◌+◌, ◌*◌, ◌-◌, max, nat_le, nat_lt, ℕ, List, [], ◌++◌, map, take, drop, length, count_by, codes, decimal, Bool, true, false, if◌then◌else◌, Option, Some, None, unwrap_or, IsSomeAnd, Result, Ok, Err}
+use Rattle.std.specs.Prelude.{string_bytes, ◌≡◌, ◌⊎◌, ◌<◌, ◌≤◌, ◌+◌, ◌*◌, ◌-◌, max, nat_le, nat_lt, ℕ, List, [], ◌++◌, map, take, drop, length, count_by, codes, decimal, Bool, true, false, if◌then◌else◌, Option, Some, None, unwrap_or, IsSomeAnd, Result, Ok, Err}
 use Rattle.std.specs.List.{All}
+use Rattle.std.specs.Option.{option_map_or}
 use Rattle.std.specs.Str.{is_utf8}
 use Rattle.std.specs.Str.Pattern.{FindsText, SplitsAroundMatch}
 use Rattle.evl_scenario.specs.Lines.{line_feed}
@@ -12,8 +13,14 @@ use Rattle.evl_kernel.specs.state.States.{Handler}
 use Rattle.evl_plans.specs.Told.{handler_of}
 use Rattle.lab_kinds.specs.Kinds.{kind_of}
 use Rattle.lab_kinds.specs.declared.kinds.TextKind.{TextKind}
-use Rattle.lab_kinds.specs.declared.kinds.TextKind.TheVariants.{Scenario}
+use Rattle.lab_kinds.specs.declared.kinds.TextKind.TheVariants.{Scenario, Callers}
 use Rattle.lab_lines.specs.Kinds.{IsPlain}
+use Rattle.lab_caller_pictures.specs.Joins.{AreJoined}
+use Rattle.lab_caller_pictures.specs.Runs.{IsRunOf, IsWhyOf}
+use Rattle.lab_caller_pictures.specs.declared.plays.CallersRun.{CallersRun}
+use Rattle.lab_caller_pictures.specs.declared.plays.Unplayed.{Unplayed}
+use Rattle.lab_caller_pictures.specs.declared.plays.Unplayed.TheVariants as why
+use Rattle.lab_callers.specs.Faults as faults
 use Rattle.lab_traces.specs.Says.{IsLine, IsMisread, read_of, says_some, text_of, whole_lines}
 use Rattle.lab_traces.specs.declared.traces.TraceLine.{TraceLine}
 use Rattle.lab_drawing.specs.Callbacks.{missing_callback}
@@ -27,7 +34,7 @@ use Rattle.lab_drawing.specs.Standings.{all_told, told_at}
 use Rattle.lab_drawing.specs.Tables.{table_text}
 use Rattle.lab_drawing.specs.declared.frames.Goes.{Goes}
 use Rattle.lab_drawing.specs.declared.frames.Goes.TheVariants as goes
-use Rattle.lab_drawing.specs.declared.frames.Shows.TheVariants.{Words}
+use Rattle.lab_drawing.specs.declared.frames.Shows.TheVariants as shows
 use Rattle.lab_drawing.specs.declared.lanes.Lane.{Lane}
 use Rattle.lab_drawing.specs.declared.marks.Mark.{Mark}
 use Rattle.lab_drawing.specs.declared.moments.Moment.{Moment}
@@ -36,7 +43,7 @@ use Rattle.lab_moments.specs.Moments.{moment_shown, shown_of}
 use Rattle.lab_moments.specs.Snapshots.{cells_told, rows_read}
 use Rattle.lab_reports.specs.Events.{events_text}
 use Rattle.lab_streams.specs.Banks.{Refuses}
-use Rattle.lab_streams.specs.Endings.{line_about, words_by}
+use Rattle.lab_streams.specs.Endings.{kinded_words, line_about, words_by}
 use Rattle.lab_streams.specs.Lines.{SaysUnread}
 use Rattle.lab_streams.specs.Outputs.{OfRead, Output, WritesOverBank, prints, refuses}
 use Rattle.lab_streams.specs.Readings.{Reading}
@@ -51,23 +58,26 @@ use Rattle.lab_streams.specs.declared.words.Form.TheVariants.{Svg, Html, Events,
 
 -- ---- where marks come from
 
--- from a trace alone, from that of a scenario's text over a bank, or from the lines of callers
+-- from a trace alone, from that of a scenario's text over a bank, or from the lines of callers: alone, or with the scenario of their calls and how many were entered behind each line
 pub data Origin : Type 0 where
   trace : Origin
   scenario : List Handler → List ℕ → Origin
   callers : Origin
+  threads : List Handler → List ℕ → List ℕ → Origin
 
 abbrev pub origin_of : Source → Origin
 origin_of source.Trace = trace
 origin_of (source.Scenario bank text) = scenario (map handler_of bank.now) text.now
 origin_of source.Callers = callers
+origin_of (source.Threads bank known) = threads (map handler_of bank.now) (string_bytes known.now.scenario) known.now.counts.items
 
 -- How the lanes of marks stand after each of their entries, as far as that is known: of a scenario over its bank, of
--- callers by what their lines show.
+-- callers by what their lines show, or with the threads too.
 abbrev pub AreMomentsOf : Origin → List Mark → List Moment → Type 0
 AreMomentsOf trace marks moments = moments ≡ []
 AreMomentsOf (scenario bank text) marks moments = (lanes : List Lane) × AreLanesOf marks lanes × (map moment_shown moments ≡ shown_of lanes bank (scenario_of None text))
 AreMomentsOf callers marks moments = map told_at moments ≡ all_told marks
+AreMomentsOf (threads bank text counts) marks moments = AreJoined bank text counts marks moments
 
 -- ---- as SVG
 
@@ -86,7 +96,8 @@ goes_for Fitting count = if nat_le count 60 then goes.Down else goes.Across
 
 -- the picture of marks with the moments of their entries, that goes this way
 unfoldable pub picture_text : Goes → Origin → List Mark → List Moment → List ℕ
-picture_text way callers marks moments = going_text way Words moments marks
+picture_text way callers marks moments = going_text way shows.Words moments marks
+picture_text way (threads bank text counts) marks moments = going_text way shows.Callers moments marks
 picture_text way (scenario bank text) marks moments = going_text way (shown_with moments) moments marks
 picture_text way trace marks moments = going_text way (shown_with moments) moments marks
 
@@ -201,13 +212,13 @@ missing_text count (Some number) =
 abbrev pub SaysFirst : List ℕ → (Output → Type 0) → Output → Type 0
 SaysFirst said Is output = (rest : Output) × Is rest × (output ≡ record { printed = rest.printed; said = said ++ rest.said; status = rest.status })
 
--- the lines of the trace that a scenario has over a bank
-abbrev pub DrawsOver : List Handler → Drawing → List ℕ → List TraceLine → Output → Type 0
-DrawsOver bank drawing text lines =
-    SaysFirst (missing_text (length bank) (missing_callback (length bank) lines)) (DrawsLines drawing (scenario bank text) lines)
+-- the lines that were made over a bank
+abbrev pub DrawsOver : List Handler → Drawing → Origin → List TraceLine → Output → Type 0
+DrawsOver bank drawing origin lines =
+    SaysFirst (missing_text (length bank) (missing_callback (length bank) lines)) (DrawsLines drawing origin lines)
 
-abbrev pub DrawsMade : List Handler → Drawing → List ℕ → List ℕ → Output → Type 0
-DrawsMade bank drawing text made output = (lines : List TraceLine) × AreLinesOf made lines × DrawsOver bank drawing text lines output
+abbrev pub DrawsMade : List Handler → Drawing → Origin → List ℕ → Output → Type 0
+DrawsMade bank drawing origin made output = (lines : List TraceLine) × AreLinesOf made lines × DrawsOver bank drawing origin lines output
 
 -- ---- a text that is none of a trace
 
@@ -227,10 +238,39 @@ abbrev pub undrawn_text : TextKind → ℕ → List ℕ → List ℕ
 undrawn_text Scenario line words = neither_text line words
 undrawn_text kind line words = line_about (codes "lab") (words_by kind words)
 
--- the trace of the scenario over a bank, or why there is none
+-- ---- a text of callers
+
+-- what is drawn of a run: its lines, with what is known of the calls that were entered
+abbrev pub origin_of_run : List Handler → CallersRun → Origin
+origin_of_run bank run = option_map_or (λ known. threads bank (string_bytes known.scenario) known.counts.items) run.entered callers
+
+abbrev pub DrawsRun : List Handler → Drawing → CallersRun → Output → Type 0
+DrawsRun bank drawing run output = DrawsMade bank drawing (origin_of_run bank run) (string_bytes run.lines) output
+
+-- the words of why there is none
+abbrev pub unplayed_words : Unplayed → Option (List ℕ)
+unplayed_words (why.Text e) = kinded_words Scenario e
+unplayed_words why.Board = Some (codes "bad board")
+unplayed_words (why.Step number e) = Some (codes "bad step " ++ (decimal number ++ (codes ": " ++ faults.fault_words e)))
+unplayed_words why.Memory = None
+
+-- the run of a text over a bank, or why there is none
+abbrev pub DrawsCallers : List Handler → Drawing → List ℕ → Output → Type 0
+DrawsCallers bank drawing text output =
+    ((run : CallersRun) × IsRunOf bank text run × DrawsRun bank drawing run output)
+    ⊎ ((reason : Unplayed) × IsWhyOf bank text reason × IsSomeAnd (unplayed_words reason) (λ words. output ≡ refuses 2 (line_about (codes "lab") words)))
+
+-- ---- a text that is played
+
+-- a text that is no scenario, for these words: one of callers is drawn, of another kind it is said what it is
+abbrev pub DrawsKind : TextKind → List Handler → Drawing → List ℕ → ℕ → List ℕ → Output → Type 0
+DrawsKind Callers bank drawing text line words output = DrawsCallers bank drawing text output
+DrawsKind kind bank drawing text line words output = output ≡ refuses 2 (undrawn_text kind line words)
+
+-- the trace of the scenario over a bank, or what there is instead
 abbrev pub DrawsPlayed : List Handler → Drawing → List ℕ → ℕ → Result (List ℕ) Fault → Output → Type 0
-DrawsPlayed bank drawing text line (Ok made) output = DrawsMade bank drawing text (text_in made) output
-DrawsPlayed bank drawing text line (Err e) output = IsSomeAnd (fault_words e) (λ words. output ≡ refuses 2 (undrawn_text (kind_of text) line words))
+DrawsPlayed bank drawing text line (Ok made) output = DrawsMade bank drawing (scenario bank text) (text_in made) output
+DrawsPlayed bank drawing text line (Err e) output = IsSomeAnd (fault_words e) (λ words. DrawsKind (kind_of text) bank drawing text line words output)
 
 -- a text of lines is played by its scenario, if it can be read
 abbrev pub DrawsGiven : List Handler → Drawing → List ℕ → ℕ → Output → Type 0

@@ -39,6 +39,7 @@ fn known_snapshots(
         Source::Trace => Ok(Vec::new(alloc)),
         Source::Scenario(bank, text) => scenario_snapshots(alloc, marks, bank, text, most),
         Source::Callers => Ok(Vec::new(alloc)),
+        Source::Threads(_, _) => Ok(Vec::new(alloc)),
     }
 }
 

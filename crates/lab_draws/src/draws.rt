@@ -10,17 +10,18 @@ ghost use Rattle.lab_draws.specs.Draws.{AreMomentsOf, Draws, DrawsGiven, DrawsIf
 ghost use Rattle.lab_drawing.specs.Pictures.{going_text, shown_with};
 ghost use Rattle.lab_drawing.specs.declared.frames.Shows.TheVariants.{Words};
 ghost use Rattle.lab_streams.specs.Outputs.{Writes, WritesOfText};
-ghost use Rattle.lab_streams.specs.Texts as texts;
 ghost use Rattle.lab_streams.specs.Streams.{EndsEarly};
 
-use crate::draw_faults::{tell_missing, tell_neither, tell_no_page, tell_page, tell_undrawn};
+use crate::callers_texts::{draw_unplayed, threads_moments};
+use crate::draw_faults::{tell_missing, tell_no_page, tell_page, tell_undrawn};
 use crate::draw_html::drawn_of;
 use evl_plans::{Planned, trace_plans};
+use lab_caller_pictures::Entered;
 use lab_drawing::{
     Goes, Mark, Moment, lanes_of, marks_of, missing_callback, page, page_count, page_moments,
-    told_moments, write_down, write_rows, write_svg, write_table, write_told, write_told_down,
+    told_moments, write_callers, write_down, write_rows, write_svg, write_table, write_told,
+    write_told_down,
 };
-use lab_kinds::kind_of;
 use lab_lines::plain_text;
 use lab_moments::moments_of;
 use lab_reports::write_events;
@@ -36,19 +37,21 @@ use std::rt::Files;
 // What stands between the lines of callers and what is told of their machine's end.
 const CLOSING: &str = "\nclose -> ";
 
-/// What marks come from: a trace alone, a scenario that was played over these callbacks, or the lines of callers.
+/// What marks come from: a trace alone, a scenario that was played over these callbacks, or the lines of callers, alone
+/// or with the calls that were entered then.
 #[derive(Clone, Copy)]
 pub(crate) enum Source<'a> {
     Trace,
     Scenario(&'a [Planned], &'a str),
     Callers,
+    Threads(&'a [Planned], &'a Entered),
 }
 
-// What is asked for, and the callbacks that a scenario is played over.
+/// What is asked for, and the callbacks that a scenario is played over.
 #[derive(Clone, Copy, Drop)]
-struct View<'a> {
-    drawing: Drawing,
-    bank: &'a [Planned],
+pub(crate) struct View<'a> {
+    pub(crate) drawing: Drawing,
+    pub(crate) bank: &'a [Planned],
 }
 
 // How the lanes of marks stand after each step of a scenario over these callbacks.
@@ -76,6 +79,7 @@ fn known_moments(
         Source::Trace => Ok(Vec::new(alloc)),
         Source::Scenario(bank, text) => scenario_moments(alloc, marks, bank, text),
         Source::Callers => told_moments(alloc, marks),
+        Source::Threads(bank, known) => threads_moments(alloc, marks, bank, known),
     }
 }
 
@@ -136,9 +140,12 @@ pub(crate) fn picture_of(
 {
     let known = known_moments(alloc, marks, source)?;
     let behind = page_moments(marks, known.as_slice(), number);
+    let shown = page(marks, number);
     match source {
-        Source::Callers => told_picture(alloc, page(marks, number), behind, goes),
-        _ => known_picture(alloc, page(marks, number), behind, goes),
+        Source::Trace => known_picture(alloc, shown, behind, goes),
+        Source::Scenario(_, _) => known_picture(alloc, shown, behind, goes),
+        Source::Callers => told_picture(alloc, shown, behind, goes),
+        Source::Threads(_, _) => write_callers(alloc, shown, behind, goes),
     }
 }
 
@@ -283,38 +290,37 @@ fn draw_lines<O: Stream, E: Stream>(
     }
 }
 
-// Writes the picture of the lines of a scenario's trace, behind what is told of the callbacks that they name.
+// Writes the picture of lines that were made over callbacks, behind what is told of those that they name.
 fn draw_over<O: Stream, E: Stream>(
     alloc: Global,
     lines: &[TraceLine<'_>],
-    scenario: &str,
+    source: Source<'_>,
     view: &View<'_>,
     out: &mut O,
     err: &mut E,
 ) -> io::Result<u8>
-    ensures writes { IfOk result (Writes (DrawsOver (map handler_of view.now.bank.now) view.now.drawing scenario.now lines.now) (O.contents out.old) (O.contents out.new) (E.contents err.old) (E.contents err.new)) }
+    ensures writes { IfOk result (Writes (DrawsOver (map handler_of view.now.bank.now) view.now.drawing (origin_of source.entry) lines.now) (O.contents out.old) (O.contents out.new) (E.contents err.old) (E.contents err.new)) }
     ensures early { IfErr result (EndsEarly false (O.has_failed out.new) (E.has_failed err.new)) }
 {
     let count = view.bank.len();
     tell_missing(err, missing_callback(lines, count), count)?;
-    let source = Source::Scenario(view.bank, scenario);
     draw_lines(alloc, lines, source, view.drawing, out, err)
 }
 
-// Writes the picture of a trace that was made of a scenario.
-fn draw_trace<O: Stream, E: Stream>(
+/// Writes the picture of a trace that was made of a scenario, or of the lines that callers were told by.
+pub(crate) fn draw_trace<O: Stream, E: Stream>(
     alloc: Global,
-    trace: &[u8],
-    scenario: &str,
+    trace: &str,
+    source: Source<'_>,
     view: &View<'_>,
     out: &mut O,
     err: &mut E,
 ) -> io::Result<u8>
-    ensures writes { IfOk result (Writes (DrawsMade (map handler_of view.now.bank.now) view.now.drawing scenario.now (texts.text_in trace.now)) (O.contents out.old) (O.contents out.new) (E.contents err.old) (E.contents err.new)) }
+    ensures writes { IfOk result (Writes (DrawsMade (map handler_of view.now.bank.now) view.now.drawing (origin_of source.entry) trace.now) (O.contents out.old) (O.contents out.new) (E.contents err.old) (E.contents err.new)) }
     ensures early { IfErr result (EndsEarly false (O.has_failed out.new) (E.has_failed err.new)) }
 {
-    match read_lines(alloc, text_in(trace)) {
-        Ok(lines) => draw_over(alloc, lines.as_slice(), scenario, view, out, err),
+    match read_lines(alloc, trace) {
+        Ok(lines) => draw_over(alloc, lines.as_slice(), source, view, out, err),
         Err(_) => Err(AllocError.into()),
     }
 }
@@ -334,11 +340,11 @@ fn draw_scenario<O: Stream, E: Stream>(
 {
     let bytes = text.as_bytes();
     match trace_plans(alloc, view.bank, bytes, None) {
-        Ok(trace) => draw_trace(alloc, trace.as_slice(), text, view, out, err),
-        Err(fault) => {
-            let kind = kind_of(alloc, bytes)?;
-            tell_neither(err, line, kind, fault)
+        Ok(trace) => {
+            let source = Source::Scenario(view.bank, text);
+            draw_trace(alloc, text_in(trace.as_slice()), source, view, out, err)
         }
+        Err(fault) => draw_unplayed(alloc, text, line, fault, view, out, err),
     }
 }
 
@@ -458,8 +464,9 @@ fn draw_file<R: Files + AllocGlobal, I: Read, O: Stream, E: Stream>(
     }
 }
 
-/// Draws the trace that a file holds, or that of its scenario over a bank, or what is told of callers there, or of the
-/// input where none is named. The status is 2 where it holds none of these, or the bank is at fault.
+/// Draws the trace that a file holds, or that of its scenario over a bank, or what is told of callers there or of its
+/// text of callers over a bank, or of the input where none is named. The status is 2 where it holds none of these, a
+/// step of callers can't be made, or the bank is at fault.
 pub fn draw<R: Files + AllocGlobal, I: Read, O: Stream, E: Stream>(
     rt: &R,
     drawing: Drawing,

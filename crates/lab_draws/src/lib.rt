@@ -1,6 +1,7 @@
 //! What `lab draw` draws.
 #![tactic(auto)]
 
+mod callers_texts;
 mod draw_faults;
 mod draw_html;
 mod draws;

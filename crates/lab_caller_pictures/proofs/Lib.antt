@@ -1,0 +1,2 @@
+mod JoinLaws
+mod RunLaws

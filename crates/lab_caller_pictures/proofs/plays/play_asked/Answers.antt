@@ -1,0 +1,23 @@
+use Rattle.std.proofs.Common.{List, map}
+use Rattle.evl_kernel.specs.state.States.{Handler}
+use Rattle.evl_plans.specs.Told.{handler_of}
+use Rattle.lab_caller_pictures.specs.Runs.{PlaysKept}
+use Rattle.lab_caller_pictures.proofs.RunLaws.{run_by, why_by}
+use Rattle.lab_caller_pictures.proofs.plays.play_asked.Goals as goal
+
+pub returns-in-Ok-play_kept-clause-run : goal.returns-in-Ok-play_kept-clause-run
+returns-in-Ok-play_kept-clause-run c =
+    let bank : List Handler = map handler_of c.args.bank.now in
+    let kept = c.in-Ok-play_kept.kept in
+    let plays : PlaysKept bank c.args.asked kept.told kept.entered.items kept.kernel =
+    record { plans = c.in-Ok.own.items; bank_is = c.in-Ok.ensures; is_kept = c.in-Ok-play_kept.ensures.kept } in
+    let ran = c.run_of.ensures in
+    run_by bank c.args.asked c.board_alone-board.result kept.told kept.entered.items kept.kernel c.run_of.result plays c.board_alone-board.ensures ran.made ran.lines ran.known
+
+pub returns-in-Ok-play_kept-clause-why : goal.returns-in-Ok-play_kept-clause-why
+returns-in-Ok-play_kept-clause-why c =
+    let bank : List Handler = map handler_of c.args.bank.now in
+    let kept = c.in-Ok-play_kept.kept in
+    let plays : PlaysKept bank c.args.asked kept.told kept.entered.items kept.kernel =
+    record { plans = c.in-Ok.own.items; bank_is = c.in-Ok.ensures; is_kept = c.in-Ok-play_kept.ensures.kept } in
+    why_by bank c.args.asked kept.told kept.entered.items kept.kernel c.run_of.result plays c.run_of.ensures.why
