@@ -16,10 +16,10 @@
  * leads to, and may be called twice. You may move it (copy it, if the old one is not used or closed again); a copy is
  * not a second kernel. No function keeps a pointer that it is given, and none returns memory to be freed.
  *
- * Threads. A kernel is given to one call at a time, of the thread that opened it; each thread may have kernels of its
- * own. Callers of one machine (evlsim/machine.h) are called from several threads at once. evlsim_play and
- * evlsim_play_over keep nothing, so any number of threads may call them at once. Nothing here is called from a signal
- * handler.
+ * Threads. A kernel, or a caller of a machine (evlsim/machine.h), is given to one call at a time; which thread makes it
+ * may change, if a lock, a thread's start or its join orders the calls. Different kernels, and callers of one machine, are
+ * called from several threads at once. evlsim_play and evlsim_play_over keep nothing, so any number of threads may call
+ * them at once. Nothing here is called from a signal handler.
  *
  * Fork. Kernels are plain memory: after fork() parent and child each have their own kernel, in the same state, and each
  * closes its own.

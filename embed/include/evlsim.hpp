@@ -7,9 +7,8 @@
  *   evlsim::kernel kernel(board);
  *   assert(kernel.call(0, evlsim_call_try_get(0)).refused_as(EVLSIM_REFUSAL_AGAIN));
  *
- * A kernel is given to one call at a time, of the thread that made it; a caller of a machine also to one at a time, of any
- * thread. A refused text, board, plan or number is thrown;
- * a call that the kernel refuses is an answer.
+ * A kernel, or a caller of a machine, is given to one call at a time, of any thread (evlsim.h). A refused text, board, plan
+ * or number is thrown; a call that the kernel refuses is an answer.
  */
 #ifndef EVLSIM_HPP
 #define EVLSIM_HPP

@@ -1,7 +1,10 @@
 pub mod AsBox
 pub mod AsHostBox
+mod BoxLaws
+mod Crossing
 pub mod DrawLemmas
 pub mod HandleLemmas
+mod HostCrossing
 pub mod OrderLemmas
 pub mod PictureLemmas
 pub mod VerdictLemmas

@@ -22,6 +22,9 @@ impl Model for HostSlot {
     ghost also_owns = { λ s. slot_owns s.alloc s.at s.held };
 }
 
+// What is there may go to another host thread, so its box may.
+unsafe impl Send for HostSlot {}
+
 impl HostSlot {
     /// No box.
     pub fn none(alloc: Global) -> HostSlot

@@ -23,6 +23,9 @@ impl Model for Slot {
     ghost also_owns = { λ s. slot_owns s.alloc s.at s.held };
 }
 
+// What is there may go to another host thread, so its box may.
+unsafe impl Send for Slot {}
+
 impl Slot {
     /// No box.
     pub fn none(alloc: Global) -> Slot

@@ -37,7 +37,7 @@ typedef struct evlsim_limits {
   uint32_t history;  /* how many entries the kernel's history may have: 10,000 */
   uint32_t steps;    /* how many loads, stores and calls a run has before it is said to go on for ever: 1,000,000 */
   uint64_t until;    /* the date after which the clock isn't moved any more: none */
-  bool goes_on;      /* a run that fails is an outcome, and ends nothing */
+  bool goes_on;      /* a run that fails is an outcome, and ends nothing; 1 is returned all the same */
   bool whole;        /* each moment is tried, also those that can't make a difference */
   bool forks;        /* each run in a process of its own; with AddressSanitizer it is so always */
   bool quiet;        /* nothing is printed */
@@ -52,7 +52,7 @@ typedef struct evlsim_explored {
   uint32_t outcomes; /* how many outcomes there were: evlsim_outcome */
   uint32_t rounds;   /* how often it began again, because a handler was seen to touch more */
   bool failed;
-  bool is_cut;       /* limits.runs were made */
+  bool is_cut;       /* limits.runs were made, or more lists noted than there is room for */
   bool sees_accesses; /* whether all loads and stores were seen, or of some handler or thread its calls alone */
 } evlsim_explored;
 
@@ -61,8 +61,8 @@ typedef struct evlsim_explored {
  * runs it again and again, each time with another list of events, fewest first. `limits` may be null.
  * evlsim_replay runs it with one list, as a failure names it: "line 5 @ 31, clock @ 40".
  *
- * With EVLSIM_REPLAY=".." in the environment, evlsim_explore replays that. EVLSIM_FOLDER is where the scenario and
- * the picture of a failure go, else the current one.
+ * With EVLSIM_REPLAY=".." in the environment, evlsim_explore replays that, with its limits of a run (history, steps,
+ * until). EVLSIM_FOLDER is where the scenario and the picture of a failure go, else the current one.
  */
 #define evlsim_test(body) evlsim_test_as(body, #body)
 #define evlsim_explore(body, limits) evlsim_explore_as(body, #body, limits, NULL)
