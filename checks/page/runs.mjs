@@ -47,7 +47,8 @@ export function stored_cases(top) {
         cases.push({ ...case_of([word], name, fs.readFileSync(file)), told: fs.readFileSync(told, 'utf8') });
     }
   for (const picture of fs.readdirSync(path.join(top, 'docs/pictures')).filter(name => name.endsWith('.svg'))) {
-    const name = picture.slice(0, -4) + '.toml', file = path.join(data, 'scenarios', name);
+    const name = picture.slice(0, -4) + '.toml', of_callers = name.startsWith('callers_');
+    const file = of_callers ? path.join(data, 'callers', name.slice('callers_'.length)) : path.join(data, 'scenarios', name);
     if (fs.existsSync(file)) cases.push({ ...case_of(['draw'], name, fs.readFileSync(file)),
       told: fs.readFileSync(path.join(top, 'docs/pictures', picture), 'utf8') });
   }

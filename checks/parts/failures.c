@@ -124,6 +124,46 @@ static void mutex_kept(void) {
   pthread_join(thread, NULL);
 }
 
+static void *end_with_stax(void *it) {
+  evl_lock_stax(&stax);
+  return it;
+}
+
+static void stax_kept(void) {
+  pthread_t thread;
+  begin();
+  pthread_create(&thread, NULL, end_with_stax, NULL);
+  pthread_join(thread, NULL);
+}
+
+static void body_keeps_stax(void) {
+  begin();
+  evl_lock_stax(&stax);
+}
+
+static void attaches_with_stax(void) {
+  begin();
+  evl_lock_stax(&stax);
+  evlsim_fail("the attach is answered %d", evl_attach_self("main"));
+}
+
+static void *wait_for_stax(void *it) {
+  evl_attach_self("weak");
+  evl_lock_stax(&stax);
+  evlsim_fail("the stax is locked %s", evl_is_inband() ? "in-band" : "out-of-band");
+  return it;
+}
+
+static void weak_waits(void) {
+  pthread_t thread;
+  begin();
+  evl_lock_stax(&stax);
+  pthread_create(&thread, NULL, wait_for_stax, NULL);
+  evlsim_pass(5000);
+  evl_unlock_stax(&stax);
+  pthread_join(thread, NULL);
+}
+
 static void last_date(void) {
   pthread_t thread;
   begin();
@@ -142,6 +182,26 @@ static void listed(void) {
   evlsim_rest();
 }
 
+/* One whose list of events is long. */
+static void many_events(void) {
+  static volatile int count;
+  begin();
+  evlsim_may_arrive(1000, 20, NULL, NULL);
+  while (count < 500) count++;
+  evlsim_fail("all events came");
+}
+
+#define EVENT(place) ", line 1000 @ " #place
+#define EVENTS(ten) EVENT(ten##1) EVENT(ten##2) EVENT(ten##3) EVENT(ten##4) EVENT(ten##5)
+#define MANY "line 1000 @ 300" EVENTS(30) EVENTS(31) EVENTS(32) EVENT(333)
+
+/* What only UndefinedBehaviorSanitizer sees. */
+static void undefined(void) {
+  static volatile int most = 0x7fffffff;
+  begin();
+  most = most + 1;
+}
+
 static const struct {
   const char *kind;
   void (*body)(void);
@@ -156,10 +216,16 @@ static const struct {
              {"handler", handler_waits, ""},
              {"stalled", stalled, ""},
              {"mutex", mutex_kept, ""},
+             {"stax", stax_kept, ""},
+             {"body_stax", body_keeps_stax, ""},
+             {"attach", attaches_with_stax, ""},
+             {"weak", weak_waits, ""},
              {"history", last_date, ""},
              {"not_reached", listed, "line 5 @ 9000"},
              {"turn_not_reached", listed, "turn @ 9000"},
-             {"no_source", listed, "clock @ 500"}};
+             {"no_source", listed, "clock @ 500"},
+             {"many", many_events, MANY},
+             {"undefined", undefined, ""}};
 
 int main(int count, char **words) {
   for (size_t each = 0; count == 2 && each < sizeof kinds / sizeof *kinds; each++) {

@@ -4,6 +4,7 @@ import copy
 import os
 import pathlib
 import pickle
+import subprocess
 import sys
 import threading
 import time
@@ -55,6 +56,9 @@ CALLS = [
     (lambda: K.set_policy(1, policy="fifo 0x10"), STEP, "policy is 'fifo 0x10'"),
     (lambda: K.set_policy(1, policy="fifo 1_0"), STEP, "policy is 'fifo 1_0'"),
     (lambda: K.set_policy(1, policy="fifo \u0661"), STEP, "policy is"),
+    (lambda: K.set_policy(1, policy="fifo 08"), STEP, "policy is 'fifo 08'"),
+    (lambda: K.set_policy(1, policy=f"fifo {'9' * 5000}"), STEP, "policy is"),
+    (lambda: K.try_take(0, flags=0, kind="of 03"), STEP, "kind is 'of 03'"),
     (lambda: K.try_take(0, flags=0, kind="of"), STEP, "kind is 'of': 'any', 'of MASK' or 'exact MASK'"),
     (lambda: K.try_take(0, flags=0, kind="of -1"), STEP, "kind is 'of -1'"),
     (lambda: K.try_take(0, flags=0, kind=3), TypeError, "kind is 3"),
@@ -109,6 +113,7 @@ BOARDS = [
     (lambda: board(mutexes=["ceiling 300"]), BAD, "mutexes[0] is 'ceiling 300'"),
     (lambda: board(mutexes=["ceiling 266"]), BAD, "'ceiling P' with P from 1 to 99"),
     (lambda: board(mutexes=["ceiling -206"]), BAD, "'ceiling -206'"),
+    (lambda: board(mutexes=["ceiling 050"]), BAD, "'ceiling 050'"),
     (lambda: board(mutexes=["normal 5"]), BAD, "'normal 5'"),
     (lambda: board(mutexes=["ceiling 0"]), BAD, "'ceiling 0'"),
     (lambda: board(mutexes=["ceiling"]), BAD, "'ceiling'"),
@@ -161,6 +166,7 @@ MACHINES = [
     (lambda: pickle.dumps(MACHINE), TypeError, "isn't pickled"),
 ]
 SMALL = "[board]\nthreads = 1\n"
+NOWS = "[board]\nthreads = 2\n" + "".join(f'[[step]]\ndo = "now"\nwho = {it % 2}\n' for it in range(140))
 PLAYS = [
     (lambda: evlsim.play(None), TypeError, "text is None"),
     (lambda: evlsim.play(5), TypeError, "text is 5"),
@@ -191,6 +197,9 @@ LABS = [
     (lambda: evlsim.orders(SMALL, most=0), ASK, "most is 0"),
     (lambda: evlsim.orders(SMALL, most=1.5), TypeError, "most is 1.5"),
     (lambda: evlsim.orders(SMALL, bank="plans"), TypeError, "bank is 'plans': a list"),
+    (lambda: evlsim.orders(SMALL + "[ask]\nnever = 3\n"), ASK, "line 4: never is a list"),
+    (lambda: evlsim.orders(NOWS + "[ask]\nnever = ['T0 -> Deadlok']\n"), ASK, 'did you mean "Deadlock"?'),
+    (lambda: evlsim.orders(NOWS), evlsim.TooManyOrders, "more orders than can be counted"),
     (lambda: evlsim.callers(pathlib.Path("x")), TypeError, "read_text()"),
     (lambda: evlsim.callers(SMALL, limit=-1), BAD, "limit is -1"),
 ]
@@ -209,6 +218,18 @@ def try_list(name, misuses):
             raise AssertionError(f"{name} {number}: it answered {answer!r}")
     assert K.trace().startswith(before)
     return len(misuses)
+
+
+def try_program():
+    """The module as a program: what it can't read, and what it can't write."""
+    program = [sys.executable, "-m", "evlsim"]
+    with open("/dev/full", "w", encoding="utf-8") as full:
+        done = subprocess.run(program, input=SMALL, stdout=full, stderr=subprocess.PIPE, text=True)
+    assert done.returncode == 1 and done.stderr.startswith("evlsim: write fault: "), done
+    closed = subprocess.run(f"'{sys.executable}' -m evlsim >&-", shell=True, input=SMALL, stderr=subprocess.PIPE, text=True)
+    assert closed.returncode == 1 and closed.stderr.startswith("evlsim: write fault: "), closed
+    none = subprocess.run([*program, "no such file"], capture_output=True, text=True)
+    assert none.returncode == 2 and none.stderr.startswith("evlsim: no file: "), none
 
 
 def try_right_ones():
@@ -324,6 +345,7 @@ def try_callers(rounds=5000):
 
 tried = try_list("call", CALLS) + try_list("board", BOARDS) + try_list("play", PLAYS) + try_list("lab", LABS)
 tried += try_list("machine", MACHINES)
+try_program()
 try_right_ones()
 try_closed()
 try_closed_callers()

@@ -4,6 +4,7 @@
 #include <linux/interrupt.h>
 
 #include <cstdio>
+#include <cstdlib>
 #include <stdexcept>
 
 namespace {
@@ -32,6 +33,18 @@ void wait_for_events(unsigned most) {
   if (seen != came) throw std::runtime_error("one was lost");
 }
 
+// A run of its own by the environment: the limits hold, and what came of it is told.
+bool replays(const char *choices) {
+  evlsim_limits limits{};
+  limits.goes_on = limits.quiet = true;
+  limits.history = 3;
+  setenv("EVLSIM_REPLAY", choices, 1);
+  evlsim::explored told = evlsim::explore("once_more", [] { wait_for_events(2); }, limits);
+  unsetenv("EVLSIM_REPLAY");
+  return told.failed && told.lists == 1 && told.all.size() == 1 &&
+         told.all[0].text == "FAILED: the history is full: 3 entries" && told.all[0].choices == choices;
+}
+
 bool holds(bool it, const char *what) {
   if (!it) std::printf("not so: %s\n", what);
   return it;
@@ -47,7 +60,15 @@ int main() {
   limits.goes_on = true;
   unsigned most = 1;
   evlsim::explored bad = evlsim::explore("bad", [most] { wait_for_events(most); }, limits);
-  well = holds(bad.all.size() == 3 && bad.all[2].text == "2 seen; FAILED: an exception: too many came", "it throws") && well;
+  well = holds(bad.failed && bad.all.size() == 3 && bad.all[2].text == "2 seen; FAILED: an exception: too many came", "it throws") && well;
   well = holds(evlsim::replay("good", [] { wait_for_events(2); }, good.all[2].choices.c_str()), "a replay") && well;
+  well = holds(replays(good.all[2].choices.c_str()), "a replay by the environment") && well;
+  limits.forks = true;
+  evlsim::explored crashed = evlsim::explore("crashed", [] {
+    wait_for_events(2);
+    if (came == 1) abort();
+  }, limits);
+  const char *why = "1 seen; FAILED: T1 body ended by signal 6, ";
+  well = holds(crashed.failed && crashed.all.size() == 3 && crashed.all[1].text.find(why) == 0, "a crash") && well;
   return well ? 0 : 1;
 }

@@ -69,6 +69,7 @@ static void see_write(const void *at, size_t size);
 static ssize_t read_timer(int number, void *bytes, size_t count);
 static bool pthread_mutex_is_free(const void *mutex);
 __attribute__((noreturn)) static void fail_stuck(void);
+static void note_outcome(enum ending ending);
 
 #include "parts/coroutines.c"
 #include "parts/machine.c"

@@ -16,7 +16,7 @@ the loader looks."""
 from . import _library as _lib
 from ._answers import Answer, Clock, Deadline, Line, Next, Play, Timer
 from ._callers import Caller, Machine
-from ._errors import BadBoard, BadPlan, BadQuestion, BadStep, BadText, CallRefused, KernelClosed, Refused
+from ._errors import BadBoard, BadPlan, BadQuestion, BadStep, BadText, CallRefused, KernelClosed, Refused, TooManyOrders
 from ._kernel import PROGRAM_BANK, Plan
 from ._library import IS_PROVED, REFUSALS, WORDS
 from ._machine import Kernel
@@ -29,8 +29,8 @@ __version__ = _lib.VERSION.partition(",")[0]
 __all__ = [
     "Answer", "BadBoard", "BadPlan", "BadQuestion", "BadStep", "BadText", "CallRefused", "Caller", "Callers", "Clock", "Deadline",
     "Entry", "Finding", "IS_PROVED", "Kernel", "KernelClosed", "Line", "Machine", "Next", "Orders", "Outcome",
-    "PROGRAM_BANK", "Picture", "Plan", "Play", "REFUSALS", "Refused", "State", "Step", "Timer", "Trace", "WORDS",
-    "callers", "check", "draw", "orders", "play", "version",
+    "PROGRAM_BANK", "Picture", "Plan", "Play", "REFUSALS", "Refused", "State", "Step", "Timer", "TooManyOrders", "Trace",
+    "WORDS", "callers", "check", "draw", "orders", "play", "version",
 ]  # fmt: skip
 
 

@@ -1,12 +1,28 @@
 """Plays a scenario and prints its trace: python3 -m evlsim [FILE] [--limit N], or --version. Standard input where no
-FILE is named. Status 2: the text is refused, or there is no file; 4: no memory."""
+FILE is named. Status 1: the trace can't be written; 2: the text is refused, or there is no file; 4: no memory."""
 
 import argparse
 import sys
+from typing import Optional
 
 from . import BadBoard, BadStep, BadText, play, version
 
 MOST = 1048576
+
+
+def read(name: Optional[str]) -> bytes:
+    with open(0 if name is None else name, "rb", closefd=name is not None) as file:
+        return file.read(MOST + 1)
+
+
+def tell(trace: str) -> int:
+    try:
+        with open(1, "w", encoding="utf-8", closefd=False) as out:
+            out.write(trace)
+        return 0
+    except OSError as why:
+        print(f"evlsim: write fault: {why}", file=sys.stderr)
+    return 1
 
 
 def main() -> int:
@@ -16,13 +32,7 @@ def main() -> int:
     words.add_argument("--version", action="version", version=f"evlsim {version()}")
     given = words.parse_args()
     try:
-        if given.file is None:
-            text = sys.stdin.buffer.read(MOST + 1)
-        else:
-            with open(given.file, "rb") as file:
-                text = file.read(MOST + 1)
-        sys.stdout.write(play(text, given.limit))
-        return 0
+        return tell(play(read(given.file), given.limit))
     except OSError as why:
         print(f"evlsim: no file: {why}", file=sys.stderr)
     except BadText:

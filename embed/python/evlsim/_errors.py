@@ -22,7 +22,11 @@ class BadPlan(Refused, ValueError):
 
 
 class BadQuestion(Refused, ValueError):
-    """A question has a number or a name that it may not have."""
+    """A question has a number or a name that it may not have, or what `[ask]` asks can't be read or answered."""
+
+
+class TooManyOrders(Refused, ValueError):
+    """There are more orders than can be counted."""
 
 
 class BadStep(Refused, ValueError):
@@ -81,6 +85,11 @@ def near(given: object, names: Iterable[str]) -> str:
     """The names that may be meant: "; did you mean "put"?", or nothing."""
     found = difflib.get_close_matches(str(given).lower(), list(names), 1, 0.6)
     return f'; did you mean "{found[0]}"?' if found else ""
+
+
+def is_number(text: str) -> bool:
+    """Whether a text is a number below 2 ** 64 as a scenario writes it: digits, with no 0 before them."""
+    return len(text) <= 20 and text.isascii() and text.isdecimal() and str(int(text)) == text
 
 
 def whole(bad: Type[Refused], what: str, value: Any, least: int, most: int) -> int:

@@ -13,6 +13,7 @@ from ._errors import (
     CallRefused,
     KernelClosed,
     Refused,
+    is_number,
     items,
     near,
     one_of,
@@ -119,7 +120,7 @@ def _ceiling(place: int, value: Any) -> Tuple[int, int]:
     word, blank, ceiling = value.partition(" ")
     if word not in MUTEXES or bool(blank) != (word == "ceiling"):
         raise BadBoard(wanted + near(word, MUTEXES))
-    if blank and not (ceiling.isascii() and ceiling.isdecimal() and 1 <= int(ceiling) <= 99):
+    if blank and not (is_number(ceiling) and 1 <= int(ceiling) <= 99):
         raise BadBoard(wanted)
     return MUTEXES.index(word), int(ceiling or 0)
 
@@ -169,7 +170,7 @@ def put_form(
     name, *numbers = text.split(" ")
     if name not in forms:
         raise BadStep(message + near(name, forms))
-    if len(numbers) != len(forms[name]) or not all(it.isascii() and it.isdecimal() for it in numbers):
+    if len(numbers) != len(forms[name]) or not all(map(is_number, numbers)):
         raise BadStep(message)
     call.choice = list(forms).index(name)
     for field, number in zip(forms[name], numbers):

@@ -7,7 +7,7 @@ from typing import Any, Callable, Dict, Iterable, List, NamedTuple, Optional, Tu
 
 from . import _library as lib
 from ._answers import Answer, Play
-from ._errors import BadBoard, BadPlan, BadQuestion, BadStep, BadText, Refused, whole
+from ._errors import BadBoard, BadPlan, BadQuestion, BadStep, BadText, Refused, TooManyOrders, whole
 from ._kernel import Plan, read_bank
 from ._pictures import shown
 from ._play import play
@@ -85,7 +85,7 @@ def _refused(status: int, step: int, words: str, text: Text) -> Exception:
     message = ": ".join(it for it in (kind, why) if it) or "there are more orders than can be counted"
     if status == 3:
         return BadStep(message, step)
-    return {1: BadText, 2: BadBoard}.get(status, Refused)(message)
+    return {1: BadText, 2: BadBoard, 8: TooManyOrders, 10: BadQuestion}.get(status, Refused)(message)
 
 
 class Outcome(NamedTuple):

@@ -16,10 +16,16 @@ come between two of their steps is tried (docs/use/DRIVERS.md).
 >>> found = explore(body)
 >>> found.failed, sorted(found.outcomes)
 (False, ['0 seen', '1 seen', '2 seen'])
+>>> found.is_cut, explore(body, runs=3).is_cut
+(False, True)
+>>> explore(body, choices="line 5 @ 9999").why
+"RuntimeError: the chosen event line 5 @ 9999 didn't come: a list of another body, or a body that isn't the same in each run?"
+>>> explore(body, choices="line 6 @ 3").why
+"RuntimeError: the chosen event line 6 @ 3 can't come there: a list of another body, or a body that isn't the same in each run?"
 """
 
 from collections import Counter, deque
-from typing import Any, Callable, Deque, Dict, Generator, Iterator, List, NamedTuple, Optional, Tuple
+from typing import Any, Callable, Deque, Dict, Generator, List, NamedTuple, Optional, Tuple
 
 from ._answers import Answer, Line
 from ._kernel import PROGRAM_BANK, Plan
@@ -31,10 +37,12 @@ Request = Tuple[str, str, Dict[str, Any]]
 Steps = Generator[Optional[Request], Any, None]
 Choices = Tuple[Tuple[int, str], ...]
 MACHINE, BODY = 0, 1
+OTHER = "a list of another body, or a body that isn't the same in each run?"
 
 
 class Explored(NamedTuple):
-    """What came of an exploration: of a run that failed why, its events as a list, and its texts."""
+    """What came of an exploration: of a run that failed why, its events as a list, and its texts; how many lists were
+    tried, how many ended with each outcome, and whether some were not tried, since `runs` were made."""
 
     failed: bool
     why: str
@@ -43,6 +51,7 @@ class Explored(NamedTuple):
     scenario: str
     lists: int
     outcomes: Dict[str, int]
+    is_cut: bool
 
 
 class _Stuck(Exception):
@@ -217,7 +226,9 @@ class Bench:
         return False
 
     def _bring(self, name: str) -> None:
-        left, device = self._sources[name]
+        left, device = self._sources.get(name, (0, None))
+        if left == 0:
+            raise RuntimeError(f"the chosen event {name} @ {self._step} can't come there: {OTHER}")
         self._sources[name] = (left - 1, device)
         if device is not None:
             device()
@@ -293,6 +304,8 @@ class Bench:
                 self._idle()
             else:
                 self._step_of(thread)
+        if self._chosen:
+            raise RuntimeError(f"the chosen event {_text(tuple(self._chosen))} didn't come: {OTHER}")
 
 
 def _text(choices: Choices) -> str:
@@ -300,40 +313,31 @@ def _text(choices: Choices) -> str:
 
 
 def _read(choices: str) -> Choices:
-    parts = [part.split(" @ ") for part in choices.split(", ") if part]
-    return tuple((int(step), name) for name, step in parts)
-
-
-def _lists(arrivals: int, limit: int) -> Iterator[Tuple[Choices, List[Choices]]]:
-    """The lists of events, fewest first; the caller that runs one adds those that it leads to."""
-    queue: Deque[Choices] = deque([()])
-    for _ in range(limit):
-        if not queue:
-            return
-        chosen = queue.popleft()
-        more: List[Choices] = []
-        yield chosen, more
-        if len(chosen) < arrivals:
-            queue.extend(more)
+    try:
+        parts = [part.split(" @ ") for part in choices.split(", ") if part]
+        return tuple((int(step), name) for name, step in parts)
+    except ValueError:
+        raise ValueError(f"choices is {choices!r}: a list as 'line 5 @ 3, line 5 @ 8' is wanted") from None
 
 
 def explore(
     body: Callable[[Bench], Steps], arrivals: int = 2, runs: int = 100000, choices: Optional[str] = None
 ) -> Explored:
-    """Runs the body with each list of up to so many events, fewest first, up to the first run that raises or is stuck;
-    with `choices`, as a failure names it, with that list alone."""
+    """Runs the body with each list of up to so many events, fewest first, up to the first run that raises or is stuck,
+    or so many `runs`; with `choices`, as a failure names it, with that list alone."""
     outcomes: Counter[str] = Counter()
     count = 0
-    first = _read(choices) if choices is not None else None
-    for chosen, more in _lists(arrivals if first is None else 0, runs):
-        chosen = chosen if first is None else first
+    lists: Deque[Choices] = deque([() if choices is None else _read(choices)])
+    while lists and count < runs:
+        chosen = lists.popleft()
         bench, count = Bench(chosen), count + 1
         try:
             bench.run(body)
         except Exception as why:  # pylint: disable=broad-except
             texts = (bench.kernel.trace(), bench.kernel.scenario()) if bench._kernel is not None else ("", "")
-            return Explored(True, f"{type(why).__name__}: {why}", _text(chosen), *texts, count, dict(outcomes))
+            return Explored(True, f"{type(why).__name__}: {why}", _text(chosen), *texts, count, dict(outcomes), False)
         outcomes["; ".join(bench.said)] += 1
-        more += [(*chosen, choice) for choice in bench.offered]
+        if choices is None and len(chosen) < arrivals:
+            lists.extend((*chosen, choice) for choice in bench.offered)
         bench.kernel.close()
-    return Explored(False, "", "", "", "", count, dict(outcomes))
+    return Explored(False, "", "", "", "", count, dict(outcomes), bool(lists))

@@ -34,9 +34,8 @@ static void note_outcome(enum ending ending) {
 static void conclude(enum ending ending) {
   note_outcome(ending);
   if (ending != FAILED) return;
-  if (kept->limits.goes_on) return;
   kept->explored.failed = true;
-  if (!kept->limits.quiet) report_failure();
+  if (!kept->limits.goes_on && !kept->limits.quiet) report_failure();
 }
 
 /* The list of a node. */
@@ -83,7 +82,7 @@ static bool has_to_begin_again(uint32_t done) {
 
 static void explore_all(void) {
   begin_round();
-  for (uint32_t at = 0; at < kept->nodes && !kept->explored.failed;) {
+  for (uint32_t at = 0; at < kept->nodes && (kept->limits.goes_on || !kept->explored.failed);) {
     if (kept->explored.runs >= kept->limits.runs) {
       kept->explored.is_cut = true;
       return;
@@ -150,20 +149,31 @@ int evlsim_test_as(void (*body)(void), const char *name) {
   return end_exploring(NULL);
 }
 
-int evlsim_replay_as(void (*body)(void), const char *name, const char *choices) {
-  begin(body, name, NULL);
-  if (!read_choices(choices)) {
+/* One run, to be looked at: in this process where that can be, and told. */
+static int replay(void (*body)(void), const char *name, const char *choices, const evlsim_limits *limits,
+                  evlsim_explored *explored) {
+  evlsim_limits own;
+  memset(&own, 0, sizeof own);
+  if (limits != NULL) own.history = limits->history, own.steps = limits->steps, own.until = limits->until;
+  begin(body, name, &own);
+  if (read_choices(choices)) {
+    kept->explored.lists = 1;
+    run_whole(conclude);
+    if (!kept->explored.failed) fprintf(stderr, "%s passed with %s\n", name, choices);
+  } else {
+    kept->explored.failed = true;
     fprintf(stderr, "evlsim: no list of events: %s\n", choices);
-    return EXIT_FAILURE;
   }
-  run_whole(conclude);
-  if (!kept->explored.failed) fprintf(stderr, "%s passed with %s\n", name, choices);
-  return end_exploring(NULL);
+  return end_exploring(explored);
+}
+
+int evlsim_replay_as(void (*body)(void), const char *name, const char *choices) {
+  return replay(body, name, choices, NULL, NULL);
 }
 
 int evlsim_explore_as(void (*body)(void), const char *name, const evlsim_limits *limits, evlsim_explored *explored) {
   const char *replayed = getenv("EVLSIM_REPLAY");
-  if (replayed != NULL) return evlsim_replay_as(body, name, replayed);
+  if (replayed != NULL) return replay(body, name, replayed, limits, explored);
   begin(body, name, limits);
   kept->offers = true;
   explore_all();

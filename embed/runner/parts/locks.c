@@ -185,7 +185,9 @@ int evl_lock_stax(struct evl_stax *stax) {
   while (!enter_gate(gate, tasks[run->now].is_oob)) {
     if (tasks[run->now].is_oob) {
       gate->waiting++;
+      tasks[run->now].keeps_stage = true;
       (void)simple_wait(evlsim_call_begin_get((uint16_t)gate->sem), NEVER);
+      tasks[run->now].keeps_stage = false;
     } else {
       tasks[run->now].awaits = A_GATE;
       tasks[run->now].target = (int)(gate - run->gates);

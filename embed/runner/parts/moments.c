@@ -124,7 +124,8 @@ static void add_source(enum source_kind kind, unsigned line, unsigned times, voi
   expect_run("a source of events");
   if (run->sources >= SOURCES) fail("there are more than %d sources", SOURCES);
   struct source source = {kind, (uint16_t)line, times, device, it};
-  run->source[run->sources++] = source;
+  run->source[run->sources] = kept->source[run->sources] = source;
+  run->sources++;
   run->sources_open = true;
 }
 

@@ -79,7 +79,7 @@ static void fail_stuck(void) {
 /* Of a list that was read, an event that didn't come has no source yet: its name says what it is. */
 static const char *choice_name(const struct choice *choice, char *text, size_t size) {
   bool is_named = (choice->source & IS_NAMED) != 0;
-  const struct source *source = is_named ? NULL : &run->source[choice->source];
+  const struct source *source = is_named ? NULL : &kept->source[choice->source];
   uint32_t kind = is_named ? (choice->source & ~IS_NAMED) >> 16 : (uint32_t)source->kind;
   if (kind == A_LINE) {
     snprintf(text, size, "line %u", is_named ? (unsigned)(choice->source & 0xffff) : (unsigned)source->line);
@@ -216,16 +216,24 @@ static void write_files(void) {
   fprintf(stderr, "picture: %s\n", draw(picture) ? picture : "none, for want of memory or of room");
 }
 
+/* Whether the limits may end a run where those of evlsim_replay don't. */
+static bool has_own_limits(void) {
+  const evlsim_limits *it = &kept->limits;
+  return it->history != HISTORY || it->steps != STEPS || it->until != NEVER - 1;
+}
+
 /* All that there is to say of a run that failed. */
 static void report_failure(void) {
-  char choices[256];
+  char choices[CHOICES_BYTES];
   write_choices(choices, sizeof choices);
   fprintf(stderr, "%s FAILED: %s\n", kept->name, run->why);
   if (run->choices_made > 0) fprintf(stderr, "events:\n");
   print_events();
   fprintf(stderr, "trace:\n");
   put_text(evlsim_trace, stderr);
-  if (kept->choice_count > 0) {
+  if (kept->choice_count > 0 && has_own_limits()) {
+    fprintf(stderr, "once more, with these limits: EVLSIM_REPLAY=\"%s\"\n", choices);
+  } else if (kept->choice_count > 0) {
     fprintf(stderr, "as a test of its own:\n  int main(void) { return evlsim_replay(%s, \"%s\"); }\n", kept->name,
             choices);
   }

@@ -10,7 +10,15 @@ CALLER static void *run_body(void *nothing) {
   return nothing;
 }
 
-/* What is told where the driver's own code crashes: asserts, bad addresses, a stack that is full. */
+/* What is told of a run that something ended from outside. With goes_on, in a process of its own, it's an outcome. */
+static void tell_crash(void) {
+  kept->explored.runs++;
+  kept->explored.steps += run->step;
+  note_outcome(FAILED);
+  if (!kept->limits.goes_on || !kept->limits.forks) report_failure();
+}
+
+/* The driver's own code crashes: asserts, bad addresses, a stack that is full. */
 static void on_signal(int number, siginfo_t *how, void *context) {
   (void)context;
   if (run == NULL || !run->is_on) {
@@ -26,23 +34,29 @@ static void on_signal(int number, siginfo_t *how, void *context) {
     snprintf(run->why, sizeof run->why, "T%d %s ended by signal %d, %s", run->now, tasks[run->now].name, number,
              strsignal(number));
   }
-  report_failure();
+  tell_crash();
   signal(number, SIG_DFL);
   raise(number);
+}
+
+/* What gcc's and clang's UndefinedBehaviorSanitizer call at each report, before they print it. */
+void __ubsan_on_report(void);
+void __ubsan_on_report(void) {
+  if (run != NULL && run->is_on) run->is_reported = true;
 }
 
 static void on_death(void) {
   if (run == NULL || !run->is_on) return;
   run->is_on = false;
   snprintf(run->why, sizeof run->why, "T%d %s ended by a sanitizer, as above", run->now, tasks[run->now].name);
-  report_failure();
+  tell_crash();
 }
 
 static void on_exit_call(void) {
   if (run == NULL || !run->is_on) return;
   run->is_on = false;
   snprintf(run->why, sizeof run->why, "T%d %s calls exit", run->now, tasks[run->now].name);
-  report_failure();
+  tell_crash();
   _exit(EXIT_FAILURE);
 }
 
@@ -96,6 +110,10 @@ static void finish_run(enum ending ending, void (*conclude)(enum ending)) {
              "a chosen event didn't come: a list of another build, or a body that isn't the same in each run?");
     ending = FAILED;
   }
+  if (ending == ENDED && run->is_reported) {
+    snprintf(run->why, sizeof run->why, "a sanitizer reports something, as above");
+    ending = FAILED;
+  }
   kept->ending = ending;
   for (int each = BODY; each < (int)run->made.tasks; each++) {
     if (tasks[each].has_begun && !tasks[each].is_seen) note_unseen("T", each);
@@ -104,10 +122,22 @@ static void finish_run(enum ending ending, void (*conclude)(enum ending)) {
   end_kernel();
 }
 
+/* The process of a run ended, and nothing was told of it. */
+static void tell_lost(int status, void (*conclude)(enum ending)) {
+  kept->explored.runs++;
+  if (WIFSIGNALED(status)) {
+    snprintf(run->why, sizeof run->why, "the process of the run is ended by signal %d", WTERMSIG(status));
+  } else {
+    snprintf(run->why, sizeof run->why, "the process of the run ends with status %d", WEXITSTATUS(status));
+  }
+  conclude(FAILED);
+}
+
 /* A run in a process of its own; all that is kept is shared with it. */
 static void run_apart(void (*conclude)(enum ending)) {
   fflush(NULL);
   kept->ending = FAILED;
+  uint64_t runs = kept->explored.runs;
   pid_t child = fork();
   int status = 0;
   if (child == 0) {
@@ -118,6 +148,7 @@ static void run_apart(void (*conclude)(enum ending)) {
   if (child < 0 || waitpid(child, &status, 0) != child || status != 0) {
     kept->ending = FAILED;
     kept->explored.failed = true;
+    if (child > 0 && kept->explored.runs == runs) tell_lost(status, conclude);
   }
 }
 
@@ -128,6 +159,7 @@ static void run_whole(void (*conclude)(enum ending)) {
     if (again++ == 1000) {
       fprintf(stderr, "%s FAILED: its elements aren't the same each time\n", kept->name);
       kept->explored.failed = true;
+      kept->limits.goes_on = false;
       return;
     }
     if (kept->limits.forks) {
@@ -145,8 +177,8 @@ static void take_limits(const evlsim_limits *limits) {
   if (it->arrivals == 0) it->arrivals = 2;
   if (it->arrivals > CHOICES) it->arrivals = CHOICES;
   if (it->runs == 0) it->runs = 1000000;
-  if (it->history == 0) it->history = 10000;
-  if (it->steps == 0) it->steps = 1000000;
+  if (it->history == 0) it->history = HISTORY;
+  if (it->steps == 0) it->steps = STEPS;
   if (it->until == 0) it->until = NEVER - 1;
   /* Their own data would lie among the program's variables. */
   bool is_static = is_variable((const char *)(const void *)stdout);

@@ -151,9 +151,9 @@ static void finish_task(void *value) {
   at_call();
   struct task *task = &tasks[run->now];
   task->value = value;
+  if (task->held != 0) fail("T%d %s ends, and has a mutex or a stax", run->now, task->name);
   if (run->now == BODY) end_run(ENDED);
   if (task->is_attached) {
-    if (task->held != 0) fail("T%d %s ends, and has a mutex or a stax", run->now, task->name);
     (void)do_call(run->now, evlsim_call_detach());
     task->is_attached = task->is_oob = false;
   }

@@ -13,12 +13,15 @@ enum {
   STAXES = 16,
   SOURCES = 16,
   CHOICES = 64,
+  CHOICES_BYTES = 2048, /* of a list of so many events, as text */
   QUEUE = 1 << 12,
   CANDIDATES = 1 << 20,
   NODES = 1 << 24,
   TOUCHED = 1 << 16,
   OUTCOMES = 1 << 12,
   OUTCOME_BYTES = 512,
+  HISTORY = 10000,
+  STEPS = 1000000,
   PROGRAM_BANK = 8,
   IDLE = 0,
   BODY = 1
@@ -67,6 +70,7 @@ struct task {
   bool is_attached;
   bool is_oob;
   bool in_handler;
+  bool keeps_stage; /* whether it waits for a stax: then it stays on its stage */
   bool has_begun;
   bool is_seen; /* whether its code calls in, as -fsanitize=thread has it */
   char name[24];
@@ -164,6 +168,7 @@ struct run {
   evlsim_kernel kernel;
   bool is_open;
   bool is_on;
+  bool is_reported; /* whether a sanitizer has reported something and went on */
   bool in_oob_handler;
   bool is_seen; /* whether the code of the handler that runs calls in */
   bool is_stalled[2];
@@ -202,7 +207,7 @@ struct outcome {
   uint64_t digest;
   uint64_t lists;
   char text[OUTCOME_BYTES];
-  char choices[256];
+  char choices[CHOICES_BYTES];
 };
 
 /* What handlers, and threads that go before an interrupted one, were seen to touch: by 8 bytes, a bit for each byte. */
@@ -221,6 +226,7 @@ struct kept {
   evlsim_explored explored;
   struct choice choices[CHOICES];
   unsigned choice_count;
+  struct source source[SOURCES]; /* those of the last run, by which events are named */
   bool offers; /* whether candidates are noted */
   bool has_grown;
   enum ending ending;

@@ -30,6 +30,7 @@ int evl_attach_thread(int flags, const char *format, ...) {
   expect_run("evl_attach_thread");
   if (in_handler()) return -EPERM;
   struct task *task = &tasks[run->now];
+  if (task->staxes != 0) return -EBUSY;
   va_list values;
   va_start(values, format);
   if (format != NULL) vsnprintf(task->name, sizeof task->name, format, values);

@@ -19,7 +19,7 @@ static evlsim_answer wait_in_core(evlsim_call begin, uint64_t date, const void *
   wait_here();
   task->date = NEVER;
   at_call();
-  answer = do_bytes(run->now, evlsim_call_finish(task->held != 0), NULL, 0, out, room);
+  answer = do_bytes(run->now, evlsim_call_finish(task->held != 0 || task->keeps_stage), NULL, 0, out, room);
   if (task->policy == 3) task->is_oob = evlsim_see_stage(&run->kernel, (uint16_t)run->now) == EVLSIM_OOB;
   go_on();
   return answer;
