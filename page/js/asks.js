@@ -58,16 +58,17 @@ export async function played(it) {
   return { ...answer, entries: read_trace(answer.out), told };
 }
 /**
- * A page of the picture, whose time goes down, across, or by its length; of callers it is that of their trace, with no
- * strips.
+ * A page of the picture, whose time goes down, across, or by its length; of callers of whom a step can't be made it is
+ * that of the lines before it, with no strips.
  * @param {Text} it @param {Promise<{ out: string }>} trace @returns {Promise<import('./program.js').Answer>}
  */
 export async function drawn(it, trace, way = '', page = 1) {
-  const plain = it.kind !== 'callers', name = plain ? FILE : 'trace';
   const words = ['draw', ...way ? [`--${way}`] : [], ...page > 1 ? ['--page', `${page}`] : []];
-  const text = plain ? it.text : (await trace).out;
-  if (!text) return { status: 0, out: '', err: '', ms: 0, memory: 0 };
-  return side.ask([...words, name, ...plain ? over(it) : []], plain ? files_of(it) : { [name]: text });
+  const none = { status: 0, out: '', err: '', ms: 0, memory: 0 };
+  const whole = it.text ? await side.ask([...words, FILE, ...over(it)], files_of(it)) : none;
+  if (it.kind !== 'callers' || whole.status <= 0) return whole;
+  const text = (await trace).out;
+  return text ? side.ask([...words, 'trace'], { trace: text }) : none;
 }
 /** A scenario's machine before its first step and after each; nothing where it doesn't play. @param {Text} it */
 export async function machine_of(it) {

@@ -111,9 +111,10 @@ export function exercise_asked() {
 }
 /** Tries the exercise with its own solution; reports that after what was done. @param {any} it @param {string} done */
 async function report_made(it, done) {
-  const [how, says] = await judged(it, it.solution, it.bank || ''), open = it.text === it.solution;
+  const open = it.text === it.solution, kept_back = it.check !== 'trace' && !it.solution.trim();
+  const [how, says] = kept_back ? ['good', ''] : await judged(it, it.solution, it.bank || '');
   const doubt = how !== 'good' ? `but its own solution is not accepted: ${says}`
-    : open ? 'but its text has no hole yet' : '';
+    : open ? 'but its text has no hole yet' : kept_back ? 'and has no solution that could be tried.' : '';
   $('make-said').className = doubt ? 'unknown' : 'good';
   $('make-said').textContent = `${done}, ${doubt || 'and its solution is accepted.'}`;
 }

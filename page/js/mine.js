@@ -12,7 +12,12 @@ function read_mine() {
     return Array.isArray(read) ? read.filter(it => typeof it?.key === 'string' && typeof it.text === 'string') : [];
   } catch { return []; }
 }
-const store = (/** @type {any[]} */ list) => kept.set('mine', JSON.stringify(list.slice(0, MOST)));
+const forget = (/** @type {any} */ it) => { for (const id of ['text', 'bank']) kept.set(`${id} ${it.key}`, null); };
+/** Keeps the list, and of a longer one the newest. @param {any[]} list */
+function store(list) {
+  list.slice(MOST).forEach(forget);
+  kept.set('mine', JSON.stringify(list.slice(0, MOST)));
+}
 /** @param {any} it */
 const lesson_of = it => ({ ...(it.exercise ? exercise_lesson(it.exercise) : it), title: it.title, own: true });
 /** @param {string | null} key */
@@ -27,13 +32,14 @@ export function show_mine(open) {
   box.innerHTML = `<h2>My texts</h2>${list.map((it, i) => `<div class="row"><button data-key="${escaped(it.key)}" `
     + `data-n="${i}">${escaped(it.title)}</button><button class="drop" data-drop="${i}" `
     + `aria-label="Remove ${escaped(it.title)}" title="Remove">×</button></div>`).join('')}`
-    + '<button id="new-text">+ New text</button>';
+    + '<button id="new-text">+ New text</button>'
+    + (list.length < MOST ? '' : `<p class="dim">The newest ${MOST} are kept: one more takes the place of the oldest.</p>`);
   box.onclick = (/** @type {any} */ event) => {
     const { n, drop } = event.target.dataset;
     if (n) open(lesson_of(list[n]));
     else if (event.target.id === 'new-text') open(new_text());
     else if (drop) {
-      for (const id of ['text', 'bank']) kept.set(`${id} ${list[drop].key}`, null);
+      forget(list[drop]);
       store(read_mine().filter(it => it.key !== list[drop].key));
       show_mine(open);
     }
