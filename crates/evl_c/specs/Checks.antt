@@ -2,7 +2,7 @@
 use Rattle.std.specs.Prelude.{◌≡◌, ◌⊎◌, ℕ, Bool, true, false, List, [], ◌++◌, codes, decimal, string_bytes, Option, Some, None, IsSomeAnd}
 use Rattle.evl_kernel.specs.state.States.{Handler}
 use Rattle.evl_scenario.specs.Scenarios.{scenario_of}
-use Rattle.lab_kinds.specs.Kinds.{kind_of}
+use Rattle.lab_kinds.specs.Kinds.{checked_kind}
 use Rattle.lab_kinds.specs.Reports.{Reports}
 use Rattle.lab_kinds.specs.declared.kinds.TextKind.{TextKind}
 use Rattle.lab_kinds.specs.declared.kinds.TextKind.TheVariants.{Scenario}
@@ -45,7 +45,7 @@ place_text name fault.Memory = None
 -- what stands for a text is checked; of a text of lines that can't be read its first fault is told
 abbrev pub ChecksText : List Handler → List ℕ → List ℕ → List ℕ → List ℕ → Bool → Type 0
 ChecksText bank name text before after at_fault =
-    ((plain : List ℕ) × IsPlain text plain × Checks bank (kind_of plain) name plain before after at_fault)
+    ((plain : List ℕ) × IsPlain text plain × Checks bank (checked_kind plain) name plain before after at_fault)
     ⊎ ((e : LinesFault) × IsUnread text e × IsSomeAnd (place_text name e) (λ line. after ≡ before ++ line) × (at_fault ≡ true))
 
 -- those lines stand in the buffer, and C is told their length and whether the text is at fault

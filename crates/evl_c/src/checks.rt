@@ -3,7 +3,7 @@ ghost use Rattle.std.specs.Prelude.{◌≡◌, ◌≢◌, ◌↔◌, ◌++◌, f
 ghost use Rattle.std.specs.Str.{is_utf8};
 ghost use Rattle.evl_bank.specs.Bank.{program_bank};
 ghost use Rattle.evl_plans.specs.Told as callbacks;
-ghost use Rattle.lab_kinds.specs.Kinds.{kind_of};
+ghost use Rattle.lab_kinds.specs.Kinds.{checked_kind};
 ghost use Rattle.evl_c.specs.Checks.{Checks, ChecksText, TellsChecked, kind_warnings, place_line, place_text};
 ghost use Rattle.evl_c.specs.Forms.{are_plans, handler_of};
 ghost use Rattle.evl_c.specs.Statuses.{is_among, of_check, of_check_over};
@@ -12,7 +12,7 @@ use crate::forms::{PlanForm, are_plans, read_plans};
 use crate::plans::program_plans;
 use crate::windows::put_window;
 use evl_plans::Planned;
-use lab_kinds::{TextKind, kind_of, report_kind};
+use lab_kinds::{TextKind, checked_kind, report_kind};
 use lab_lines::{LinesFault, plain_text};
 use lab_warnings::warnings;
 use std::alloc::{AllocError, Global};
@@ -107,9 +107,9 @@ fn tell_plain(
     text: &[u8],
     told: &mut String,
 ) -> Result<bool, AllocError>
-    ensures { IfOk result (Checks (map callbacks.handler_of plans.now) (kind_of text.now) name.now text.now (string_bytes told.old) (string_bytes told.new)) }
+    ensures { IfOk result (Checks (map callbacks.handler_of plans.now) (checked_kind text.now) name.now text.now (string_bytes told.old) (string_bytes told.new)) }
 {
-    let kind = kind_of(alloc, text)?;
+    let kind = checked_kind(alloc, text)?;
     tell_faults(alloc, plans, kind, name, text, told)
 }
 

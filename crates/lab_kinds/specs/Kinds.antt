@@ -16,6 +16,14 @@ abbrev pub is_opening : Section → Bool
 is_opening Opening = true
 is_opening _ = false
 
+-- a text of callers that has what the orders of their steps alone have is one for all orders
+abbrev pub checked_as : TextKind → Bool → TextKind
+checked_as Callers true = Orders
+checked_as Callers false = Callers
+checked_as Scenario _ = Scenario
+checked_as Orders _ = Orders
+checked_as Bank _ = Bank
+
 module _ (text : List ℕ) where
   -- a heading of this name, and a key of this name above all headings
   abbrev pub is_headed : List ℕ → Heading → Bool
@@ -43,6 +51,13 @@ module _ (text : List ℕ) where
   has_orders headings items =
       has_table (codes "setup") headings items || (has_table (codes "setups") headings items || has_table (codes "ask") headings items)
 
+  -- what the orders of callers' steps alone have: `lasts` of a step, or a wrong step
+  abbrev pub is_lasts : Item → Bool
+  is_lasts item = bytes_eq (name_between text item.key) (codes "lasts")
+
+  abbrev pub has_steps : List Heading → List Item → Bool
+  has_steps headings items = has_table (codes "what_if") headings items || list_any is_lasts items
+
   abbrev pub kind_in : List Heading → List Item → TextKind
   kind_in headings items =
       if has_callbacks headings items then Bank
@@ -50,6 +65,13 @@ module _ (text : List ℕ) where
       else if list_any is_of_callers items then Callers
       else Scenario
 
+  abbrev pub checked_in : List Heading → List Item → TextKind
+  checked_in headings items = checked_as (kind_in headings items) (has_steps headings items)
+
 -- of which kind a text is
 unfoldable pub kind_of : List ℕ → TextKind
 kind_of text = kind_in text (text_headings text) (text_keys text)
+
+-- as which kind its faults are looked for
+unfoldable pub checked_kind : List ℕ → TextKind
+checked_kind text = checked_in text (text_headings text) (text_keys text)

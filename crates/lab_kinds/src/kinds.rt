@@ -2,7 +2,7 @@
 ghost use Rattle.std.specs.Prelude.{◌≡◌, IfOk};
 ghost use Rattle.std.specs.List.{list_any};
 ghost use Rattle.lab_kinds.specs.Kinds as kinds;
-ghost use Rattle.lab_kinds.specs.Kinds.{kind_in, kind_of};
+ghost use Rattle.lab_kinds.specs.Kinds.{checked_kind, kind_in, kind_of};
 
 use crate::words::own_keys;
 use lab_faults::{Heading, Item, Section, items_of, named};
@@ -104,6 +104,42 @@ fn kind_in(text: &[u8], headings: &[Heading], items: &[Item]) -> TextKind
     }
 }
 
+// Whether a key says how a step comes by the core.
+fn is_lasts(text: &[u8], item: Item) -> bool
+    ensures { result ≡ kinds.is_lasts text.now item }
+{
+    named(text, item.key) == "lasts"
+}
+
+fn has_lasts(text: &[u8], items: &[Item]) -> bool
+    ensures { result ≡ list_any (kinds.is_lasts text.now) items.now }
+{
+    items.iter().any(|item| is_lasts(text, *item))
+}
+
+// Whether a text has what the orders of callers' steps alone have.
+fn has_steps(text: &[u8], headings: &[Heading], items: &[Item]) -> bool
+    ensures { result ≡ kinds.has_steps text.now headings.now items.now }
+{
+    has_table(text, "what_if", headings, items) || has_lasts(text, items)
+}
+
+// As which kind a text of a kind is checked, which has such or not.
+fn checked_as(kind: TextKind, is_of_steps: bool) -> TextKind
+    ensures { result ≡ kinds.checked_as kind is_of_steps }
+{
+    match kind {
+        TextKind::Callers => {
+            if is_of_steps {
+                TextKind::Orders
+            } else {
+                TextKind::Callers
+            }
+        }
+        TextKind::Scenario | TextKind::Orders | TextKind::Bank => kind,
+    }
+}
+
 /// Of which kind a text is, by its headings and keys: a bank has callbacks, a text of orders steps that are set up or
 /// what is asked, a text of callers staxes or words that callers alone have; any other text is a scenario.
 /// `AllocError` where memory couldn't grow.
@@ -113,4 +149,19 @@ pub fn kind_of(alloc: Global, text: &[u8]) -> Result<TextKind, AllocError>
 {
     let items = items_of(alloc, text)?;
     Ok(kind_in(text, items.headings.as_slice(), items.items.as_slice()))
+}
+
+/// As which kind the faults of a text are looked for: its own, but a text of callers is one for all orders where a step
+/// says by `lasts` how it comes by the core, or `[what_if]` asks for a wrong step. `AllocError` where memory couldn't grow.
+#[tactic(auto, unfolding(crate::specs::Kinds::checked_kind))]
+pub fn checked_kind(alloc: Global, text: &[u8]) -> Result<TextKind, AllocError>
+    ensures { IfOk result (λ kind. kind ≡ checked_kind text.now) }
+{
+    let items = items_of(alloc, text)?;
+    let headings = items.headings.as_slice();
+    let keys = items.items.as_slice();
+    Ok(checked_as(
+        kind_in(text, headings, keys),
+        has_steps(text, headings, keys),
+    ))
 }

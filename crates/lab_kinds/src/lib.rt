@@ -18,7 +18,7 @@ mod words;
 
 pub use banks::check_bank;
 pub use callers::check_callers;
-pub use kinds::{TextKind, kind_of};
+pub use kinds::{TextKind, checked_kind, kind_of};
 pub use orders::check_orders;
 pub use phrases::{ask_line, ask_words, impossible_words};
 pub use plains::{bare, is_own, is_set_to, is_what_if, is_what_if_head};

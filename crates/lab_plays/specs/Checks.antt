@@ -4,7 +4,7 @@ use Rattle.std.specs.List.{All, concat, list_any}
 use Rattle.std.specs.Io.KnownBytes.{Appends}
 use Rattle.evl_kernel.specs.state.States.{Handler}
 use Rattle.evl_scenario.specs.Scenarios.{scenario_of}
-use Rattle.lab_kinds.specs.Kinds.{kind_of}
+use Rattle.lab_kinds.specs.Kinds.{checked_kind}
 use Rattle.lab_kinds.specs.Reports.{Reports}
 use Rattle.lab_kinds.specs.declared.kinds.TextKind.{TextKind}
 use Rattle.lab_kinds.specs.declared.kinds.TextKind.TheVariants.{Scenario}
@@ -39,7 +39,7 @@ pub record TellsText (bank : List Handler) (kind : TextKind) (name text before a
 -- what stands for a text is checked; of a text of lines that can't be read its first fault is told
 abbrev pub ChecksText : List Handler → List ℕ → List ℕ → List ℕ → Bool → Type 0
 ChecksText bank name text printed at_fault =
-    ((plain : List ℕ) × IsPlain text plain × TellsText bank (kind_of plain) name plain [] printed at_fault)
+    ((plain : List ℕ) × IsPlain text plain × TellsText bank (checked_kind plain) name plain [] printed at_fault)
     ⊎ (SaysUnread name text printed × (at_fault ≡ true))
 
 -- this was printed, and whether the text is at fault is answered

@@ -1,13 +1,13 @@
 //! `lab check`: the faults of texts by their kinds, and the warnings of a scenario's dry run.
 ghost use Rattle.std.specs.Prelude.{◌≡◌, ◌≤◌, ◌++◌, [], ◌∷◌, length, map, option_map, string_bytes, true, IfOk, OnOk, IfErr, false};
 ghost use Rattle.evl_plans.specs.Told as callbacks;
-ghost use Rattle.lab_kinds.specs.Kinds.{kind_of};
+ghost use Rattle.lab_kinds.specs.Kinds.{checked_kind};
 ghost use Rattle.lab_plays.specs.Checks.{ChecksEach, ChecksJudged, ChecksText, ChecksUnlessRefused, Prints, PrintsStatus, TellsText, kind_warnings};
 ghost use Rattle.lab_streams.specs.Streams.{EndsEarly};
 
 use crate::expects::{judge, tell_judged};
 use evl_plans::Planned;
-use lab_kinds::{TextKind, kind_of, report_kind};
+use lab_kinds::{TextKind, checked_kind, report_kind};
 use lab_lines::plain_text;
 use lab_streams::{
     AT_FAULT, Stream, read_file, read_plans, status_of, tell_place, tell_unread, worse,
@@ -63,10 +63,10 @@ fn check_text<O: Stream>(
     text: &[u8],
     out: &mut O,
 ) -> io::Result<bool>
-    ensures prints { IfOk result (Prints (TellsText (map callbacks.handler_of plans.now) (kind_of text.now) name.now text.now []) (O.contents out.old) (O.contents out.new)) }
+    ensures prints { IfOk result (Prints (TellsText (map callbacks.handler_of plans.now) (checked_kind text.now) name.now text.now []) (O.contents out.old) (O.contents out.new)) }
     ensures early { IfErr result (EndsEarly false (O.has_failed out.new) false) }
 {
-    let kind = kind_of(alloc, text)?;
+    let kind = checked_kind(alloc, text)?;
     let mut told = String::new(alloc);
     let is_at_fault = tell_faults(alloc, plans, kind, name, text, &mut told)?;
     out.write_all(told.as_bytes())?;

@@ -1,5 +1,5 @@
 //! Texts of each kind with faults, and what is told of them.
-use lab_kinds::{TextKind, kind_of, report_kind};
+use lab_kinds::{TextKind, checked_kind, kind_of, report_kind};
 use std::alloc::{AllocError, Global};
 
 // A bank: a key that there isn't, a period of 0, and a key of no callback.
@@ -53,4 +53,54 @@ fn nothing_is_told_of_texts_without_fault(rt: HostRuntime) {
         "[ask]\nnever = [\"T0 -> Unknown\"]\n[board]\nthreads = 1\n[[setup]]\ndo = \"now\"\nwho = 0\n[[step]]\ndo = \"now\"\nwho = 0\n";
     assert!(rt; is_told(rt.alloc(), TextKind::Orders, orders, ""));
     assert!(rt; is_told(rt.alloc(), TextKind::Scenario, "[board]\nthreads = 1\n", ""));
+}
+
+// Whether a text is of this kind, and checked as that one.
+fn is_checked_as(alloc: Global, text: &str, kind: TextKind, checked: TextKind) -> bool {
+    let Ok(own) = kind_of(alloc, text.as_bytes()) else {
+        return false;
+    };
+    match checked_kind(alloc, text.as_bytes()) {
+        Ok(found) => own == kind && found == checked,
+        Err(_) => false,
+    }
+}
+
+// A text of callers.
+const STEPS: &str = r#"[board]
+threads = 1
+mutexes = ["normal"]
+[[step]]
+do = "begin_lock_mutex"
+who = 0
+mutex = 0
+as = "m"
+"#;
+
+// The same with lines behind it.
+fn steps_with(alloc: Global, lines: &str) -> Result<String, AllocError> {
+    let mut text = String::from_str(alloc, STEPS)?;
+    text.push_str(lines)?;
+    Ok(text)
+}
+
+// Whether it is one of callers, and checked as of this kind.
+fn is_checked_with(alloc: Global, lines: &str, checked: TextKind) -> bool {
+    match steps_with(alloc, lines) {
+        Ok(text) => is_checked_as(alloc, text.as_str(), TextKind::Callers, checked),
+        Err(_) => false,
+    }
+}
+
+#[test]
+fn texts_of_steps_are_checked_as_such(rt: HostRuntime) {
+    assert!(rt; is_checked_with(rt.alloc(), "", TextKind::Callers));
+    assert!(rt; is_checked_with(rt.alloc(), "lasts = true\n", TextKind::Orders));
+    assert!(rt;
+        is_checked_with(
+            rt.alloc(),
+            "[what_if]\noffer_drops_mark = true\n",
+            TextKind::Orders
+        )
+    );
 }

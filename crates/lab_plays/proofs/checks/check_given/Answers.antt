@@ -1,6 +1,6 @@
 use Rattle.std.proofs.Common.{[], map, inl, inr, subst, sym}
 use Rattle.evl_plans.specs.Told.{handler_of}
-use Rattle.lab_kinds.specs.Kinds.{kind_of}
+use Rattle.lab_kinds.specs.Kinds.{checked_kind}
 use Rattle.lab_lines.specs.Kinds.{IsPlain}
 use Rattle.lab_plays.specs.Checks.{ChecksText, TellsText}
 use Rattle.lab_streams.specs.Lines.{place_text}
@@ -13,7 +13,7 @@ returns-in-Ok-clause-prints g c =
     let name = c.args.name.now in
     let plain = c.as_slice.result.now in
     let is : IsPlain c.args.text.items plain = subst (IsPlain c.args.text.items) (sym c.as_slice.ensures.value) c.in-Ok.ensures.plain in
-    printed_as (ChecksText bank name c.args.text.items) (TellsText bank (kind_of plain) name plain []) _ _ c.check_text.result (λ printed b h. inl (plain, is, h)) c.check_text.ensures.prints
+    printed_as (ChecksText bank name c.args.text.items) (TellsText bank (checked_kind plain) name plain []) _ _ c.check_text.result (λ printed b h. inl (plain, is, h)) c.check_text.ensures.prints
 
 pub returns-in-Err-clause-prints : goal.returns-in-Err-clause-prints
 returns-in-Err-clause-prints g c =
