@@ -162,7 +162,7 @@ static int replay(void (*body)(void), const char *name, const char *choices, con
     if (!kept->explored.failed) fprintf(stderr, "%s passed with %s\n", name, choices);
   } else {
     kept->explored.failed = true;
-    fprintf(stderr, "evlsim: no list of events: %s\n", choices);
+    fprintf(stderr, "evlsim: no list of events, as \"line 5 @ 10, clock @ 18, turn @ 19\": %s\n", choices);
   }
   return end_exploring(explored);
 }

@@ -210,7 +210,11 @@ static void write_files(void) {
   file_name(bank_name, sizeof bank_name, ".bank.toml");
   file_name(trace, sizeof trace, ".trace");
   file_name(picture, sizeof picture, ".svg");
-  if (!write_text(evlsim_scenario, scenario) || !write_text(evlsim_trace, trace)) return;
+  if (!run->is_open) return;
+  if (!write_text(evlsim_scenario, scenario) || !write_text(evlsim_trace, trace)) {
+    fprintf(stderr, "scenario: none: %s or the trace beside it can't be written\n", scenario);
+    return;
+  }
   bool has_bank = write_bank(bank_name);
   fprintf(stderr, "scenario: %s%s%s\n", scenario, has_bank ? ", with the bank " : "", has_bank ? bank_name : "");
   fprintf(stderr, "picture: %s\n", draw(picture) ? picture : "none, for want of memory or of room");
