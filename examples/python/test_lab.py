@@ -6,6 +6,7 @@ import re
 import shutil
 import subprocess
 import tempfile
+from typing import Any, Callable, List, Tuple, Type, TypeVar
 
 import evlsim
 
@@ -16,12 +17,16 @@ BOARD = "[board]\nthreads = 2\nsems = [0]\n"
 OTHER_KINDS = ("a text for lab orders", "a bank, for --bank")
 
 
-def text_of(name):
+def text_of(name: str) -> str:
     with open(f"{TOP}/{name}", encoding="utf-8") as file:
         return file.read()
 
 
-def refused(function, error, part):
+Error = TypeVar("Error", bound=Exception)
+FORMS: Tuple[evlsim.Form, ...] = ("svg", "lanes", "csv", "perfetto")
+
+
+def refused(function: Callable[[], Any], error: Type[Error], part: str) -> Error:
     try:
         function()
     except error as why:
@@ -30,7 +35,7 @@ def refused(function, error, part):
     raise AssertionError(f"no {error.__name__} was raised")
 
 
-def test_faults_have_their_places():
+def test_faults_have_their_places() -> None:
     text = BOARD + '[[step]]\ndo = "arrive"\nwho = 0\nlien = 5\n[[step]]\ndo = "put"\nwho = "T1"\nsem = 0\n'
     first, second = evlsim.check(text)
     assert (first.line, first.byte, first.step, first.is_warning) == (7, 1, 1, False)
@@ -42,7 +47,7 @@ def test_faults_have_their_places():
     assert evlsim.check(text[:-8])[0].step == 1
 
 
-def test_pictures():
+def test_pictures() -> None:
     text = text_of("scenarios/stalled_inband.toml")
     stored = text_of("docs/pictures/stalled_inband.svg")
     assert evlsim.draw(text) == evlsim.play(text)._repr_svg_() == stored
@@ -69,30 +74,31 @@ def test_pictures():
     refused(lambda: evlsim.draw("x = 1"), evlsim.BadText, neither)
     refused(lambda: evlsim.draw(BOARD + "[[step]]\n"), evlsim.BadText, "it has a bad step 1")
     refused(lambda: evlsim.draw(b"\xff"), evlsim.BadText, "no UTF-8")
-    refused(lambda: evlsim.draw(text, "png"), evlsim.BadQuestion, "'svg', 'lanes'")
+    wrong: Any = "png"
+    refused(lambda: evlsim.draw(text, wrong), evlsim.BadQuestion, "'svg', 'lanes'")
 
 
 LAB = os.environ.get("EVLSIM_LAB") or shutil.which("lab")
 
 
-def by_the_program(data, *words):
+def by_the_program(data: bytes, *words: str) -> Tuple[int, str, str]:
     """What the program prints and says of a text, and its status."""
     with tempfile.TemporaryDirectory(prefix="evlsim-") as folder:
         with open(f"{folder}/text.toml", "wb") as file:
             file.write(data)
-        done = subprocess.run([LAB, *words, "text.toml"], capture_output=True, cwd=folder)
+        done = subprocess.run([LAB or "lab", *words, "text.toml"], capture_output=True, cwd=folder)
     said = [it for it in done.stderr.decode().splitlines() if not it.startswith("lab: UNPROVED")]
     return done.returncode, done.stdout.decode(), "\n".join(said)
 
 
-def checked_by_the_program(data):
+def checked_by_the_program(data: bytes) -> List[str]:
     """What lab check prints of a text, as str(evlsim.check(..)) has it: the library judges no answer that is expected."""
     printed = by_the_program(data, "check")[1]
     lines = [it[len("text.toml:") :].lstrip() for it in printed.splitlines() if " is expected, " not in it]
     return [it.replace("at the end: warning: ", "warning: at the end: ") for it in lines]
 
 
-def is_refusal(told, why):
+def is_refusal(told: str, why: str) -> bool:
     """Whether the program refuses a picture as the library does; of orders, a bank and lines it says more, and behind it the
     first fault."""
     told = told.split("\n", 1)[0]
@@ -100,7 +106,7 @@ def is_refusal(told, why):
     return told == f"lab: {why}" or bool(says_more and ", and as a scenario it has " in why)
 
 
-def test_same_as_the_program():
+def test_same_as_the_program() -> None:
     paths = glob.glob(f"{TOP}/scenarios/**/*.t*", recursive=True)
     paths += glob.glob(f"{TOP}/examples/faulty/**/*.t*", recursive=True) + glob.glob(f"{TOP}/callers/*.t*")
     assert len(paths) > 20
@@ -109,7 +115,7 @@ def test_same_as_the_program():
             data = file.read()
         assert [str(it) for it in evlsim.check(data)] == checked_by_the_program(data), path
         # of callers the library draws what was printed, and the program their text too
-        for form in ("svg", "lanes", "csv", "perfetto") if "/callers/" not in path else ():
+        for form in FORMS if "/callers/" not in path else ():
             status, out, told = by_the_program(data, "draw", f"--{form}")
             if status == 0:
                 assert evlsim.draw(data, form) == out, path
@@ -118,7 +124,7 @@ def test_same_as_the_program():
                 assert is_refusal(told, str(why)), path
 
 
-def test_lines():
+def test_lines() -> None:
     lines = "board threads=2 sems=[0]\nT0 put sem=0\nT1 try_get sem=0 -> done\n"
     trace = evlsim.play(lines)
     assert trace.splitlines()[1:] == ["1 T0 put sem=0 -> done", "2 T1 try_get sem=0 -> done"] and evlsim.check(lines) == []
@@ -131,7 +137,7 @@ def test_lines():
     assert found.total == 2 and found.holds and found.verdict == ""
 
 
-def test_states():
+def test_states() -> None:
     found = evlsim.orders(text_of("examples/orders/asked/inversion_by_a_semaphore.toml"))
     never, waits, picked = found.states
     assert not found.holds and found.verdict == "state 1 is against what is asked" and found.against == ()
@@ -150,7 +156,7 @@ def test_states():
     assert (once.holds, once.scenario) == (False, "")
 
 
-def test_orders():
+def test_orders() -> None:
     found = evlsim.orders(text_of("examples/orders/two_locks.toml"))
     assert found.total == 38 and [it.orders for it in found.outcomes] == [18, 20]
     assert found.holds is False and not found.is_cut_off and "outcome 1 is against" in found.verdict
@@ -171,10 +177,10 @@ def test_orders():
     ask = "[ask]\nnever = ['T0 -> Agian']\n[[step]]\ndo = 'try_get'\nwho = 0\nsem = 0\n"
     refused(lambda: evlsim.orders(BOARD + ask), evlsim.Refused, 'did you mean "Again"?')
     refused(lambda: evlsim.orders(text_of("examples/orders/asked/four_philosophers.toml"), seconds=0), TimeoutError, "after 0 s")
-    refused(lambda: evlsim.orders(BOARD, bank=[3]), evlsim.BadPlan, "plan 0")
+    refused(lambda: evlsim.orders(BOARD, bank=[3]), evlsim.BadPlan, "plan 0")  # type: ignore[list-item]
 
 
-def test_orders_as_the_program_tells_them():
+def test_orders_as_the_program_tells_them() -> None:
     for path in sorted(glob.glob(f"{TOP}/examples/orders/**/*.toml", recursive=True))[::2] if LAB else ():
         with open(path, "rb") as file:
             data = file.read()
@@ -190,7 +196,7 @@ def test_orders_as_the_program_tells_them():
         assert out.startswith(f"# {found.total} order") and out.count("\n# outcome ") == len(found.outcomes), path
 
 
-def test_orders_over_a_bank():
+def test_orders_over_a_bank() -> None:
     steps = '[[setup]]\ndo = "request"\nwho = 0\nline = 5\nstage = "oob"\ncallback = 0\n'
     steps += '[[step]]\ndo = "arrive"\nwho = 0\nline = 5\n[[step]]\ndo = "try_get"\nwho = 1\nsem = 0\n'
     plan = evlsim.Plan(1, (1, "post_sem", 0), (2**64 - 1, "post_flags", 0, 6))
@@ -200,7 +206,7 @@ def test_orders_over_a_bank():
     assert found.outcomes[0]._repr_svg_() == evlsim.draw(found.outcomes[0].trace())
 
 
-def test_callers():
+def test_callers() -> None:
     told = evlsim.callers(text_of("callers/contended_mutex.toml"))
     assert told == text_of("callers/contended_mutex.told") and told.closed == "done"
     third = told.steps[2]

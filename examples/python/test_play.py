@@ -2,6 +2,7 @@
 examples/python/test_play.py; a copy elsewhere plays those that are installed beside the module."""
 import glob
 import os
+from typing import Any, Dict, List, Tuple
 
 import evlsim
 
@@ -12,19 +13,19 @@ BOARD = "[board]\nthreads = 1\nsems = [0]\n"
 PUT = '[[step]]\ndo = "put"\nwho = 0\nsem = 0\n'
 
 
-def text_of(name):
+def text_of(name: str) -> str:
     with open(name, encoding="utf-8") as file:
         return file.read()
 
 
-def test_each_stored_trace():
+def test_each_stored_trace() -> None:
     traces = glob.glob(f"{TOP}/scenarios/**/*.trace", recursive=True)
     assert traces
     for trace in traces:
         assert evlsim.play(text_of(trace[:-6] + ".toml")) == text_of(trace), trace
 
 
-def test_step_at_fault():
+def test_step_at_fault() -> None:
     try:
         evlsim.play(BOARD + PUT + '[[step]]\ndo = "push"\nwho = 0\n')
     except evlsim.BadStep as refused:
@@ -33,11 +34,11 @@ def test_step_at_fault():
         raise AssertionError("a step that can't be read was played")
 
 
-def test_limit():
+def test_limit() -> None:
     assert evlsim.play(BOARD + PUT + PUT, limit=1).endswith("- T0 put sem=0 -> HistoryFull\n")
 
 
-def test_ranks_along_a_chain():
+def test_ranks_along_a_chain() -> None:
     kernel = evlsim.Kernel(threads=4, mutexes=["normal", "normal"])
     for who, prio in ((1, 8), (2, 28), (3, 78)):
         assert kernel.attach(who, policy=f"fifo {prio}", stage="oob").text == "done"
@@ -54,7 +55,7 @@ def test_ranks_along_a_chain():
     assert kernel.finish(3).text == "timed out" and kernel.see_picked() == 3
 
 
-def test_callbacks():
+def test_callbacks() -> None:
     bank = [evlsim.Plan(1, (3, "post_sem", 1), (1, "post_flags", 0, 6))]
     kernel = evlsim.Kernel(threads=1, sems=[0, 0], flags=[0], bank=bank)
     assert kernel.request(0, line=9, stage="oob", callback=0).text == "done"
@@ -65,9 +66,10 @@ def test_callbacks():
     assert kernel.peek_flags(0, flags=0).text == "bits 6"
 
 
-def test_refusals():
+def test_refusals() -> None:
     kernel = evlsim.Kernel(threads=1, sems=[0])
-    for wrong in ({"sem": 65536}, {"sem": -1}, {"mutex": 0}, {}):
+    wrongs: List[Dict[str, Any]] = [{"sem": 65536}, {"sem": -1}, {"mutex": 0}, {}]
+    for wrong in wrongs:
         try:
             kernel.put(0, **wrong)
         except (evlsim.BadStep, TypeError):
@@ -81,12 +83,13 @@ def test_refusals():
         pass
     else:
         raise AssertionError("a closed kernel was called")
-    for board in (
+    boards: List[Dict[str, Any]] = [
         {"threads": 0},
         {"threads": 1, "sems": [1 << 31]},
         {"threads": 1, "limit": 0},
         {"threads": 1, "mutexes": ["weak"]},
-    ):
+    ]
+    for board in boards:
         try:
             evlsim.Kernel(**board)
         except evlsim.BadBoard:
@@ -94,12 +97,12 @@ def test_refusals():
         raise AssertionError(board)
 
 
-def test_words():
+def test_words() -> None:
     assert list(evlsim.WORDS)[:6] == ["request", "free", "arrive", "post", "stall", "unstall"]
     assert evlsim.WORDS["claim"] == (32, ("mutex", "owner", "until")) and evlsim.WORDS["now"] == (7, ())
 
 
-def test_all_values():
+def test_all_values() -> None:
     kernel = evlsim.Kernel(threads=2, xbufs=[(16, 16)], limit=9)
     assert kernel.attach(0, policy="fifo 1", stage="oob")
     assert kernel.write(1, xbuf=0, way="in", bytes=b"\x00\xff").text == "done"
@@ -109,9 +112,9 @@ def test_all_values():
     assert kernel.now(1).value == 2**64 - 1
 
 
-def test_callers_call_as_threads_do():
-    board = {"threads": 3, "sems": [1], "flags": [0], "xbufs": [(8, 8)], "limit": 12}
-    calls = [
+def test_callers_call_as_threads_do() -> None:
+    board: Dict[str, Any] = {"threads": 3, "sems": [1], "flags": [0], "xbufs": [(8, 8)], "limit": 12}
+    calls: List[Tuple[int, str, Dict[str, Any]]] = [
         (1, "attach", {"policy": "fifo 10", "stage": "oob"}),
         (2, "attach", {"policy": "fifo 20", "stage": "oob"}),
         (0, "request", {"line": 5, "stage": "oob", "callback": 1}),
@@ -135,7 +138,7 @@ def test_callers_call_as_threads_do():
         assert machine.callers[0].now().refusal == "HistoryFull"
 
 
-def test_entries_of_a_trace():
+def test_entries_of_a_trace() -> None:
     trace = evlsim.play(BOARD + PUT + PUT, limit=1)
     assert [(it.number, it.word, it.answer.refusal) for it in trace.entries] == [
         (1, "put", None),
@@ -150,7 +153,7 @@ def test_entries_of_a_trace():
         assert lines == text.partition("\n")[2], name
 
 
-def test_long_history():
+def test_long_history() -> None:
     kernel = evlsim.Kernel(threads=1, sems=[0], limit=30000)
     for _ in range(30000):
         kernel.put(0, sem=0)
@@ -163,7 +166,7 @@ def test_long_history():
         raise AssertionError("a scenario above 1 MiB was written")
 
 
-def test_answers_as_values():
+def test_answers_as_values() -> None:
     kernel = evlsim.Kernel(threads=2, sems=[0], mutexes=["ceiling 20"])
     assert not kernel.try_get(0, sem=0) and kernel.try_get(0, sem=0).refusal == "Again"
     assert kernel.put(0, sem=0) and kernel.peek(0, sem=0).value == 1
@@ -178,7 +181,7 @@ def test_answers_as_values():
         raise AssertionError("a strict kernel answered a refusal")
 
 
-def test_history_and_copy():
+def test_history_and_copy() -> None:
     kernel = evlsim.Kernel(threads=2, sems=[0], xbufs=[(8, 8)])
     kernel.request(0, line=5, stage="oob", callback=1)
     kernel.arrive(0, line=5)

@@ -3,6 +3,8 @@ count and writes it to a cross-buffer, an in-band reader reads it, and a timer t
 Hypothesis (Debian: python3-hypothesis) mixes the steps of all: no interrupt is lost while the out-of-band stage is
 open. While it is stalled two merge, and the driver, which takes one byte for each, leaves one behind
 (test_a_bug_is_found)."""
+from typing import Any, Callable, List
+
 import evlsim
 from hypothesis import settings
 from hypothesis import strategies as st
@@ -11,33 +13,35 @@ from hypothesis.stateful import RuleBasedStateMachine, invariant, rule, run_stat
 LINE, SEM, XBUF, FLAGS, RING, TIMEOUT = 5, 0, 0, 0, 16, 1000
 WORLD, TAKER, READER = 0, 1, 2
 BANK = [evlsim.Plan(1, (1, "post_sem", SEM)), evlsim.Plan(1, (1, "post_flags", FLAGS, 1))]
+run: Callable[..., Any] = run_state_machine_as_test
 QUICK = settings(max_examples=60, stateful_step_count=40, deadline=None, database=None)
 
 
 class Serial:
     """The driver over a kernel, and the device's own bytes."""
 
-    def __init__(self):
+    def __init__(self) -> None:
         self.kernel = evlsim.Kernel(
             threads=3, sems=[0], flags=[0], xbufs=[(RING, RING)], limit=100000, bank=BANK, strict=True
         )
-        self.device, self.taken, self.waits = [], b"", False
+        self.device: List[int] = []
+        self.taken, self.waits = b"", False
         self.kernel.attach(TAKER, policy="fifo 80", stage="oob")
         self.kernel.request(WORLD, line=LINE, stage="oob", callback=0)
         assert self.kernel.new_timer(WORLD, callback=1).value == 0
         self.watch()
 
-    def watch(self):
+    def watch(self) -> None:
         self.kernel.start_timer(WORLD, timer=0, date=self.kernel.see_now() + TIMEOUT, interval=0)
 
-    def byte_arrives(self, byte):
+    def byte_arrives(self, byte: int) -> evlsim.Answer:
         self.device.append(byte)
         return self.kernel.arrive(WORLD, line=LINE)
 
-    def step(self):
+    def step(self) -> None:
         """One step of the thread: it waits, ends its wait and takes a byte, or writes it if there is room."""
         if self.taken:
-            if self.kernel.see_stored(XBUF, "out") < RING:
+            if self.stored() < RING:
                 self.kernel.write(TAKER, xbuf=XBUF, way="out", bytes=self.taken)
                 self.taken = b""
         elif not self.waits:
@@ -48,13 +52,14 @@ class Serial:
             self.taken, self.waits = bytes([self.device.pop(0)]), False
             self.watch()
 
-    def read(self, most):
-        if not self.kernel.see_stored(XBUF, "out"):
-            return b""
-        return self.kernel.read(READER, xbuf=XBUF, way="out", len=most).value
+    def stored(self) -> int:
+        return self.kernel.see_stored(XBUF, "out") or 0
+
+    def read(self, most: int) -> bytes:
+        return bytes(self.kernel.read(READER, xbuf=XBUF, way="out", len=most).value) if self.stored() else b""
 
 
-def test_one_byte():
+def test_one_byte() -> None:
     serial = Serial()
     serial.step()
     assert serial.byte_arrives(0x41).plays == (evlsim.Line(LINE, "oob", 1, True),)
@@ -63,13 +68,13 @@ def test_one_byte():
     assert serial.read(8) == b"A"
 
 
-def test_an_inband_stall_defers_nothing():
+def test_an_inband_stall_defers_nothing() -> None:
     serial = Serial()
     serial.kernel.stall(WORLD, stage="inband")
     assert serial.byte_arrives(1).plays and serial.kernel.see_count(SEM) == 1
 
 
-def test_the_timer_watches():
+def test_the_timer_watches() -> None:
     serial = Serial()
     assert [str(play) for play in serial.kernel.tick(WORLD, delta=TIMEOUT).plays] == [
         "clock",
@@ -81,46 +86,48 @@ def test_the_timer_watches():
 class Open(RuleBasedStateMachine):
     """All that may come while the out-of-band stage is open."""
 
-    def __init__(self):
+    def __init__(self) -> None:
         super().__init__()
-        self.serial, self.sent, self.got = Serial(), [], []
+        self.serial = Serial()
+        self.sent: List[int] = []
+        self.got: List[int] = []
 
-    def teardown(self):
+    def teardown(self) -> None:
         kernel = self.serial.kernel
         assert evlsim.play(kernel.scenario(), bank=BANK) == kernel.trace()
         kernel.close()
 
     @rule(byte=st.integers(0, 255))
-    def byte(self, byte):
+    def byte(self, byte: int) -> None:
         self.sent.append(byte)
         self.serial.byte_arrives(byte)
 
     @rule()
-    def step(self):
+    def step(self) -> None:
         self.serial.step()
 
     @rule(most=st.integers(0, 20))
-    def read(self, most):
+    def read(self, most: int) -> None:
         self.got += self.serial.read(most)
 
     @rule(delta=st.integers(0, 3 * TIMEOUT))
-    def tick(self, delta):
+    def tick(self, delta: int) -> None:
         self.serial.kernel.tick(WORLD, delta=delta)
 
     @rule()
-    def stall_inband(self):
+    def stall_inband(self) -> None:
         self.serial.kernel.stall(WORLD, stage="inband")
 
     @rule()
-    def unstall_inband(self):
+    def unstall_inband(self) -> None:
         self.serial.kernel.unstall(WORLD, stage="inband")
 
     @invariant()
-    def in_order(self):
+    def in_order(self) -> None:
         assert self.got == self.sent[: len(self.got)]
 
     @invariant()
-    def each_byte_has_its_count(self):
+    def each_byte_has_its_count(self) -> None:
         kernel, serial = self.serial.kernel, self.serial
         served = serial.waits and kernel.see_finished(TAKER)
         waits = serial.waits and not served
@@ -131,21 +138,21 @@ class Stalled(Open):
     """The same, and stalls of the out-of-band stage."""
 
     @rule()
-    def stall_oob(self):
+    def stall_oob(self) -> None:
         self.serial.kernel.stall(WORLD, stage="oob")
 
     @rule()
-    def unstall_oob(self):
+    def unstall_oob(self) -> None:
         self.serial.kernel.unstall(WORLD, stage="oob")
 
 
-def test_no_interrupt_is_lost():
-    run_state_machine_as_test(Open, settings=QUICK)
+def test_no_interrupt_is_lost() -> None:
+    run(Open, settings=QUICK)
 
 
-def test_a_bug_is_found():
+def test_a_bug_is_found() -> None:
     try:
-        run_state_machine_as_test(Stalled, settings=settings(QUICK, max_examples=500, print_blob=False))
+        run(Stalled, settings=settings(QUICK, max_examples=500, print_blob=False))
     except AssertionError as lost:
         assert "an interrupt was lost" in str(lost)
     else:

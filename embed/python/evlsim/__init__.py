@@ -17,20 +17,21 @@ from . import _library as _lib
 from ._answers import Answer, Clock, Deadline, Line, Next, Play, Timer
 from ._callers import Caller, Machine
 from ._errors import BadBoard, BadPlan, BadQuestion, BadStep, BadText, CallRefused, KernelClosed, Refused, TooManyOrders
-from ._kernel import PROGRAM_BANK, Plan
+from ._kernel import PROGRAM_BANK, Awaited, Plan, Stage, Way
 from ._library import IS_PROVED, REFUSALS, WORDS
 from ._machine import Kernel
-from ._pictures import Picture, draw
+from ._pictures import Form, Picture, draw
 from ._play import play
 from ._reports import Callers, Finding, Orders, Outcome, State, Step, callers, check, orders
 from ._traces import Entry, Trace
 
 __version__ = _lib.VERSION.partition(",")[0]
 __all__ = [
-    "Answer", "BadBoard", "BadPlan", "BadQuestion", "BadStep", "BadText", "CallRefused", "Caller", "Callers", "Clock", "Deadline",
-    "Entry", "Finding", "IS_PROVED", "Kernel", "KernelClosed", "Line", "Machine", "Next", "Orders", "Outcome",
-    "PROGRAM_BANK", "Picture", "Plan", "Play", "REFUSALS", "Refused", "State", "Step", "Timer", "TooManyOrders", "Trace",
-    "WORDS", "callers", "check", "draw", "orders", "play", "version",
+    "Answer", "Awaited", "BadBoard", "BadPlan", "BadQuestion", "BadStep", "BadText", "CallRefused", "Caller",
+    "Callers", "Clock", "Deadline", "Entry", "Finding", "Form", "IS_PROVED", "Kernel", "KernelClosed", "Line",
+    "Machine", "Next", "Orders", "Outcome", "PROGRAM_BANK", "Picture", "Plan", "Play", "REFUSALS", "Refused", "Stage",
+    "State", "Step", "Timer", "TooManyOrders", "Trace", "WORDS", "Way", "callers", "check", "draw", "orders", "play",
+    "version",
 ]  # fmt: skip
 
 
