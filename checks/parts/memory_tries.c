@@ -316,14 +316,6 @@ static const struct work works[] = {
     {"an order", order_2},    {"callers", callers},
 };
 
-/* Whether a step of callers was answered NoMemory: the text goes on, or stops at a step that needs what that lacks. */
-static int has_gone_on(const struct work *work, evlsim_status status) {
-  if (work->run != callers) return 0;
-  if (!evlsim_ok(status)) return evlsim_status_is(status, EVLSIM_BAD_STEP);
-  out.bytes[out.length] = 0;
-  return strstr((const char *)out.bytes, "-> NoMemory") != NULL;
-}
-
 /* The buffer has what it had where nothing was refused, or memory ran out and it is as before. */
 static int is_done(const struct work *work, size_t from, size_t to) {
   long before = blocks;
@@ -334,8 +326,8 @@ static int is_done(const struct work *work, size_t from, size_t to) {
   refuse(SIZE_MAX, 0);
   require(blocks == before, "memory is lost", work->name);
   if (evlsim_ok(status)) {
-    require(is_same(work) || has_gone_on(work, status), "another text", work->name);
-  } else if (!has_gone_on(work, status)) {
+    require(is_same(work), "another text", work->name);
+  } else {
     require(evlsim_status_is(status, EVLSIM_NO_MEMORY), "another status", work->name);
     for (size_t at = 0; at < ROOM; at++) require(out.bytes[at] == MARK, "it was written", work->name);
   }

@@ -1,5 +1,6 @@
 //! What a step is answered, as text, and what it went to.
-ghost use Rattle.std.specs.Prelude.{◌≡◌, IfErr, IfOk, OnOk, false, string_bytes, true};
+ghost use Rattle.std.specs.Prelude.{◌≡◌, ◌≢◌, Err, IfErr, IfOk, OnOk, false, string_bytes, true};
+ghost use Rattle.evl_base.specs.Refusal.{name_of};
 ghost use Rattle.evl_base.specs.Reply.{outcome_text};
 ghost use Rattle.lab_callers.specs.Answers.{BeginsLock, CallsSo, EntersStax, FinishesLock, GivesSo, LeavesBy, LocksMutex, Makes, TakesSo, UnlocksBy, UnlocksFastBy, begun_text, ended_shows, ended_text, given_text, left_text, taken_text, unlocked_text, word_shown};
 ghost use Rattle.lab_callers.specs.Faults.{IsWhy, caller_fault, step_fault};
@@ -61,11 +62,27 @@ fn tell(alloc: Global, answer: &str, shows: Shows) -> Result<Told, AllocError>
     Ok(Told { answer, shows })
 }
 
+// A refusal with what it shows. Want of memory ends the text: a later step may need what this one lacks.
+fn tell_refused(alloc: Global, refusal: Refusal, shows: Shows) -> Result<Told, AllocError>
+    ensures told { IfOk result (λ t. string_bytes t.answer ≡ name_of refusal) }
+    ensures shown { IfOk result (λ t. t.shows ≡ shows) }
+    ensures memory { OnOk result (refusal ≢ Refusal.NoMemory) }
+{
+    if matches!(refusal, Refusal::NoMemory) {
+        return Err(AllocError);
+    }
+    tell(alloc, refusal.name(), shows)
+}
+
 // The answer of a call of the kernel.
 fn tell_reply(alloc: Global, answer: StepAnswer) -> Result<Told, AllocError>
     ensures told { IfOk result (λ t. string_bytes t.answer ≡ outcome_text answer.0) }
+    ensures memory { OnOk result (answer.0 ≢ Err Refusal.NoMemory) }
     ensures shown { IfOk result (λ t. t.shows ≡ Shows.Nothing) }
 {
+    if matches!(answer.0, Err(Refusal::NoMemory)) {
+        return Err(AllocError);
+    }
     let mut text = String::new(alloc);
     write!(text, "{answer}")?;
     Ok(Told {
@@ -134,7 +151,7 @@ fn tell_entered(
 {
     match answer {
         Ok(pass) => keep_stax(alloc, passes, name, pass, Shows::Stax(stax)),
-        Err(refusal) => tell(alloc, refusal.name(), Shows::Stax(stax)),
+        Err(refusal) => tell_refused(alloc, refusal, Shows::Stax(stax)),
     }
 }
 
@@ -172,7 +189,7 @@ fn tell_left(
         Ok(false) => tell(alloc, "done", Shows::Stax(stax)),
         Err((refusal, pass)) => {
             passes.put_stax(name, pass)?;
-            tell(alloc, refusal.name(), Shows::Stax(stax))
+            tell_refused(alloc, refusal, Shows::Stax(stax))
         }
     }
 }
@@ -208,7 +225,7 @@ fn tell_locked(
 {
     match answer {
         Ok(pass) => keep_mutex(alloc, passes, name, pass, Shows::Mutex(mutex)),
-        Err(refusal) => tell(alloc, refusal.name(), Shows::Mutex(mutex)),
+        Err(refusal) => tell_refused(alloc, refusal, Shows::Mutex(mutex)),
     }
 }
 
@@ -245,7 +262,7 @@ fn tell_unlocked(
         Ok(()) => tell(alloc, "done", shows),
         Err((refusal, pass)) => {
             passes.put_mutex(name, pass)?;
-            tell(alloc, refusal.name(), shows)
+            tell_refused(alloc, refusal, shows)
         }
     }
 }
@@ -303,7 +320,7 @@ fn tell_begun(
             passes.begin_wait(who, mutex)?;
             tell(alloc, "begun", Shows::Mutex(mutex))
         }
-        Err(refusal) => tell(alloc, refusal.name(), Shows::Mutex(mutex)),
+        Err(refusal) => tell_refused(alloc, refusal, Shows::Mutex(mutex)),
     }
 }
 
@@ -358,7 +375,7 @@ fn tell_ended(
             passes.end_wait(who);
             tell(alloc, "timed out", shows)
         }
-        Err(refusal) => tell(alloc, refusal.name(), shows),
+        Err(refusal) => tell_refused(alloc, refusal, shows),
     }
 }
 
