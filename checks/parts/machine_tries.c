@@ -1,9 +1,9 @@
 /*
  * Tries machines: what each call of a caller answers, in an order on one host thread; null pointers, callers that are closed, numbers out
- * of their ranges; and host threads that count under a mutex, put into a semaphore and enter staxes of two stages, in rounds. Prints
- * what is wrong, and ends with 1 then.
+ * of their ranges; what the kernel tells; host threads that count under a mutex, put into a semaphore and enter staxes of two stages,
+ * in rounds; and host threads that wait for one another at each element. Prints what is wrong, and ends with 1 then.
  */
-#include <evlsim.h>
+#include <evlsim/waits.h>
 
 #include <pthread.h>
 #include <sched.h>
@@ -91,6 +91,36 @@ static void try_in_order(void) {
   evlsim_caller_close(second);
   expect(is_null(evlsim_try_lock_mutex(first, 0)) && is_null(evlsim_try_call(first, evlsim_call_put(0))), "closed");
   expect(evlsim_status_is(evlsim_caller_trace(first, 0, NULL, 0, &length), EVLSIM_NULL), "a closed one has no trace");
+}
+
+/* What the kernel tells a caller, which enters no call. */
+static void try_questions(void) {
+  const evlsim_board board = board_of(2);
+  evlsim_caller both[2];
+  evlsim_reading reading = {false, 7, 7};
+  size_t before = 0, after = 0;
+  expect(evlsim_ok(evlsim_machine_open(both, 2, &board, NULL, 0, NULL, 0, 100)), "a machine is opened");
+  expect(done(attach(&both[0], 10)) && done(attach(&both[1], 20)), "both are attached");
+  expect(evlsim_is_begun(evlsim_try_call(&both[1], evlsim_call_begin_get(0))), "the second waits");
+  expect(evlsim_ok(evlsim_caller_trace(&both[0], 0, NULL, 0, &before)), "the trace's length");
+  expect(evlsim_ok(evlsim_caller_look(&both[0], EVLSIM_SEE_PICKED, 0, &reading)) && reading.there && reading.number == 0,
+         "the first is picked");
+  expect(evlsim_ok(evlsim_caller_look(&both[0], EVLSIM_SEE_RANK, 1, &reading)) && reading.number == 532, "a rank");
+  expect(evlsim_ok(evlsim_caller_look(&both[0], EVLSIM_SEE_COUNT, 0, &reading)) && reading.count == -1, "one waits");
+  expect(evlsim_ok(evlsim_caller_ask(&both[0], EVLSIM_SEE_WAITER, 0, EVLSIM_INBAND, EVLSIM_IN, EVLSIM_ON_SEM, 0, &reading)) &&
+             reading.number == 1, "and who");
+  expect(evlsim_ok(evlsim_caller_look(&both[1], EVLSIM_SEE_FINISHED, 1, &reading)) && !reading.there, "the wait goes on");
+  expect(done(evlsim_try_call(&both[0], evlsim_call_put(0))), "the first puts");
+  expect(evlsim_ok(evlsim_caller_look(&both[1], EVLSIM_SEE_FINISHED, 1, &reading)) && reading.there, "it is over");
+  expect(evlsim_ok(evlsim_caller_look(&both[0], EVLSIM_SEE_COUNT, 9, &reading)) && !reading.there, "no such semaphore");
+  expect(evlsim_ok(evlsim_caller_trace(&both[0], 0, NULL, 0, &after)) && after > before, "the put alone was entered");
+  reading.number = 7;
+  expect(evlsim_status_is(evlsim_caller_look(&both[0], (enum evlsim_question_kind)15, 0, &reading), EVLSIM_BAD_NUMBER) &&
+             reading.number == 7, "no such question");
+  expect(evlsim_status_is(evlsim_caller_look(NULL, EVLSIM_SEE_NOW, 0, &reading), EVLSIM_NULL), "no caller");
+  expect(evlsim_status_is(evlsim_caller_look(&both[0], EVLSIM_SEE_NOW, 0, NULL), EVLSIM_NULL), "no reading");
+  for (int place = 0; place < 2; place++) evlsim_caller_close(&both[place]);
+  expect(evlsim_status_is(evlsim_caller_look(&both[0], EVLSIM_SEE_NOW, 0, &reading), EVLSIM_NULL), "closed");
 }
 
 /* Bytes of a cross-buffer go from one caller to another. */
@@ -221,11 +251,91 @@ static void try_threads(void) {
   for (int place = HOSTS - 1; place >= 0; place--) evlsim_caller_close(&callers[place]);
 }
 
+/* Two host threads hand a turn to and fro, each time by another element: the first begins. */
+static const uint32_t turns[] = {0, 0};
+static const evlsim_rings one_byte[] = {{1, 1}};
+static unsigned turn;
+
+static void pass_turn(evlsim_caller *caller, uint16_t own) {
+  const uint8_t byte = (uint8_t)own;
+  const uint16_t other = (uint16_t)(1 - own);
+  const evlsim_way way = EVLSIM_OUT;
+  uint8_t got = 9;
+  evlsim_answer answer = evlsim_do_call(caller, evlsim_call_put(other));
+  if (!done(answer)) abort();
+  answer = evlsim_get_sem(caller, own, own);
+  if (!done(answer)) abort();
+  if (!done(evlsim_do_call(caller, evlsim_call_post_flags(other, 6)))) abort();
+  answer = evlsim_wait_flags(caller, own, own, EVLSIM_TAKE_EXACT, 6);
+  if (!evlsim_has(answer, EVLSIM_BITS) || answer.number != 6) abort();
+  if (own == 0) {
+    if (!done(evlsim_write_xbuf(caller, own, 0, way, &byte, 1)) || !done(evlsim_write_xbuf(caller, own, 0, way, &byte, 1))) abort();
+  } else {
+    if (!done(evlsim_switch_inband(caller))) abort();
+    for (int it = 0; it < 2; it++) {
+      answer = evlsim_read_xbuf(caller, own, 0, way, &got, 1);
+      if (!evlsim_has(answer, EVLSIM_BYTES) || answer.number != 1 || got != 0) abort();
+    }
+    if (!done(evlsim_switch_oob(caller))) abort();
+  }
+}
+
+static void *wait_in_turns(void *given) {
+  const worker *own = given;
+  const uint16_t place = own->is_oob ? 0 : 1;
+  for (unsigned round = 0; round < rounds / 20; round++) {
+    if (place == 0) pass_turn(own->caller, place);
+    if (!done(evlsim_lock_mutex(own->caller, 0))) abort();
+    turn++;
+    if (!done(evlsim_lock_stax(own->caller, 1)) || !done(evlsim_unlock_stax(own->caller, 1))) abort();
+    if (!done(evlsim_unlock_mutex(own->caller, 0))) abort();
+    if (place == 1) pass_turn(own->caller, place);
+  }
+  return NULL;
+}
+
+static void try_waits(void) {
+  evlsim_board board = board_of(2);
+  evlsim_caller both[2];
+  worker workers[2];
+  pthread_t threads[2];
+  evlsim_reading reading;
+  board.sems = turns, board.sem_count = 2;
+  board.flags = turns, board.flag_count = 2;
+  board.xbufs = one_byte;
+  turn = 0;
+  expect(evlsim_ok(evlsim_machine_open(both, 2, &board, staxes, 2, NULL, 0, EVLSIM_MAX_LIMIT)), "for waits");
+  for (uint16_t place = 0; place < 2; place++) {
+    expect(done(attach(&both[place], (uint8_t)(10 + place))), "attached");
+    workers[place].caller = &both[place];
+    workers[place].is_oob = place == 0;
+    expect(done(evlsim_switch_inband(&both[place])) && done(evlsim_switch_oob(&both[place])), "to and fro");
+    expect(evlsim_is_begun(evlsim_do_call(&both[place], evlsim_until(evlsim_call_begin_get(place), 0))), "a date that is over");
+    expect(evlsim_is_timed_out(evlsim_wait_out(&both[place], place, NULL, 0)), "ends a wait at once");
+  }
+  expect(done(evlsim_try_lock_mutex(&both[0], 0)), "the first has it");
+  expect(evlsim_is_timed_out(evlsim_lock_mutex_until(&both[1], 0, 0)), "the second doesn't wait beyond the date");
+  expect(evlsim_is_begun(evlsim_do_call(&both[0], evlsim_call_begin_get(0))) && done(evlsim_do_call(&both[1], evlsim_call_put(0))) &&
+             done(evlsim_wait_out(&both[0], 0, NULL, 0)), "who holds a mutex keeps its stage at the end of a wait");
+  expect(done(evlsim_unlock_mutex(&both[0], 0)), "unlocked");
+  for (int place = 0; place < 2; place++) {
+    if (pthread_create(&threads[place], NULL, wait_in_turns, &workers[place])) abort();
+  }
+  for (int place = 0; place < 2; place++) pthread_join(threads[place], NULL);
+  expect(turn == 2 * (rounds / 20), "each turn was taken");
+  expect(evlsim_ok(evlsim_caller_look(&both[0], EVLSIM_SEE_COUNT, 0, &reading)) && reading.count == 0, "and no count is left");
+  for (int place = 0; place < 2; place++) evlsim_caller_close(&both[place]);
+  expect(is_null(evlsim_get_sem(&both[0], 0, 0)) && is_null(evlsim_wait_out(NULL, 0, NULL, 0)), "no caller doesn't wait");
+  expect(is_null(evlsim_lock_mutex(NULL, 0)) && is_null(evlsim_unlock_mutex(NULL, 0)) && is_null(evlsim_lock_stax(NULL, 0)), "none");
+}
+
 int main(int count, char **words) {
   if (count > 1) rounds = (unsigned)strtoul(words[1], NULL, 10);
   try_in_order();
+  try_questions();
   try_bytes();
   try_misuses();
   try_threads();
+  try_waits();
   return wrong == 0 ? 0 : 1;
 }

@@ -14,6 +14,7 @@
 #define EVLSIM_HPP
 
 #include <evlsim.h>
+#include <evlsim/waits.h>
 
 #include <cstdint>
 #include <new>
@@ -240,9 +241,9 @@ class caller {
  public:
   caller() = default;
   ~caller() { evlsim_caller_close(&caller_); }
-  caller(caller &&other) noexcept { std::swap(caller_, other.caller_); }
+  caller(caller &&other) noexcept { swap(other); }
   caller &operator=(caller &&other) noexcept {
-    std::swap(caller_, other.caller_);
+    swap(other);
     return *this;
   }
   caller(const caller &) = delete;
@@ -252,12 +253,30 @@ class caller {
      out of its range, and std::bad_alloc. */
   answer try_call(const evlsim_call &asked, std::string_view bytes = {}) {
     std::uint8_t read[256];
-    evlsim_answer told = evlsim_try_call_bytes(&caller_, asked, reinterpret_cast<const std::uint8_t *>(bytes.data()),
-                                               bytes.size(), read, sizeof read);
-    answer whole = called(told);
-    if (told.kind == EVLSIM_BYTES) whole.bytes.assign(read, read + told.number);
-    return whole;
+    return told_of(evlsim_try_call_bytes(&caller_, asked, data_of(bytes), bytes.size(), read, sizeof read), read);
   }
+
+  /* The same, however long others have the core; and of a call that begins a wait for an element, until that is over
+     (evlsim/waits.h). */
+  answer call(const evlsim_call &asked, std::string_view bytes = {}) {
+    std::uint8_t read[256];
+    return told_of(evlsim_do_call_bytes(&caller_, asked, data_of(bytes), bytes.size(), read, sizeof read), read);
+  }
+  answer wait(const evlsim_call &begin, std::string_view bytes = {}) {
+    std::uint8_t read[256];
+    return told_of(evlsim_do_wait(&caller_, thread_, begin, data_of(bytes), bytes.size(), read, sizeof read), read);
+  }
+
+  /* What the kernel tells, which enters no call. Throws refused if another caller has the core. */
+  evlsim_reading ask(evlsim_question_kind kind, std::uint16_t element = 0, evlsim_stage stage = EVLSIM_INBAND,
+                     evlsim_way way = EVLSIM_IN, evlsim_awaited on = EVLSIM_ON_SEM, std::size_t place = 0) {
+    evlsim_reading reading{};
+    require_ok(evlsim_caller_ask(&caller_, kind, element, stage, way, on, place, &reading));
+    return reading;
+  }
+
+  /* Its thread: its place among the machine's callers. */
+  std::uint16_t thread() const { return thread_; }
 
   /* Mutexes and staxes, as evlsim/machine.h says of each; none waits. They throw refused if the caller is closed. */
   answer try_lock_mutex(std::uint16_t mutex) { return called(evlsim_try_lock_mutex(&caller_, mutex)); }
@@ -270,6 +289,14 @@ class caller {
   answer finish_lock_mutex() { return called(evlsim_finish_lock_mutex(&caller_)); }
   answer try_lock_stax(std::uint16_t stax) { return called(evlsim_try_lock_stax(&caller_, stax)); }
   answer unlock_stax(std::uint16_t stax) { return called(evlsim_unlock_stax(&caller_, stax)); }
+
+  /* The same, however long that takes, as evlsim/waits.h says of each. */
+  answer lock_mutex(std::uint16_t mutex) { return called(evlsim_lock_mutex(&caller_, mutex)); }
+  answer lock_mutex(std::uint16_t mutex, std::uint64_t until) {
+    return called(evlsim_lock_mutex_until(&caller_, mutex, until));
+  }
+  answer unlock_mutex(std::uint16_t mutex) { return called(evlsim_unlock_mutex(&caller_, mutex)); }
+  answer lock_stax(std::uint16_t stax) { return called(evlsim_lock_stax(&caller_, stax)); }
 
   /* For the functions of evlsim/machine.h. */
   evlsim_caller *get() { return &caller_; }
@@ -292,10 +319,23 @@ class caller {
     require_ok(evlsim_why(told));
     return answer(told);
   }
+  static answer told_of(const evlsim_answer &told, const std::uint8_t *read) {
+    answer whole = called(told);
+    if (told.kind == EVLSIM_BYTES) whole.bytes.assign(read, read + told.number);
+    return whole;
+  }
+  static const std::uint8_t *data_of(std::string_view bytes) {
+    return reinterpret_cast<const std::uint8_t *>(bytes.data());
+  }
+  void swap(caller &other) noexcept {
+    std::swap(caller_, other.caller_);
+    std::swap(thread_, other.thread_);
+  }
 
   friend std::vector<caller> open_machine(const evlsim_board &, const std::vector<std::uint16_t> &, std::uint32_t,
                                           const bank &);
   evlsim_caller caller_ = EVLSIM_NO_CALLER;
+  std::uint16_t thread_ = 0;
 };
 
 /* The callers of a new machine, in the order of its threads; the last one that goes frees it. Throws refused if the board,
@@ -307,7 +347,10 @@ inline std::vector<caller> open_machine(const evlsim_board &board, const std::ve
   evlsim_caller none = EVLSIM_NO_CALLER;
   require_ok(evlsim_machine_open(opened.empty() ? &none : opened.data(), opened.size(), &board, staxes.data(),
                                  staxes.size(), plans.data(), plans.size(), limit));
-  for (std::size_t place = 0; place < opened.size(); place++) callers[place].caller_ = opened[place];
+  for (std::size_t place = 0; place < opened.size(); place++) {
+    callers[place].caller_ = opened[place];
+    callers[place].thread_ = static_cast<std::uint16_t>(place);
+  }
   return callers;
 }
 

@@ -2,10 +2,9 @@
  * Two host threads call one machine at once: each counts under a mutex, and enters a stax. The trace shows only what took the core: a
  * mutex that nobody claims is locked and unlocked by its word alone.
  */
-#include <evlsim.h>
+#include <evlsim/waits.h>
 
 #include <pthread.h>
-#include <sched.h>
 #include <stdio.h>
 #include <stdlib.h>
 
@@ -21,42 +20,13 @@ typedef struct worker {
   unsigned *count;
 } worker;
 
-/* A call of the kernel, once the core is free. */
-static evlsim_answer call(evlsim_caller *caller, evlsim_call what) {
-  evlsim_answer answer = evlsim_try_call(caller, what);
-  while (evlsim_refused_as(answer, EVLSIM_REFUSAL_CORE_BUSY)) {
-    sched_yield();
-    answer = evlsim_try_call(caller, what);
-  }
-  return answer;
-}
-
-/* Locks mutex 0, however long that takes. */
-static void lock(evlsim_caller *caller) {
-  evlsim_answer answer = evlsim_begin_lock_mutex(caller, 0);
-  while (evlsim_refused_as(answer, EVLSIM_REFUSAL_CORE_BUSY)) {
-    sched_yield();
-    answer = evlsim_begin_lock_mutex(caller, 0);
-  }
-  while (!evlsim_is_done(answer)) {
-    sched_yield();
-    answer = evlsim_finish_lock_mutex(caller);
-    require(evlsim_is_done(answer) || evlsim_refused_as(answer, EVLSIM_REFUSAL_AGAIN) ||
-            evlsim_refused_as(answer, EVLSIM_REFUSAL_CORE_BUSY));
-  }
-}
-
-static void unlock(evlsim_caller *caller) {
-  while (!evlsim_is_done(evlsim_try_unlock_mutex(caller, 0))) sched_yield();
-}
-
 static void *work(void *given) {
   worker *own = given;
-  require(evlsim_is_done(call(own->caller, evlsim_call_attach(evlsim_fifo(10), EVLSIM_OOB))));
+  require(evlsim_is_done(evlsim_do_call(own->caller, evlsim_call_attach(evlsim_fifo(10), EVLSIM_OOB))));
   for (int round = 0; round < ROUNDS; round++) {
-    if (!evlsim_is_done(evlsim_try_lock_mutex(own->caller, 0))) lock(own->caller);
+    if (!evlsim_is_done(evlsim_try_lock_mutex(own->caller, 0))) require(evlsim_is_done(evlsim_lock_mutex(own->caller, 0)));
     *own->count += 1;
-    unlock(own->caller);
+    require(evlsim_is_done(evlsim_unlock_mutex(own->caller, 0)));
     if (evlsim_is_done(evlsim_try_lock_stax(own->caller, 0))) {
       require(evlsim_is_done(evlsim_unlock_stax(own->caller, 0)));
     }

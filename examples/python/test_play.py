@@ -2,7 +2,8 @@
 examples/python/test_play.py; a copy elsewhere plays those that are installed beside the module."""
 import glob
 import os
-from typing import Any, Dict, List, Tuple
+import threading
+from typing import Any, Callable, Dict, List, Tuple
 
 import evlsim
 
@@ -136,6 +137,32 @@ def test_callers_call_as_threads_do() -> None:
             assert (told.kind, told.value) == (wanted.kind, wanted.value), word
         assert machine.trace() == kernel.trace() and machine.history() == kernel.history()
         assert machine.callers[0].now().refusal == "HistoryFull"
+
+
+def test_callers_wait_for_one_another() -> None:
+    machine = evlsim.Machine(threads=2, sems=[0], flags=[0], xbufs=[(8, 8)], mutexes=["normal"], staxes=[1])
+    first, second = machine.callers
+    assert all(caller.do("attach", policy="fifo 10", stage="oob") for caller in machine.callers)
+    told: List[evlsim.Answer] = []
+    waits: List[Tuple[Callable[[], evlsim.Answer], Callable[[], evlsim.Answer], Any]] = [
+        (lambda: first.get_sem(0), lambda: second.put(sem=0), None),
+        (lambda: first.wait_flags(0, "exact 6"), lambda: second.post_flags(flags=0, bits=6), 6),
+        (lambda: first.read_xbuf(0, "in", 4), lambda: second.write_xbuf(0, "in", b"ab"), b"ab"),
+    ]
+    for wait, serve, value in waits:
+        if value == b"ab":
+            assert second.set_stage(stage="inband")
+        waiter = threading.Thread(target=lambda: told.append(wait()))
+        waiter.start()
+        while not machine.see_waits(0):
+            pass
+        assert not first.see_finished(0) and serve()
+        waiter.join()
+        assert told[-1] and told[-1].value == value
+    assert machine.see_count(0) == 0 and second.set_stage(stage="oob")
+    assert second.lock_mutex(0) and first.lock_mutex(0, until=0).kind == "timed out" and second.unlock_mutex(0)
+    assert first.get_sem(0, until=0).kind == "timed out" and first.lock_stax(0) and first.unlock_stax(0)
+    assert [it.word for it in machine.history()].count("finish") == 6
 
 
 def test_entries_of_a_trace() -> None:

@@ -10,15 +10,18 @@ use Rattle.evl_kernel.specs.state.Openings.{can_open}
 use Rattle.evl_kernel.specs.state.States.{Handler}
 use Rattle.evl_machine.specs.callers.Handles.{MachineState}
 use Rattle.evl_plans.specs.declared.planned.Planned.{Planned}
-use Rattle.evl_hosts.specs.Hosts.{HostState, Steps, TellsTrace, new_hosts}
+use Rattle.evl_hosts.specs.Hosts.{HostState, Looks, Steps, TellsTrace, new_hosts}
 use Rattle.evl_c.specs.Answers.{answer_form, bytes_of}
 use Rattle.evl_c.specs.Boards.{board_of, is_board}
 use Rattle.evl_c.specs.Opens.{IsFresh}
 use Rattle.evl_c.specs.Texts.{TellsText}
+use Rattle.evl_c.specs.Readings.{reading_of}
 use Rattle.evl_c.specs.Windows.{window}
 use Rattle.evl_c.specs.declared.answers.AnswerForm.{AnswerForm}
 use Rattle.evl_c.specs.declared.boards.BoardForm.{BoardForm}
 use Rattle.evl_c.specs.declared.host_handles.HostHandle.{HostHandle}
+use Rattle.evl_c.specs.declared.readings.QuestionForm.{QuestionForm}
+use Rattle.evl_c.specs.declared.readings.ReadingForm.{ReadingForm}
 
 -- the caller that is there, if one is
 abbrev pub host_held : HostHandle → Option HostState
@@ -76,3 +79,14 @@ abbrev pub Traces : ℕ → ℕ → Option HostState → Option HostState → Li
 Traces status start (Some old) (Some new) buffer told count =
     (r : Result (List ℕ) Refusal) × Steps (λ a b. TellsTrace old.machine r a b) old.staxes old.mutexes old new × TracesAs r start buffer told count status
 Traces status start _ _ buffer told count = ⊥
+
+-- A reading is told, or that the kernel is taken.
+abbrev pub AsksAs : Result ReadingForm Refusal → ReadingForm → ℕ → Type 0
+AsksAs (Ok reading) told status = (status ≡ 0) × (told ≡ reading)
+AsksAs (Err refusal) told status = status ≡ 11
+
+-- A caller was there, and is: it took the kernel, which told this, and gave it back, or found it taken.
+abbrev pub Asks : ℕ → QuestionForm → Option HostState → Option HostState → ReadingForm → Type 0
+Asks status question (Some old) (Some new) told =
+    (r : Result ReadingForm Refusal) × Steps (λ a b. Looks (λ kernel. reading_of kernel question) r a b) old.staxes old.mutexes old new × AsksAs r told status
+Asks status question _ _ told = ⊥

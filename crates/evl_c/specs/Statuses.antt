@@ -37,6 +37,10 @@ of_caller = 0 ∷ 6 ∷ []
 abbrev pub of_caller_trace : List ℕ
 of_caller_trace = 0 ∷ 4 ∷ 6 ∷ 11 ∷ []
 
+-- of `evlsim_c_caller_ask`: done, no caller, bad number, the core is taken
+abbrev pub of_caller_ask : List ℕ
+of_caller_ask = 0 ∷ 6 ∷ 7 ∷ 11 ∷ []
+
 -- of `evlsim_c_scenario`: done, bad board or limit, no memory, no kernel, too long
 abbrev pub of_scenario : List ℕ
 of_scenario = 0 ∷ 2 ∷ 4 ∷ 6 ∷ 8 ∷ []

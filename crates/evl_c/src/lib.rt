@@ -35,7 +35,7 @@ mod windows;
 
 pub use answers::{AnswerForm, PlayForm};
 pub use applies::{evlsim_c_apply, evlsim_c_apply_bare, evlsim_c_event};
-pub use asks::evlsim_c_ask;
+pub use asks::{evlsim_c_ask, evlsim_c_caller_ask};
 pub use boards::{BoardForm, MutexForm, RingsForm};
 pub use callers::evlsim_c_callers;
 pub use calls::CallForm;

@@ -4,6 +4,7 @@ ghost use Rattle.evl_c.specs.Readings as readings;
 
 use crate::answers::stage_number;
 use evl_base::{FlagId, LineNo, MutexId, SemId, Stage, ThreadId, Way, XbufId};
+use evl_hosts::Question;
 use evl_kernel::{Awaited, KernelOf};
 use evl_plans::Planned;
 use std::alloc::Global;
@@ -196,5 +197,16 @@ pub fn read(kernel: &KernelOf<Planned, Global>, form: &QuestionForm) -> ReadingF
         thread_reading(kernel, form)
     } else {
         element_reading(kernel, form)
+    }
+}
+
+impl Question for QuestionForm {
+    type Told = ReadingForm;
+
+    ghost told_of = { λ form kernel. readings.reading_of kernel form };
+
+    // What the kernel of a machine tells.
+    fn ask(&self, kernel: &KernelOf<Planned, Global>) -> ReadingForm {
+        read(kernel, self)
     }
 }

@@ -110,6 +110,12 @@ TellsTrace machine r a b =
     ((r ≡ Err CoreBusy) × (b ≡ turned_away a))
     ⊎ ((h : HeldState Planned) × TookKernel a h × (b ≡ returned h.kernel.history h.caller) × ((r ≡ Ok (kernel_trace machine h.kernel)) ⊎ (r ≡ Err NoMemory)))
 
+-- The caller takes the kernel and gives it back, and what it tells is told. Or another has the kernel.
+abbrev pub Looks : {T : Type 0} → (KernelView Planned → T) → Result T Refusal → CallerState Planned → CallerState Planned → Type 0
+Looks told_of r a b =
+    ((r ≡ Err CoreBusy) × (b ≡ turned_away a))
+    ⊎ ((h : HeldState Planned) × TookKernel a h × (b ≡ returned h.kernel.history h.caller) × (r ≡ Ok (told_of h.kernel)))
+
 -- the callers of a machine that was made of these
 abbrev pub AreOpened : Board → List Planned → ℕ → List HostState → Type 0
 AreOpened board bank limit hosts = (machine : MachineState Planned) × IsOpened (λ p. p.kinds.0) (λ p. p.plan) board bank limit machine.first × (hosts ≡ new_hosts machine board.threads)

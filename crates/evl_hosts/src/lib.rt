@@ -4,10 +4,12 @@
 
 mod hosts;
 mod locks;
+mod looks;
 mod opening;
 mod passes;
 mod shared;
 mod staxes;
 
 pub use hosts::Host;
+pub use looks::Question;
 pub use opening::open_hosts;

@@ -362,6 +362,8 @@ uint32_t evlsim_c_unlock_mutex_fast(evlsim_caller *caller, uint16_t mutex, evlsi
 uint32_t evlsim_c_try_unlock_mutex(evlsim_caller *caller, uint16_t mutex, evlsim_answer *answer);
 uint32_t evlsim_c_try_lock_stax(evlsim_caller *caller, uint16_t stax, evlsim_answer *answer);
 uint32_t evlsim_c_unlock_stax(evlsim_caller *caller, uint16_t stax, evlsim_answer *answer);
+/* Unless it is 0, *reading is as before; 6: no caller, 7: a number of the question, 11: another caller has the core. */
+uint32_t evlsim_c_caller_ask(evlsim_caller *caller, const evlsim_question *question, evlsim_reading *reading);
 uint32_t evlsim_c_caller_trace(evlsim_caller *caller, size_t start, uint8_t *out, size_t out_length, size_t *length);
 uint32_t evlsim_c_trace(evlsim_kernel *kernel, size_t start, uint8_t *out, size_t out_length, size_t *length);
 uint32_t evlsim_c_scenario(evlsim_kernel *kernel, size_t start, uint8_t *out, size_t out_length, size_t *length);

@@ -209,16 +209,21 @@ typedef enum evlsim_awaited {
  * Questions, which change nothing. Without a kernel, or of an object that does not exist, the number is -1, the count
  * INT64_MIN, the truth false and the date 0; but nobody (0) waits for a missing mutex, and a missing thread is in-band.
  */
-static inline evlsim_reading evlsim_ask(evlsim_kernel *kernel, enum evlsim_question_kind kind, uint16_t element,
-                                        evlsim_stage stage, evlsim_way way, evlsim_awaited on, size_t place) {
+static inline evlsim_question evlsim_question_of(enum evlsim_question_kind kind, uint16_t element, evlsim_stage stage,
+                                                 evlsim_way way, evlsim_awaited on, size_t place) {
   evlsim_question question;
-  evlsim_reading reading = {false, 0, 0};
   question.kind = EVLSIM_TO(uint8_t, kind);
   question.stage = EVLSIM_TO(uint8_t, stage == EVLSIM_INBAND ? 0u : stage == EVLSIM_OOB ? 1u : 2u);
   question.way = EVLSIM_TO(uint8_t, way == EVLSIM_IN ? 0u : way == EVLSIM_OUT ? 1u : 2u);
   question.on = EVLSIM_TO(uint8_t, EVLSIM_TO(unsigned, on) > EVLSIM_ON_MUTEX ? 5u : EVLSIM_TO(unsigned, on));
   question.element = element;
   question.place = place;
+  return question;
+}
+static inline evlsim_reading evlsim_ask(evlsim_kernel *kernel, enum evlsim_question_kind kind, uint16_t element,
+                                        evlsim_stage stage, evlsim_way way, evlsim_awaited on, size_t place) {
+  const evlsim_question question = evlsim_question_of(kind, element, stage, way, on, place);
+  evlsim_reading reading = {false, 0, 0};
   if (kernel != NULL) (void)evlsim_c_ask(kernel, &question, &reading);
   return reading;
 }

@@ -164,6 +164,25 @@ static inline evlsim_status evlsim_caller_trace(evlsim_caller *caller, size_t st
   return evlsim_status_of(evlsim_c_caller_trace(caller, start, out == NULL ? &none : out, out_length, length));
 }
 
+/*
+ * Asks the kernel, as evlsim_ask does: the caller takes the core and gives it back, and no call is entered.
+ * EVLSIM_CORE_BUSY if another caller has it; EVLSIM_BAD_NUMBER, EVLSIM_NULL. Unless the status is EVLSIM_OK, *reading is as
+ * before.
+ */
+static inline evlsim_status evlsim_caller_ask(evlsim_caller *caller, enum evlsim_question_kind kind, uint16_t element,
+                                              evlsim_stage stage, evlsim_way way, evlsim_awaited on, size_t place,
+                                              evlsim_reading *reading) {
+  const evlsim_question question = evlsim_question_of(kind, element, stage, way, on, place);
+  if (caller == NULL || reading == NULL) return EVLSIM_NULL;
+  return evlsim_status_of(evlsim_c_caller_ask(caller, &question, reading));
+}
+
+/* The questions that need no stage, way or place: evlsim_caller_look(caller, EVLSIM_SEE_RANK, 1, &reading). */
+static inline evlsim_status evlsim_caller_look(evlsim_caller *caller, enum evlsim_question_kind kind, uint16_t element,
+                                               evlsim_reading *reading) {
+  return evlsim_caller_ask(caller, kind, element, EVLSIM_INBAND, EVLSIM_IN, EVLSIM_ON_SEM, 0, reading);
+}
+
 #ifdef __cplusplus
 }
 #endif

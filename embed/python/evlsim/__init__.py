@@ -16,7 +16,8 @@ the loader looks."""
 from . import _library as _lib
 from ._answers import Answer, Clock, Deadline, Line, Next, Play, Timer
 from ._callers import Caller, Machine
-from ._errors import BadBoard, BadPlan, BadQuestion, BadStep, BadText, CallRefused, KernelClosed, Refused, TooManyOrders
+from ._errors import BadBoard, BadPlan, BadQuestion, BadStep, BadText, CallRefused, CoreBusy
+from ._errors import KernelClosed, Refused, TooManyOrders
 from ._kernel import PROGRAM_BANK, Awaited, Plan, Stage, Way
 from ._library import IS_PROVED, REFUSALS, WORDS
 from ._machine import Kernel
@@ -28,7 +29,7 @@ from ._traces import Entry, Trace
 __version__ = _lib.VERSION.partition(",")[0]
 __all__ = [
     "Answer", "Awaited", "BadBoard", "BadPlan", "BadQuestion", "BadStep", "BadText", "CallRefused", "Caller",
-    "Callers", "Clock", "Deadline", "Entry", "Finding", "Form", "IS_PROVED", "Kernel", "KernelClosed", "Line",
+    "Callers", "Clock", "CoreBusy", "Deadline", "Entry", "Finding", "Form", "IS_PROVED", "Kernel", "KernelClosed", "Line",
     "Machine", "Next", "Orders", "Outcome", "PROGRAM_BANK", "Picture", "Plan", "Play", "REFUSALS", "Refused", "Stage",
     "State", "Step", "Timer", "TooManyOrders", "Trace", "WORDS", "Way", "callers", "check", "draw", "orders", "play",
     "version",

@@ -1,15 +1,17 @@
 """Machines, whose callers call the kernel from threads at once."""
 
 import ctypes
+import time
 from types import TracebackType
-from typing import Any, Dict, Iterable, NoReturn, Optional, Tuple, Type
+from typing import Any, Callable, Dict, Iterable, NoReturn, Optional, Tuple, Type
 
 from . import _library as lib
 from ._answers import Answer
 from ._calls import OwnWords, Words
-from ._errors import BadBoard, BadQuestion, BadStep, KernelClosed, Refused, items, near, whole, wrong_type
-from ._kernel import LISTS, MISSING, Plan, no_key, read_bank, read_board
+from ._errors import BadBoard, BadQuestion, BadStep, CoreBusy, KernelClosed, Refused, items, near, whole, wrong_type
+from ._kernel import LISTS, MISSING, Bytes, Plan, Way, no_key, read_bank, read_board
 from ._pictures import shown
+from ._questions import Questions
 from ._traces import Entry, read_trace
 
 _ref = ctypes.byref
@@ -28,7 +30,7 @@ class _Calls(Words):
         if status == 6:
             raise KernelClosed("the caller is closed")
         if status == 11:
-            raise Refused("another caller has the core")
+            raise CoreBusy("another caller has the core")
         super()._raise(status, other)
 
     def _bare(self, kind: int, word: str, key: str, who: int, element: int) -> Answer:
@@ -48,10 +50,34 @@ class _Calls(Words):
             self._raise(status, BadStep(f"{word} can't be made"))
         return self._answer(told, out)
 
+    def _ask(
+        self, kind: int, what: str, element: int = 0, stage: int = 0, way: int = 0, on: int = 0, place: int = 0
+    ) -> lib.Reading:
+        question = lib.Question(kind, stage, way, on, whole(BadQuestion, what, element, 0, 65535), place)
+        reading = lib.Reading()
+        status = lib.LIBRARY.evlsim_c_caller_ask(self._at, _ref(question), _ref(reading))
+        if status:
+            self._raise(status, BadQuestion(f"{what} can't be asked"))
+        return reading
 
-class Caller(OwnWords):
+
+def _at_last(make: Callable[[], Answer], *passing: str) -> Answer:
+    """The first answer of a call that is none of these refusals. Other threads of Python run between the calls."""
+    while True:
+        answer = make()
+        if answer.refusal not in passing:
+            return answer
+        time.sleep(0)
+
+
+class Caller(OwnWords, Questions):
     """A caller of a machine, for the thread of this number. There is a method for each step word: the word's keys by
-    name (`raise_` for `raise`). None of them waits: while another caller has the core an answer is `CoreBusy`."""
+    name (`raise_` for `raise`). None of them waits: while another caller has the core an answer is `CoreBusy`. The
+    questions `see_..` take the core too, and raise Refused then.
+
+    These wait, while other threads of Python run, and end with their answer: `do`, which makes any call; `get_sem`,
+    `wait_flags`, `read_xbuf`, `write_xbuf`, `lock_mutex`, `unlock_mutex`, `lock_stax`. They never end if no other caller
+    brings that about."""
 
     def __init__(self, handle: lib.Handle, thread: int) -> None:
         self._calls = _Calls(handle)
@@ -63,6 +89,61 @@ class Caller(OwnWords):
             raise BadStep(f"there is no step word {word!r}{near(word, lib.WORDS)}")
         answer: Answer = getattr(self, word + "_" * (word == "raise"))(**keys)
         return answer
+
+    def _ask(
+        self, kind: int, what: str, element: int = 0, stage: int = 0, way: int = 0, on: int = 0, place: int = 0
+    ) -> lib.Reading:
+        return self._calls._ask(kind, what, element, stage, way, on, place)
+
+    def do(self, word: str, **keys: Any) -> Answer:
+        """Makes the call that a word and its keys are, however long other callers have the core."""
+        return _at_last(lambda: self.call(word, **keys), "CoreBusy")
+
+    def _wait(self, word: str, **keys: Any) -> Answer:
+        """Makes a call that begins a wait, and where it is begun finishes it once it is over."""
+        answer = self.do(word, **keys)
+        if answer.kind != "begun":
+            return answer
+        while not self._is_over():
+            time.sleep(0)
+        answer = self.do("finish")
+        # who holds a mutex or a stax keeps the stage; the caller itself refuses the other form, with nothing done
+        return self.do("finish", keep=True) if answer.refusal == "Invalid" else answer
+
+    def _is_over(self) -> bool:
+        try:
+            return self.see_finished(self.thread)
+        except CoreBusy:
+            return False
+
+    def get_sem(self, sem: int, until: Optional[int] = None) -> Answer:
+        """Takes one from a semaphore's count, and waits where it is 0: done, or timed out at the date `until`."""
+        return self._wait("begin_get", sem=sem, until=until)
+
+    def wait_flags(self, flags: int, kind: str, until: Optional[int] = None) -> Answer:
+        """Takes bits of a flag group, and waits until it can: the bits, or timed out."""
+        return self._wait("begin_take", flags=flags, kind=kind, until=until)
+
+    def read_xbuf(self, xbuf: int, way: Way, len: int, until: Optional[int] = None) -> Answer:
+        """Reads up to so many bytes of a cross-buffer, and waits until there are some: the bytes, or timed out."""
+        return self._wait("begin_read", xbuf=xbuf, way=way, len=len, until=until)
+
+    def write_xbuf(self, xbuf: int, way: Way, bytes: Bytes, until: Optional[int] = None) -> Answer:
+        """Writes all bytes into a cross-buffer, and waits until they fit: done, or timed out."""
+        return self._wait("begin_write", xbuf=xbuf, way=way, bytes=bytes, until=until)
+
+    def lock_mutex(self, mutex: int, until: Optional[int] = None) -> Answer:
+        """Locks a mutex, however long that takes: done, or timed out. The caller keeps the pass."""
+        answer = _at_last(lambda: self.begin_lock_mutex(mutex, until), "CoreBusy", "Again")
+        return _at_last(self.finish_lock_mutex, "CoreBusy", "Again") if answer.kind == "begun" else answer
+
+    def unlock_mutex(self, mutex: int) -> Answer:
+        """Unlocks a mutex, however long others have the core."""
+        return _at_last(lambda: self.try_unlock_mutex(mutex), "CoreBusy")
+
+    def lock_stax(self, stax: int) -> Answer:
+        """Enters a stax, however long others keep the caller out. It does not mark the stax as wanted."""
+        return _at_last(lambda: self.try_lock_stax(stax), "Again", "Limit", "Raced")
 
     def try_lock_mutex(self, mutex: int) -> Answer:
         """Locks a mutex, or once more; `Busy` where another has it. The caller keeps the pass that it gets."""
@@ -127,7 +208,7 @@ class Caller(OwnWords):
         raise TypeError("a caller isn't pickled")
 
 
-class Machine:
+class Machine(Questions):
     """A kernel behind one lock, the core, with a `Caller` for each thread of its board, in `callers`. `staxes` has how
     many callers may hold each stax together; the rest is as of a `Kernel`. A notebook shows its picture.
 
@@ -184,14 +265,22 @@ class Machine:
 
     def trace(self, start: int = 0) -> str:
         """The trace of all calls so far, from a byte on, by the first caller that isn't closed."""
+        return self._first().trace(start)
+
+    def _first(self) -> Caller:
         for caller in self.callers:
             if not caller.closed:
-                return caller.trace(start)
+                return caller
         raise KernelClosed("the machine is closed")
 
     def history(self) -> Tuple[Entry, ...]:
         """The entries of the kernel's history, from the first on."""
         return tuple(read_trace(self.trace()))
+
+    def _ask(
+        self, kind: int, what: str, element: int = 0, stage: int = 0, way: int = 0, on: int = 0, place: int = 0
+    ) -> lib.Reading:
+        return self._first()._ask(kind, what, element, stage, way, on, place)
 
     def _drawn(self) -> Tuple[str, Tuple[Plan, ...]]:
         """What its picture is made from: the trace."""

@@ -45,6 +45,10 @@ class CallRefused(Refused):
         self.call, self.answer, self.trace = call, answer, trace
 
 
+class CoreBusy(Refused):
+    """Another caller of the machine has the core; what was asked has changed nothing."""
+
+
 class KernelClosed(ValueError):
     """The kernel is closed."""
 

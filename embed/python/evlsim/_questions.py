@@ -1,0 +1,93 @@
+"""What a kernel tells besides its answers: a method for each question."""
+
+from typing import Optional
+
+from . import _library as lib
+from ._errors import BadQuestion, one_of, whole
+from ._kernel import AWAITED, STAGES, WAYS, Awaited, Stage, Way
+
+
+class Questions:
+    """Questions to a kernel. They change nothing, and enter nothing into its history."""
+
+    def _ask(
+        self, kind: int, what: str, element: int = 0, stage: int = 0, way: int = 0, on: int = 0, place: int = 0
+    ) -> lib.Reading:
+        raise NotImplementedError
+
+    def see_now(self) -> int:
+        """The date."""
+        return int(self._ask(0, "see_now").number)
+
+    def see_picked(self) -> Optional[int]:
+        """Who is picked, or None."""
+        return _number(self._ask(1, "see_picked"))
+
+    def see_rank(self, thread: int) -> Optional[int]:
+        """The effective rank of a thread, or None where it isn't attached."""
+        return _number(self._ask(2, "see_rank: thread", thread))
+
+    def see_ready(self, thread: int) -> bool:
+        """Whether a thread is on the ready list."""
+        return bool(self._ask(3, "see_ready: thread", thread).there)
+
+    def see_waits(self, thread: int) -> bool:
+        """Whether a thread has an unfinished wait."""
+        return bool(self._ask(4, "see_waits: thread", thread).there)
+
+    def see_finished(self, thread: int) -> bool:
+        """Whether a thread's unfinished wait has ended."""
+        return bool(self._ask(5, "see_finished: thread", thread).there)
+
+    def see_timed_out(self, thread: int) -> bool:
+        """Whether it has ended by its deadline."""
+        return bool(self._ask(6, "see_timed_out: thread", thread).there)
+
+    def see_stage(self, thread: int) -> str:
+        """The stage of a thread: "inband" or "oob"."""
+        return STAGES[self._ask(7, "see_stage: thread", thread).number]
+
+    def see_count(self, sem: int) -> Optional[int]:
+        """The count of a semaphore, or minus the number of threads that wait; None where there is none."""
+        reading = self._ask(8, "see_count: sem", sem)
+        return int(reading.count) if reading.there else None
+
+    def see_bits(self, flags: int) -> Optional[int]:
+        """The bits of a flag group, or None where there is none."""
+        return _number(self._ask(9, "see_bits: flags", flags))
+
+    def see_stored(self, xbuf: int, way: Way) -> Optional[int]:
+        """How many bytes are in a way of a cross-buffer ("in" or "out"), or None where there is none."""
+        place = one_of(BadQuestion, "see_stored: way", way, WAYS)
+        return _number(self._ask(10, "see_stored: xbuf", xbuf, way=place))
+
+    def see_owner(self, mutex: int) -> Optional[int]:
+        """Who is recorded as the owner of a mutex, or None."""
+        return _number(self._ask(11, "see_owner: mutex", mutex))
+
+    def see_waiters(self, mutex: int) -> int:
+        """How many threads wait for a mutex."""
+        return int(self._ask(12, "see_waiters: mutex", mutex).number)
+
+    def see_waiter(self, on: Awaited, element: int, place: int = 0, way: Way = "in") -> Optional[int]:
+        """Who waits at a place, the first at 0: for a "sem", "flags", a "mutex", or in "writing" or "reading" a
+        cross-buffer."""
+        return _number(
+            self._ask(
+                13,
+                "see_waiter: element",
+                element,
+                on=one_of(BadQuestion, "see_waiter: on", on, AWAITED),
+                way=one_of(BadQuestion, "see_waiter: way", way, WAYS),
+                place=whole(BadQuestion, "see_waiter: place", place, 0, (1 << 63) - 1),
+            )
+        )
+
+    def see_pending(self, stage: Stage, line: int) -> bool:
+        """Whether an event is pending on a line of a stage."""
+        place = one_of(BadQuestion, "see_pending: stage", stage, STAGES)
+        return bool(self._ask(14, "see_pending: line", line, stage=place).there)
+
+
+def _number(reading: lib.Reading) -> Optional[int]:
+    return int(reading.number) if reading.there else None
