@@ -14,7 +14,7 @@ from typing import Any, Callable, Generator, Iterator, List, Optional, Tuple, Un
 
 import pytest
 
-from . import Kernel, Machine, Refused, draw, play, version
+from . import Kernel, Machine, Refused, check, draw, play, version
 
 Made = Union[Kernel, Machine]
 _MADE = pytest.StashKey[List[List[Made]]]() if hasattr(pytest, "StashKey") else None
@@ -100,12 +100,16 @@ class ScenarioItem(pytest.Item):
         told = play(self.path.read_bytes())
         wanted = self.path.with_suffix(".trace").read_text(encoding="utf-8")
         if told != wanted:
-            lines = difflib.unified_diff(wanted.splitlines(), told.splitlines(), "the stored trace", "played", n=2)
+            parts = (wanted.splitlines(), told.splitlines())
+            lines = difflib.unified_diff(*parts, "the stored trace", "played", n=2, lineterm="")
             raise AnotherTrace("\n".join(lines))
 
     def repr_failure(self, excinfo: Any, style: Optional[Any] = None) -> Any:
         if isinstance(excinfo.value, AnotherTrace):
             return f"another trace:\n{excinfo.value}"
+        if isinstance(excinfo.value, Refused):
+            told = "\n".join(f"{self.path.name}:{it}" for it in check(self.path.read_bytes()) if not it.is_warning)
+            return told or str(excinfo.value)
         return super().repr_failure(excinfo, style)
 
     def reportinfo(self) -> Any:
