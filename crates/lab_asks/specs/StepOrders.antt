@@ -1,5 +1,5 @@
 -- What `lab orders` tells of the orders of callers' atomic steps.
-use Rattle.std.specs.Prelude.{◌≡◌, ◌⊎◌, ◌+◌, ◌-◌, ◌^◌, min, ℕ, Bool, ◌||◌, MatchBool, if◌then◌else◌, length, nat_lt, List, ◌++◌, codes, decimal, position, slice_get, string_bytes, Option, Some, None, IsSomeAnd, option_and_then, Result, Ok, Err}
+use Rattle.std.specs.Prelude.{◌≡◌, ◌⊎◌, ◌+◌, ◌-◌, ◌^◌, min, ℕ, Bool, ◌||◌, MatchBool, if◌then◌else◌, length, nat_lt, List, ◌++◌, codes, decimal, position, slice_get, string_bytes, Option, Some, None, IsSomeAnd, is_some, option_and_then, Result, Ok, Err}
 use Rattle.toml.specs.Parse.{parse_document}
 use Rattle.lab_orders.specs.declared.levels.OrdersError.TheVariants.{Count}
 use Rattle.lab_orders.specs.declared.tallies.Tally.{Tally}
@@ -17,10 +17,10 @@ use Rattle.lab_step_orders.specs.declared.outcomes.StepOutcomes.{StepOutcomes}
 use Rattle.lab_step_texts.specs.Answers.{first_impossible}
 use Rattle.lab_step_texts.specs.Asks.{IsAskOf}
 use Rattle.lab_step_texts.specs.Crews.{IsReadAs, IsRefused}
-use Rattle.lab_step_texts.specs.Faults.{step_words}
+use Rattle.lab_step_texts.specs.Faults.{step_words, unread_words}
 use Rattle.lab_step_texts.specs.Questions.{unasked_part}
 use Rattle.lab_step_texts.specs.declared.faults.StepsFault.{StepsFault}
-use Rattle.lab_step_texts.specs.declared.faults.StepsFault.TheVariants.{Text, Mixed, Mutex, Limit, Step, WhatIf, Question, Lacking}
+use Rattle.lab_step_texts.specs.declared.faults.StepsFault.TheVariants.{Text, Mixed, Mutex, Limit, Step, WhatIf, Lasts, Question, Facts, Lacking}
 use Rattle.lab_streams.specs.Endings.{fault_words, line_about}
 use Rattle.lab_asks.specs.Asks.{ask_fault_line, impossible_text}
 use Rattle.lab_streams.specs.Outputs.{Output, refuses}
@@ -132,7 +132,7 @@ TellsPossible most one name crew asks None output = TellsGone most name crew ask
 TellsPossible most one name crew asks (Some never) output = output ≡ refuses 2 (impossible_text name never None)
 
 unfoldable pub impossible_in : Crew → Ask → Option Never
-impossible_in crew asks = first_impossible crew.callers.items asks.never.items
+impossible_in crew asks = first_impossible (is_some crew.what_if) crew.callers.items asks.never.items
 
 -- what can't be asked of orders of steps: threads aren't picked
 abbrev pub asks_whole : Ask → Bool
@@ -160,8 +160,10 @@ steps_fault_words (Text fault) = fault_words fault
 steps_fault_words Mixed = Some (codes "a [[setup]] behind a [[step]]")
 steps_fault_words Mutex = Some (codes "bad board: a mutex that nests or has a ceiling goes through the core's lock")
 steps_fault_words Limit = Some (codes "more steps than the limit")
-steps_fault_words WhatIf = Some (codes "[what_if] has one line, with true: offer_drops_mark, claim_sets_no_mark, unlock_skips_kernel or leave_keeps_mark")
+steps_fault_words (WhatIf line) = Some (line_words line (codes "[what_if] has one line, with true: offer_drops_mark, claim_sets_no_mark, unlock_skips_kernel or leave_keeps_mark"))
+steps_fault_words (Lasts line) = Some (line_words line (codes "lasts stands in a [[step]], once"))
 steps_fault_words (Question line) = Some (line_words line (codes "facts are asked on one line, as never_state = [\"T1 has the core and mutex 0 claimed\"]"))
+steps_fault_words (Facts line unread) = Some (line_words line (unread_words unread))
 steps_fault_words (Lacking line) = Some (line_words line (codes "it asks of a thread, a stax or a mutex that the board lacks"))
 steps_fault_words (Step number fault) = Some (codes "bad step " ++ (decimal number ++ (codes ": " ++ step_words fault)))
 

@@ -17,7 +17,7 @@ use lab_scenario_orders::{
 use lab_step_orders::{
     Crew, StepOutcomes, step_outcomes_of, write_step_outcome, write_step_report,
 };
-use lab_step_texts::{StepFault, StepsFault, first_impossible, read_step_ask, read_steps};
+use lab_step_texts::{StepFault, StepsFault, Unread, first_impossible, read_step_ask, read_steps};
 use lab_streams::{AGAINST, AT_FAULT, Asked, Shown, Stream, refused, tell_fault, tell_refused};
 use std::alloc::{AllocError, Global};
 use std::io;
@@ -411,8 +411,28 @@ fn tell_line<E: Stream>(err: &mut E, name: &str, line: usize, words: &str) -> io
     Ok(true)
 }
 
+// Tells which text of a line isn't facts.
+fn tell_facts<E: Stream>(
+    alloc: Global,
+    err: &mut E,
+    name: &str,
+    line: usize,
+    unread: Unread,
+) -> io::Result<bool>
+    ensures text { OnOk result (IsSomeAnd (steps_fault_words (StepsFault.Facts line unread)) (λ words. Appends (E.contents err.old) (E.contents err.new) (line_about name.now words))) }
+    ensures early { IfErr result (EndsEarly false false (E.has_failed err.new)) }
+{
+    let words = unread.words(alloc)?;
+    tell_line(err, name, line, words.as_str())
+}
+
 // Tells why a text isn't gone through.
-fn tell_steps_fault<E: Stream>(err: &mut E, name: &str, fault: StepsFault) -> io::Result<bool>
+fn tell_steps_fault<E: Stream>(
+    alloc: Global,
+    err: &mut E,
+    name: &str,
+    fault: StepsFault,
+) -> io::Result<bool>
     ensures text { OnOk result (IsSomeAnd (steps_fault_words fault) (λ words. Appends (E.contents err.old) (E.contents err.new) (line_about name.now words))) }
     ensures early { IfErr result (EndsEarly false false (E.has_failed err.new)) }
 {
@@ -427,13 +447,18 @@ fn tell_steps_fault<E: Stream>(err: &mut E, name: &str, fault: StepsFault) -> io
             )
         }
         StepsFault::Limit => tell_refused(err, name, "more steps than the limit"),
-        StepsFault::WhatIf => {
-            tell_refused(
+        StepsFault::WhatIf(line) => {
+            tell_line(
                 err,
                 name,
+                line,
                 "[what_if] has one line, with true: offer_drops_mark, claim_sets_no_mark, unlock_skips_kernel or leave_keeps_mark",
             )
         }
+        StepsFault::Lasts(line) => {
+            tell_line(err, name, line, "lasts stands in a [[step]], once")
+        }
+        StepsFault::Facts(line, unread) => tell_facts(alloc, err, name, line, unread),
         StepsFault::Question(line) => {
             tell_line(
                 err,
@@ -468,6 +493,6 @@ pub fn tell_steps<O: Stream, E: Stream>(
 {
     match read_steps(alloc, text) {
         Ok(crew) => tell_crew(alloc, asked, &crew, text, out, err),
-        Err(fault) => refused(tell_steps_fault(err, asked.name(), fault)),
+        Err(fault) => refused(tell_steps_fault(alloc, err, asked.name(), fault)),
     }
 }

@@ -1,5 +1,5 @@
 -- Texts with others between them, what lines ask, and why one asks nothing.
-use Rattle.std.proofs.Common.{Bor, append_assoc, ◌≡◌, ℕ, Bool, true, false, ◌&&◌, List, [], ◌∷◌, ◌++◌, length, drop, get_or, zero, suc, ◌+◌, ◌-◌, ◌<◌, ◌≤◌, map, Option, Some, None, refl, sym, ◌∙◌, ap, subst, arith, add-one, append-nil}
+use Rattle.std.proofs.Common.{Bor, append_assoc, ◌≡◌, ℕ, Bool, true, false, ◌&&◌, List, [], ◌∷◌, ◌++◌, length, drop, get_or, zero, suc, ◌+◌, ◌-◌, ◌<◌, ◌≤◌, map, Option, Some, None, option_map, refl, sym, ◌∙◌, ap, subst, arith, add-one, append-nil}
 use Rattle.std.specs.Prelude.{IsSomeAnd, is_some, slice_get}
 use Rattle.std.proofs.lemmas.List.{drop_all, map-append}
 use Rattle.std.proofs.lemmas.List.Folds.{list_all-append}
@@ -7,9 +7,12 @@ use Rattle.evl_base.specs.declared.board.Board.{Board}
 use Rattle.lab_scenario_orders.specs.declared.watches.When.{When}
 use Rattle.lab_scenario_orders.specs.Splits.{is_asked}
 use Rattle.lab_step_orders.specs.declared.watches.StepWatch.{StepWatch}
-use Rattle.lab_step_texts.specs.Questions.{AreAsked, IsLineFault, IsUnasked, LineAsks, are_there, joined_by, names_there, when_asked, when_set}
+use Rattle.lab_step_texts.specs.Questions.{AreAsked, IsLineFault, IsUnasked, IsUnread, IsUnreadAt, IsUnreadOf, LineAsks, are_there, joined_by, line_fault, names_there, when_asked, when_set}
 use Rattle.lab_step_texts.specs.declared.faults.StepsFault.{StepsFault}
-use Rattle.lab_step_texts.specs.declared.faults.StepsFault.TheVariants.{Text, Mixed, Mutex, Limit, Step, WhatIf, Question, Lacking}
+use Rattle.lab_step_texts.specs.declared.faults.StepsFault.TheVariants.{Text, Mixed, Mutex, Limit, Step, WhatIf, Lasts, Question, Facts, Lacking}
+use Rattle.lab_step_texts.specs.Near.{near_word}
+use Rattle.lab_step_texts.specs.declared.questions.NotAsked.{NotAsked}
+use Rattle.lab_step_texts.specs.declared.questions.NotAsked.TheVariants as not_asked
 
 joined_more : (between : List ℕ) (done : List (List ℕ)) (one rest : List ℕ) → joined_by between (done ++ one ∷ (rest ∷ [])) ≡ joined_by between (done ++ (one ++ (between ++ rest)) ∷ [])
 joined_more between [] one rest = refl
@@ -92,17 +95,38 @@ lacks_so false line o board watches at asks lacks =
     let none : watches ≡ [] = subst (λ (w : Option When). LineAsks w line watches) at asks in
     no_way (sym (subst (λ (l : List StepWatch). are_there board l ≡ false) none lacks))
 
--- so of the line in a loop
+when_so : (is : Bool) (line : List ℕ) (o : Option When) (when : When) → o ≡ when_asked is line → o ≡ Some when → when_set line ≡ Some when
+when_so true line o when at e = sym at ∙ e
+when_so false line o when at e = no_way (ap (λ (w : Option When). is_some w) (sym at ∙ e))
+
+-- so of the text in a loop
+pub unread_at : {A : Type 0} (f : A → List ℕ) (texts : List A) (i : ℕ) (d : A) (why : NotAsked) → i < length texts → IsUnread (i + 1) (f (get_or texts i d)) why → IsUnreadOf (map f texts) why
+unread_at f texts i d not_asked.Value lt h = absurd h
+unread_at f texts i d (not_asked.Text n meant) lt h =
+    subst (λ (l : Option (List ℕ)). IsSomeAnd l (λ text. option_map (λ word. word.now) meant ≡ near_word text)) (sym (line_at f texts i d n lt h.0)) h.1
+unread_at f texts i d not_asked.Memory lt h = tt
+
+-- a line with such a text
+pub line_refused : (board : Board) (when : When) (line : List ℕ) (number : ℕ) (why : NotAsked) → IsUnreadAt line why → IsLineFault board (Some when) line number (line_fault when number why)
+line_refused board when line number not_asked.Value h = (refl, refl)
+line_refused board when line number (not_asked.Text n meant) h = (refl, refl, h)
+line_refused board when line number not_asked.Memory h = tt
+
+-- and of the line in a loop
 pub unasked_at : {A : Type 0} (f : A → List ℕ) (lines : List A) (i : ℕ) (d : A) (board : Board) (is : Bool) (o : Option When) (fault : StepsFault) → i < length lines
     → o ≡ when_asked is (f (get_or lines i d)) → IsLineFault board o (f (get_or lines i d)) (i + 1) fault → IsUnasked board (map f lines) fault
 unasked_at f lines i d board is o (Text fault) lt at h = tt
 unasked_at f lines i d board is o Mixed lt at h = absurd h
 unasked_at f lines i d board is o Mutex lt at h = absurd h
 unasked_at f lines i d board is o Limit lt at h = absurd h
-unasked_at f lines i d board is o WhatIf lt at h = absurd h
+unasked_at f lines i d board is o (WhatIf n) lt at h = absurd h
+unasked_at f lines i d board is o (Lasts n) lt at h = absurd h
 unasked_at f lines i d board is o (Step n fault) lt at h = absurd h
 unasked_at f lines i d board is o (Question n) lt at h =
     subst (λ (l : Option (List ℕ)). IsSomeAnd l (λ line. is_some (when_set line) ≡ true)) (sym (line_at f lines i d n lt h.0)) (set_so is (f (get_or lines i d)) o at h.1)
+unasked_at f lines i d board is o (Facts n unread) lt at h =
+    subst (λ (l : Option (List ℕ)). IsSomeAnd l (λ line. (when_set line ≡ Some unread.when) × IsUnreadAt line (not_asked.Text unread.number unread.meant))) (sym (line_at f lines i d n lt h.0))
+    (when_so is (f (get_or lines i d)) o unread.when at h.1, h.2)
 unasked_at f lines i d board is o (Lacking n) lt at h =
     subst (λ (l : Option (List ℕ)). IsSomeAnd l (λ line. (watches : List StepWatch) × LineAsks (when_set line) line watches × (are_there board watches ≡ false))) (sym (line_at f lines i d n lt h.0))
     (h.1.0, lacks_so is (f (get_or lines i d)) o board h.1.0 at h.1.1 h.1.2, h.1.2)

@@ -1,5 +1,5 @@
 -- Which texts are gone through step by step, and what is read of one, or why it isn't.
-use Rattle.std.proofs.Common.{◌≡◌, ℕ, ◌&&◌, Bool, true, false, List, None, Result, Ok, Err, IfOk, IfErr, sym, ap, ◌∙◌, subst}
+use Rattle.std.proofs.Common.{◌≡◌, ℕ, ◌&&◌, Bool, true, false, List, None, Some, Result, Ok, Err, IfOk, IfErr, sym, ap, ◌∙◌, subst}
 use Rattle.std.specs.Str.{is_utf8}
 use Rattle.std.specs.Str.Lines.{lines}
 use Rattle.evl_base.specs.declared.board.Board.{Board}
@@ -8,14 +8,14 @@ use Rattle.lab_callers_text.specs.declared.reading.CallersText.{CallersText}
 use Rattle.lab_kinds.specs.Kinds.{kind_of}
 use Rattle.lab_scenario_orders.specs.Splits.{is_mixed, scenario_part, setup_count}
 use Rattle.lab_step_orders.specs.declared.crews.Crew.{Crew}
-use Rattle.lab_step_texts.specs.Crews.{AreExtras, IsCrewOf, IsKept, IsReadAs, IsReadOf, IsRefused, IsStopped, set_up}
-use Rattle.lab_step_texts.specs.Extras.{is_unclear, plain_part}
+use Rattle.lab_step_texts.specs.Crews.{AreExtras, IsCrewOf, IsKept, IsReadAs, IsReadOf, IsRefused, IsStopped, IsUnplain, set_up}
+use Rattle.lab_step_texts.specs.Extras.{plain_part, strange_line, stray_line}
 use Rattle.lab_step_texts.specs.Kinds.{asks_steps, is_of_callers}
 use Rattle.lab_step_texts.specs.Questions.{AreAsked, IsUnasked, are_there}
 use Rattle.lab_step_orders.specs.declared.watches.StepWatch.{StepWatch}
 use Rattle.lab_step_texts.specs.declared.extras.Extras.{Extras}
 use Rattle.lab_step_texts.specs.declared.faults.StepsFault.{StepsFault}
-use Rattle.lab_step_texts.specs.declared.faults.StepsFault.TheVariants.{Text, Mixed, Mutex, Limit, Step, WhatIf, Question, Lacking}
+use Rattle.lab_step_texts.specs.declared.faults.StepsFault.TheVariants.{Text, Mixed, Mutex, Limit, Step, WhatIf, Lasts, Question, Facts, Lacking}
 
 -- a text that is UTF-8, by the scenario in it
 pub asks_as : (E : Type 0) (r : Result Bool E) (bytes text scenario : List ℕ) → is_utf8 bytes ≡ true → text ≡ bytes → scenario ≡ scenario_part (plain_part text)
@@ -34,13 +34,14 @@ crew_read (Ok crew) extras scenario text count n read same is all h =
 crew_read (Err e) extras scenario text count n read same is all h = tt
 
 -- those of a text that was split
-pub crew_split : (r : Result Crew StepsFault) (extras : Extras) (bytes text plain scenario : List ℕ) (count : ℕ) → text ≡ bytes → is_unclear text ≡ false → AreExtras text extras
+pub crew_split : (r : Result Crew StepsFault) (extras : Extras) (bytes text plain scenario : List ℕ) (count : ℕ) → text ≡ bytes → strange_line text ≡ None → stray_line text ≡ None → AreExtras text extras
     → plain ≡ plain_part text → is_mixed (lines plain) ≡ false → scenario ≡ scenario_part plain → count ≡ setup_count plain
     → IfOk r (λ crew. AreAsked false (lines text) crew.watches.items) → IfOk r (λ crew. are_there crew.board crew.watches.items ≡ true)
     → IfOk r (IsReadOf extras scenario count) → IfOk r (IsReadAs bytes)
-crew_split (Ok crew) extras bytes text plain scenario count same clear are whole unmixed part all asked there h =
+crew_split (Ok crew) extras bytes text plain scenario count same clear lasts are whole unmixed part all asked there h =
     subst (λ (b : List ℕ). IsReadAs b crew) same (record {
       clear = clear;
+      lasts = lasts;
       unmixed = subst (λ (p : List ℕ). is_mixed (lines p) ≡ false) whole unmixed;
       extras = extras;
       are = are;
@@ -49,7 +50,7 @@ crew_split (Ok crew) extras bytes text plain scenario count same clear are whole
       asked = asked;
       there = there;
     })
-crew_split (Err e) extras bytes text plain scenario count same clear are whole unmixed part all asked there h = tt
+crew_split (Err e) extras bytes text plain scenario count same clear lasts are whole unmixed part all asked there h = tt
 
 -- what they are asked of moments
 pub crew_asked : (r : Result Crew StepsFault) (lined : List (List ℕ)) (watches : List StepWatch) → AreAsked false lined watches → IfOk r (λ crew. crew.watches.items ≡ watches)
@@ -68,8 +69,10 @@ kept_for : (lined : List (List ℕ)) (scenario text : List ℕ) (count n : ℕ) 
     → IsKept read n fault → IsStopped lined scenario count fault
 kept_for lined scenario text count n read same is all (Text fault) h = tt
 kept_for lined scenario text count n read same is all Mixed h = absurd h
-kept_for lined scenario text count n read same is all WhatIf h = absurd h
+kept_for lined scenario text count n read same is all (WhatIf line) h = absurd h
+kept_for lined scenario text count n read same is all (Lasts line) h = absurd h
 kept_for lined scenario text count n read same is all (Question line) h = absurd h
+kept_for lined scenario text count n read same is all (Facts line unread) h = absurd h
 kept_for lined scenario text count n read same is all (Lacking line) h = absurd h
 kept_for lined scenario text count n read same is all Mutex h =
     (read, subst (λ (t : List ℕ). IsRead None t read) same is, h)
@@ -89,9 +92,11 @@ unasked_read lined scenario text count read same is (Text fault) h = tt
 unasked_read lined scenario text count read same is Mixed h = absurd h
 unasked_read lined scenario text count read same is Mutex h = absurd h
 unasked_read lined scenario text count read same is Limit h = absurd h
-unasked_read lined scenario text count read same is WhatIf h = absurd h
+unasked_read lined scenario text count read same is (WhatIf line) h = absurd h
+unasked_read lined scenario text count read same is (Lasts line) h = absurd h
 unasked_read lined scenario text count read same is (Step k fault) h = absurd h
 unasked_read lined scenario text count read same is (Question line) h = (read, subst (λ (t : List ℕ). IsRead None t read) same is, h)
+unasked_read lined scenario text count read same is (Facts line unread) h = (read, subst (λ (t : List ℕ). IsRead None t read) same is, h)
 unasked_read lined scenario text count read same is (Lacking line) h = (read, subst (λ (t : List ℕ). IsRead None t read) same is, h)
 
 -- so of a text that was split
@@ -106,8 +111,10 @@ refused_for : (bytes text plain scenario : List ℕ) (count : ℕ) → text ≡ 
     → IsStopped (lines text) scenario count fault → IsRefused bytes fault
 refused_for bytes text plain scenario count same whole part all (Text fault) h = tt
 refused_for bytes text plain scenario count same whole part all Mixed h = absurd h.2
-refused_for bytes text plain scenario count same whole part all WhatIf h = absurd h.2
+refused_for bytes text plain scenario count same whole part all (WhatIf line) h = absurd h.2
+refused_for bytes text plain scenario count same whole part all (Lasts line) h = absurd h.2
 refused_for bytes text plain scenario count same whole part all (Question line) h = stopped_in bytes text plain scenario count (Question line) same whole part all h
+refused_for bytes text plain scenario count same whole part all (Facts line unread) h = stopped_in bytes text plain scenario count (Facts line unread) same whole part all h
 refused_for bytes text plain scenario count same whole part all (Lacking line) h = stopped_in bytes text plain scenario count (Lacking line) same whole part all h
 refused_for bytes text plain scenario count same whole part all Mutex h = stopped_in bytes text plain scenario count Mutex same whole part all h
 refused_for bytes text plain scenario count same whole part all Limit h = stopped_in bytes text plain scenario count Limit same whole part all h
@@ -117,3 +124,17 @@ pub refused_read : (r : Result Crew StepsFault) (bytes text plain scenario : Lis
     → IfErr r (IsStopped (lines text) scenario count) → IfErr r (IsRefused bytes)
 refused_read (Ok crew) bytes text plain scenario count same whole part all h = tt
 refused_read (Err fault) bytes text plain scenario count same whole part all h = refused_for bytes text plain scenario count same whole part all fault h
+
+-- or for a line of its own
+pub unplain_refused : (bytes text : List ℕ) (extras : Extras) → text ≡ bytes → extras.strange ≡ strange_line text → extras.stray ≡ stray_line text → (fault : StepsFault)
+    → IsUnplain extras fault → IsRefused bytes fault
+unplain_refused bytes text extras same strange stray (Text fault) h = absurd h
+unplain_refused bytes text extras same strange stray Mixed h = absurd h
+unplain_refused bytes text extras same strange stray Mutex h = absurd h
+unplain_refused bytes text extras same strange stray Limit h = absurd h
+unplain_refused bytes text extras same strange stray (WhatIf line) h = subst (λ (b : List ℕ). strange_line b ≡ Some line) same (sym strange ∙ h)
+unplain_refused bytes text extras same strange stray (Lasts line) h = subst (λ (b : List ℕ). stray_line b ≡ Some line) same (sym stray ∙ h)
+unplain_refused bytes text extras same strange stray (Question line) h = absurd h
+unplain_refused bytes text extras same strange stray (Facts line unread) h = absurd h
+unplain_refused bytes text extras same strange stray (Lacking line) h = absurd h
+unplain_refused bytes text extras same strange stray (Step k fault) h = absurd h

@@ -32,17 +32,26 @@ fronts_of (Kernel place) = codes "count " ∷ codes "bits " ∷ codes "number " 
 fronts_of (Finish keep) = codes "bits " ∷ []
 fronts_of _ = []
 
+-- and what else where callers make a wrong step, so that a word names another owner than the kernel's record
+abbrev pub wrong_answers : WordCall → List (List ℕ)
+wrong_answers (BeginLockMutex mutex until) = codes "Invalid" ∷ []
+wrong_answers _ = []
+
 abbrev pub can_be : List ℕ → WordCall → Bool
 can_be answer call = list_any (bytes_eq answer) (answers_of call) || list_any (λ front. begins front answer) (fronts_of call)
 
--- one of these callers, numbered from k, is told so, and a call of its can be answered so
-abbrev pub can_have : List ℕ → List ℕ → ℕ → List CrewCaller → Bool
-can_have who answer k [] = false
-can_have who answer k (caller ∷ rest) = (bytes_eq (caller_text k) who && list_any (can_be answer) caller.calls.items) || can_have who answer (k + 1) rest
+-- where callers make a wrong step, or not
+abbrev pub can_come : Bool → List ℕ → WordCall → Bool
+can_come wrong answer call = can_be answer call || (wrong && list_any (bytes_eq answer) (wrong_answers call))
 
-abbrev pub is_impossible : List CrewCaller → Never → Bool
-is_impossible callers never = not (can_have (string_bytes never.who) (string_bytes never.answer) 0 callers)
+-- one of these callers, numbered from k, is told so, and a call of its can be answered so
+abbrev pub can_have : Bool → List ℕ → List ℕ → ℕ → List CrewCaller → Bool
+can_have wrong who answer k [] = false
+can_have wrong who answer k (caller ∷ rest) = (bytes_eq (caller_text k) who && list_any (can_come wrong answer) caller.calls.items) || can_have wrong who answer (k + 1) rest
+
+abbrev pub is_impossible : Bool → List CrewCaller → Never → Bool
+is_impossible wrong callers never = not (can_have wrong (string_bytes never.who) (string_bytes never.answer) 0 callers)
 
 -- the first answer that no call of its caller can have
-abbrev pub first_impossible : List CrewCaller → List Never → Option Never
-first_impossible callers all = find (is_impossible callers) all
+abbrev pub first_impossible : Bool → List CrewCaller → List Never → Option Never
+first_impossible wrong callers all = find (is_impossible wrong callers) all

@@ -57,7 +57,7 @@ abbrev pub unlock_call : Option Lock → Result WordCall StepFault
 unlock_call (Some (lock.Mutex mutex)) = Ok (TryUnlockMutex mutex)
 unlock_call _ = Err Pass
 
--- callers make the calls of the kernel that move no thread to another stage, are of no mutex, and answer no bytes
+-- callers make the calls of the kernel that change no thread's stage or policy, are of no mutex, and answer no bytes
 abbrev pub is_plain_call : Call → Bool
 is_plain_call (call.Attach policy stage) = false
 is_plain_call call.Detach = false

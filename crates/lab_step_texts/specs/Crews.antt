@@ -12,13 +12,13 @@ use Rattle.lab_step_orders.specs.declared.crews.Crew.{Crew}
 use Rattle.lab_step_orders.specs.declared.crews.CrewCaller.{CrewCaller}
 use Rattle.lab_step_texts.specs.Calls.{attaches, calls_behind, kernel_step, own_calls, stage_in, unattached}
 use Rattle.lab_step_orders.specs.declared.steps.CoreUse.{CoreUse}
-use Rattle.lab_step_texts.specs.Extras.{is_unclear, own_ways, plain_part, ways_part, wrong_part}
+use Rattle.lab_step_texts.specs.Extras.{own_ways, plain_part, strange_line, stray_line, ways_part, wrong_part}
 use Rattle.lab_step_texts.specs.Questions.{AreAsked, IsUnasked, are_there}
 use Rattle.lab_step_texts.specs.declared.calls.CallerCall.{CallerCall}
 use Rattle.lab_step_texts.specs.declared.extras.Extras.{Extras}
 use Rattle.lab_step_texts.specs.declared.faults.StepFault.TheVariants.{Setup}
 use Rattle.lab_step_texts.specs.declared.faults.StepsFault.{StepsFault}
-use Rattle.lab_step_texts.specs.declared.faults.StepsFault.TheVariants.{Text, Mixed, Mutex, Limit, Step, WhatIf, Question, Lacking}
+use Rattle.lab_step_texts.specs.declared.faults.StepsFault.TheVariants.{Text, Mixed, Mutex, Limit, Step, WhatIf, Lasts, Question, Facts, Lacking}
 
 -- a mutex that neither nests nor has a ceiling
 abbrev pub is_plain : MutexKind → Bool
@@ -62,7 +62,8 @@ pub record AreExtras (text : List ℕ) (extras : Extras) : Type 0 where
 
 -- the crew of a text: that of its text of callers
 pub record IsReadAs (text : List ℕ) (crew : Crew) : Type 0 where
-  pub clear : is_unclear text ≡ false
+  pub clear : strange_line text ≡ None
+  pub lasts : stray_line text ≡ None
   pub unmixed : is_mixed (lines (plain_part text)) ≡ false
   pub extras : Extras
   pub are : AreExtras text extras
@@ -75,8 +76,10 @@ pub record IsReadAs (text : List ℕ) (crew : Crew) : Type 0 where
 abbrev pub IsKept : CallersText → ℕ → StepsFault → Type 0
 IsKept read count (Text fault) = Unit {0}
 IsKept read count Mixed = ⊥
-IsKept read count WhatIf = ⊥
+IsKept read count (WhatIf line) = ⊥
+IsKept read count (Lasts line) = ⊥
 IsKept read count (Question line) = ⊥
+IsKept read count (Facts line unread) = ⊥
 IsKept read count (Lacking line) = ⊥
 IsKept read count Mutex = list_all is_plain read.board.mutexes.items ≡ false
 IsKept read count Limit = read.limit < length read.steps.items
@@ -91,11 +94,19 @@ IsKeptOf scenario count fault = (read : CallersText) × IsRead None scenario rea
 -- or these lines ask something else of its moments
 abbrev pub IsStopped : List (List ℕ) → List ℕ → ℕ → StepsFault → Type 0
 IsStopped all scenario count (Question line) = (read : CallersText) × IsRead None scenario read × IsUnasked read.board all (Question line)
+IsStopped all scenario count (Facts line unread) = (read : CallersText) × IsRead None scenario read × IsUnasked read.board all (Facts line unread)
 IsStopped all scenario count (Lacking line) = (read : CallersText) × IsRead None scenario read × IsUnasked read.board all (Lacking line)
 IsStopped all scenario count fault = IsKeptOf scenario count fault
+
+-- or a line of its own asks for something else
+abbrev pub IsUnplain : Extras → StepsFault → Type 0
+IsUnplain extras (WhatIf line) = extras.strange ≡ Some line
+IsUnplain extras (Lasts line) = extras.stray ≡ Some line
+IsUnplain extras fault = ⊥
 
 -- why a text isn't
 abbrev pub IsRefused : List ℕ → StepsFault → Type 0
 IsRefused text Mixed = is_mixed (lines (plain_part text)) ≡ true
-IsRefused text WhatIf = is_unclear text ≡ true
+IsRefused text (WhatIf line) = strange_line text ≡ Some line
+IsRefused text (Lasts line) = stray_line text ≡ Some line
 IsRefused text fault = IsStopped (lines text) (scenario_part (plain_part text)) (setup_count (plain_part text)) fault

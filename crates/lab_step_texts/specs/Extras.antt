@@ -1,12 +1,12 @@
 -- What a text of steps has beside a text of callers: calls that take the core by a turn of its own, and a wrong step.
-use Rattle.std.specs.Prelude.{ℕ, ◌+◌, ◌-◌, ◌==◌, Bool, true, false, ◌&&◌, ◌||◌, not, List, [], ◌∷◌, ◌++◌, Option, Some, None, codes, if◌then◌else◌, is_some, length, slice_index_or, slice_set}
+use Rattle.std.specs.Prelude.{ℕ, ◌+◌, ◌-◌, ◌==◌, Bool, true, false, ◌&&◌, ◌||◌, not, List, [], ◌∷◌, ◌++◌, Option, Some, None, codes, if◌then◌else◌, is_none, is_some, length, slice_index_or, slice_set}
 use Rattle.std.specs.List.{list_any}
 use Rattle.std.specs.Option.{option_map_or, option_or}
 use Rattle.std.specs.Str.{bytes_eq}
 use Rattle.std.specs.Str.Lines.{lines}
 use Rattle.lab_callers_text.specs.declared.acts.CallersStep.{CallersStep}
 use Rattle.lab_kinds.specs.Plains.{is_own, is_set_to, is_what_if, is_what_if_head}
-use Rattle.lab_scenario_orders.specs.Splits.{bare, is_step, joined_lines}
+use Rattle.lab_scenario_orders.specs.Splits.{bare, is_step, is_table, joined_lines}
 use Rattle.lab_step_orders.specs.declared.steps.CoreUse.{CoreUse}
 use Rattle.lab_step_orders.specs.declared.steps.CoreUse.TheVariants.{Whole, Lasts, Tries}
 use Rattle.lab_step_orders.specs.declared.steps.WhatIf.{WhatIf}
@@ -25,6 +25,18 @@ ways_on ways line = if is_step line then ways ++ Whole ∷ [] else option_map_or
 abbrev pub ways_from : List CoreUse → List (List ℕ) → List CoreUse
 ways_from ways [] = ways
 ways_from ways (line ∷ rest) = ways_from (ways_on ways line) rest
+
+-- a step goes on behind a line, and has no `lasts` so far; another line sets it elsewhere, or once more
+abbrev pub is_open : Bool → List ℕ → Bool
+is_open was line = if is_table line then is_step line else was && not (is_some (way_set line))
+
+abbrev pub is_stray : Bool → List ℕ → Bool
+is_stray going line = is_some (way_set line) && not going
+
+-- the number of the first such line, counted from n
+abbrev pub stray_from : ℕ → Bool → List (List ℕ) → Option ℕ
+stray_from n going [] = None
+stray_from n going (line ∷ rest) = if is_stray going line then Some n else stray_from (n + 1) (is_open going line) rest
 
 -- those of one caller's steps, where these steps are numbered from n
 abbrev pub own_ways : ℕ → List CoreUse → ℕ → List CallersStep → List CoreUse
@@ -49,16 +61,19 @@ abbrev pub wrong_from : Option WhatIf → Bool → List (List ℕ) → Option Wh
 wrong_from what was [] = what
 wrong_from what was (line ∷ rest) = wrong_from (wrong_on what (is_what_if was line) line) (is_what_if was line) rest
 
--- a line of such a table that asks for none
+-- a line of such a table that asks for none, or for a second one
 abbrev pub is_empty : List ℕ → Bool
 is_empty line = bytes_eq (bare line) []
 
-abbrev pub is_strange : Bool → List ℕ → Bool
-is_strange is line = is && not (is_what_if_head line || (is_empty line || is_some (wrong_set line)))
+abbrev pub is_strange : Option WhatIf → Bool → List ℕ → Bool
+is_strange what is line = is && not (is_what_if_head line || (is_empty line || (is_some (wrong_set line) && is_none what)))
 
-abbrev pub are_strange : Bool → List (List ℕ) → Bool
-are_strange was [] = false
-are_strange was (line ∷ rest) = is_strange (is_what_if was line) line || are_strange (is_what_if was line) rest
+-- the number of the first such line, counted from n
+abbrev pub strange_from : ℕ → Option WhatIf → Bool → List (List ℕ) → Option ℕ
+strange_from n what was [] = None
+strange_from n what was (line ∷ rest) =
+    if is_strange what (is_what_if was line) line then Some n
+    else strange_from (n + 1) (wrong_on what (is_what_if was line) line) (is_what_if was line) rest
 
 -- ---- the text of callers
 
@@ -79,5 +94,9 @@ ways_part text = ways_from [] (lines text)
 abbrev pub wrong_part : List ℕ → Option WhatIf
 wrong_part text = wrong_from None false (lines text)
 
-abbrev pub is_unclear : List ℕ → Bool
-is_unclear text = are_strange false (lines text)
+-- the first line that asks for no wrong step, and the first one that sets `lasts` and may not
+abbrev pub strange_line : List ℕ → Option ℕ
+strange_line text = strange_from 1 None false (lines text)
+
+abbrev pub stray_line : List ℕ → Option ℕ
+stray_line text = stray_from 1 false (lines text)

@@ -6,4 +6,5 @@ pub mod Extras
 pub mod FactTexts
 pub mod Faults
 pub mod Kinds
+pub mod Near
 pub mod Questions

@@ -4,6 +4,7 @@ use Rattle.std.specs.List.{list_all}
 use Rattle.std.specs.Str.{bytes_eq, trim}
 use Rattle.std.specs.Str.Lines.{lines}
 use Rattle.evl_base.specs.declared.board.Board.{Board}
+use Rattle.evl_scenario.specs.declared.faults.Fault.TheVariants.{Memory}
 use Rattle.lab_scenario_orders.specs.KeyLines.{around_equals, key_set}
 use Rattle.lab_scenario_orders.specs.Splits.{bare, is_asked, joined_lines}
 use Rattle.lab_scenario_orders.specs.declared.watches.When.{When}
@@ -13,8 +14,11 @@ use Rattle.lab_step_orders.specs.declared.watches.StepFact.{StepFact}
 use Rattle.lab_step_orders.specs.declared.watches.StepFact.TheVariants.{HoldsStax, HeldOn, StaxClaimed, HoldsMutex, MutexFree, MutexClaimed, HasCore, CoreFree}
 use Rattle.lab_step_orders.specs.declared.watches.StepWatch.{StepWatch}
 use Rattle.lab_step_texts.specs.FactTexts.{claim_in}
+use Rattle.lab_step_texts.specs.Near.{near_word}
 use Rattle.lab_step_texts.specs.declared.faults.StepsFault.{StepsFault}
-use Rattle.lab_step_texts.specs.declared.faults.StepsFault.TheVariants.{Text, Question, Lacking}
+use Rattle.lab_step_texts.specs.declared.faults.StepsFault.TheVariants.{Text, Question, Facts, Lacking}
+use Rattle.lab_step_texts.specs.declared.questions.NotAsked.{NotAsked}
+use Rattle.lab_step_texts.specs.declared.questions.NotAsked.TheVariants as not_asked
 
 -- ---- a line
 
@@ -99,10 +103,47 @@ are_there board watches = list_all (names_there board) watches
 
 -- ---- why nothing is asked
 
+-- a text isn't facts: the one with this number, for which this word may be meant
+abbrev pub IsUnread : ℕ → List ℕ → NotAsked → Type 0
+IsUnread number text not_asked.Value = ⊥
+IsUnread number text (not_asked.Text n meant) = (n ≡ number) × (option_map (λ word. word.now) meant ≡ near_word text)
+IsUnread number text not_asked.Memory = Unit {0}
+
+-- one of these, which are numbered from 1
+abbrev pub IsUnreadOf : List (List ℕ) → NotAsked → Type 0
+IsUnreadOf texts not_asked.Value = ⊥
+IsUnreadOf texts (not_asked.Text n meant) = IsSomeAnd (slice_get texts (n - 1)) (λ text. option_map (λ word. word.now) meant ≡ near_word text)
+IsUnreadOf texts not_asked.Memory = Unit {0}
+
+-- which stand in quotes, with commas between them
+abbrev pub IsUnreadIn : List ℕ → NotAsked → Type 0
+IsUnreadIn text not_asked.Value = ⊥
+IsUnreadIn text (not_asked.Text n meant) = (texts : List (List ℕ)) × (joined_by (codes "\", \"") texts ≡ text) × IsUnreadOf texts (not_asked.Text n meant)
+IsUnreadIn text not_asked.Memory = Unit {0}
+
+-- in brackets
+abbrev pub IsUnlisted : List ℕ → NotAsked → Type 0
+IsUnlisted value not_asked.Value = Unit {0}
+IsUnlisted value (not_asked.Text n meant) = (text : List ℕ) × (value ≡ codes "[\"" ++ (text ++ codes "\"]")) × IsUnreadIn text (not_asked.Text n meant)
+IsUnlisted value not_asked.Memory = Unit {0}
+
+-- to which a line sets its key
+abbrev pub IsUnreadAt : List ℕ → NotAsked → Type 0
+IsUnreadAt line not_asked.Value = Unit {0}
+IsUnreadAt line (not_asked.Text n meant) = (value : List ℕ) × (value_set line ≡ Some value) × IsUnlisted value (not_asked.Text n meant)
+IsUnreadAt line not_asked.Memory = Unit {0}
+
+-- so the line with this number is at fault
+abbrev pub line_fault : When → ℕ → NotAsked → StepsFault
+line_fault when number not_asked.Value = Question number
+line_fault when number (not_asked.Text n meant) = Facts number (record { when = when; number = n; meant = meant })
+line_fault when number not_asked.Memory = Text Memory
+
 -- of a line: it sets such a key, and not to facts, or to facts of what the board lacks
 abbrev pub IsLineFault : Board → Option When → List ℕ → ℕ → StepsFault → Type 0
 IsLineFault board when line number (Text fault) = Unit {0}
 IsLineFault board when line number (Question n) = (n ≡ number) × (is_some when ≡ true)
+IsLineFault board when line number (Facts n unread) = (n ≡ number) × (when ≡ Some unread.when) × IsUnreadAt line (not_asked.Text unread.number unread.meant)
 IsLineFault board when line number (Lacking n) = (n ≡ number) × ((watches : List StepWatch) × LineAsks when line watches × (are_there board watches ≡ false))
 IsLineFault board when line number fault = ⊥
 
@@ -113,5 +154,6 @@ IsAt Is all number = IsSomeAnd (slice_get all (number - 1)) Is
 abbrev pub IsUnasked : Board → List (List ℕ) → StepsFault → Type 0
 IsUnasked board all (Text fault) = Unit {0}
 IsUnasked board all (Question n) = IsAt (λ line. is_some (when_set line) ≡ true) all n
+IsUnasked board all (Facts n unread) = IsAt (λ line. (when_set line ≡ Some unread.when) × IsUnreadAt line (not_asked.Text unread.number unread.meant)) all n
 IsUnasked board all (Lacking n) = IsAt (λ line. (watches : List StepWatch) × LineAsks (when_set line) line watches × (are_there board watches ≡ false)) all n
 IsUnasked board all fault = ⊥

@@ -1,11 +1,11 @@
 //! What calls on words can be answered, as it is told.
-ghost use Rattle.std.specs.Prelude.{◌≡◌, IfOk, map, not, option_map, string_bytes};
+ghost use Rattle.std.specs.Prelude.{◌≡◌, IfOk, is_some, map, not, option_map, string_bytes};
 ghost use Rattle.std.specs.List.{list_any};
 ghost use Rattle.std.specs.Str.{bytes_eq};
 ghost use Rattle.lab_scenario_orders.specs.Asks as asks;
 ghost use Rattle.lab_scenario_orders.specs.Asks.{caller_text, text_behind};
 ghost use Rattle.lab_step_texts.specs.Answers as answers;
-ghost use Rattle.lab_step_texts.specs.Answers.{can_be, can_have, first_impossible, is_impossible};
+ghost use Rattle.lab_step_texts.specs.Answers.{can_be, can_come, can_have, first_impossible, is_impossible};
 
 use lab_scenario_orders::{Ask, Never};
 use lab_step_orders::{Crew, CrewCaller, WordCall};
@@ -66,6 +66,16 @@ fn fronts_of(call: WordCall) -> &'static [&'static str]
     }
 }
 
+// What else where callers make a wrong step, so that a word names another owner than the kernel's record.
+fn wrong_answers(call: WordCall) -> &'static [&'static str]
+    ensures { map (λ word. word.now) result.now ≡ answers.wrong_answers call }
+{
+    match call {
+        WordCall::BeginLockMutex(_, _) => &["Invalid"],
+        _ => &[],
+    }
+}
+
 // What stands behind the first text in the second, if that begins with it.
 fn behind<'a>(front: &[u8], text: &'a [u8]) -> Option<&'a [u8]>
     ensures { option_map (λ rest. rest.now) result ≡ text_behind front.now text.now }
@@ -73,8 +83,8 @@ fn behind<'a>(front: &[u8], text: &'a [u8]) -> Option<&'a [u8]>
     text.strip_prefix(front)
 }
 
-// Whether the second text begins with the first.
-fn begins(front: &[u8], text: &[u8]) -> bool
+/// Whether the second text begins with the first.
+pub(crate) fn begins(front: &[u8], text: &[u8]) -> bool
     ensures { result ≡ asks.begins front.now text.now }
 {
     behind(front, text).is_some()
@@ -92,8 +102,8 @@ fn begins_with(fronts: &[&str], text: &str) -> bool
     false
 }
 
-// Whether a text is among these.
-fn is_among(words: &[&str], text: &str) -> bool
+/// Whether a text is among these.
+pub(crate) fn is_among(words: &[&str], text: &str) -> bool
     ensures { result ≡ list_any (bytes_eq text.now) (map (λ word. word.now) words.now) }
 {
     for word in words {
@@ -111,11 +121,18 @@ fn can_be(answer: &str, call: WordCall) -> bool
     is_among(answers_of(call), answer) || begins_with(fronts_of(call), answer)
 }
 
-// Whether one of these calls can.
-fn can_any(answer: &str, calls: &[WordCall]) -> bool
-    ensures { result ≡ list_any (can_be answer.now) calls.now }
+// The same where callers make a wrong step, or not.
+fn can_come(wrong: bool, answer: &str, call: WordCall) -> bool
+    ensures { result ≡ can_come wrong answer.now call }
 {
-    calls.iter().any(|call| can_be(answer, *call))
+    can_be(answer, call) || (wrong && is_among(wrong_answers(call), answer))
+}
+
+// Whether one of these calls can.
+fn can_any(wrong: bool, answer: &str, calls: &[WordCall]) -> bool
+    ensures { result ≡ list_any (can_come wrong answer.now) calls.now }
+{
+    calls.iter().any(|call| can_come(wrong, answer, *call))
 }
 
 // Whether a thread is told so.
@@ -129,14 +146,15 @@ fn is_named(alloc: Global, who: &str, number: usize) -> Result<bool, AllocError>
 // Whether one of these callers is told so, and a call of its can be answered so.
 fn can_have(
     alloc: Global,
+    wrong: bool,
     who: &str,
     answer: &str,
     callers: &[CrewCaller],
 ) -> Result<bool, AllocError>
-    ensures { IfOk result (λ can. can ≡ can_have who.now answer.now 0 callers.now) }
+    ensures { IfOk result (λ can. can ≡ can_have wrong who.now answer.now 0 callers.now) }
 {
     for (number, caller) in callers.iter().enumerate() {
-        if is_named(alloc, who, number)? && can_any(answer, caller.calls.as_slice()) {
+        if is_named(alloc, who, number)? && can_any(wrong, answer, caller.calls.as_slice()) {
             return Ok(true);
         }
     }
@@ -144,10 +162,21 @@ fn can_have(
 }
 
 // Whether no call of its caller can have an answer.
-fn is_impossible(alloc: Global, callers: &[CrewCaller], never: &Never) -> Result<bool, AllocError>
-    ensures { IfOk result (λ cannot. cannot ≡ is_impossible callers.now never.now) }
+fn is_impossible(
+    alloc: Global,
+    wrong: bool,
+    callers: &[CrewCaller],
+    never: &Never,
+) -> Result<bool, AllocError>
+    ensures { IfOk result (λ cannot. cannot ≡ is_impossible wrong callers.now never.now) }
 {
-    match can_have(alloc, never.who.as_str(), never.answer.as_str(), callers) {
+    match can_have(
+        alloc,
+        wrong,
+        never.who.as_str(),
+        never.answer.as_str(),
+        callers,
+    ) {
         Ok(can) => Ok(!can),
         Err(error) => Err(error),
     }
@@ -156,13 +185,14 @@ fn is_impossible(alloc: Global, callers: &[CrewCaller], never: &Never) -> Result
 // The first of these that none can have.
 fn impossible_among<'a>(
     alloc: Global,
+    wrong: bool,
     callers: &[CrewCaller],
     all: &'a [Never],
 ) -> Result<Option<&'a Never>, AllocError>
-    ensures { IfOk result (λ found. option_map (λ one. one.now) found ≡ first_impossible callers.now all.now) }
+    ensures { IfOk result (λ found. option_map (λ one. one.now) found ≡ first_impossible wrong callers.now all.now) }
 {
     for one in all {
-        if is_impossible(alloc, callers, one)? {
+        if is_impossible(alloc, wrong, callers, one)? {
             return Ok(Some(one));
         }
     }
@@ -175,7 +205,8 @@ pub fn first_impossible<'a>(
     crew: &Crew,
     ask: &'a Ask,
 ) -> Result<Option<&'a Never>, AllocError>
-    ensures { IfOk result (λ found. option_map (λ one. one.now) found ≡ first_impossible crew.now.callers.items ask.now.never.items) }
+    ensures { IfOk result (λ found. option_map (λ one. one.now) found ≡ first_impossible (is_some crew.now.what_if) crew.now.callers.items ask.now.never.items) }
 {
-    impossible_among(alloc, crew.callers.as_slice(), ask.never.as_slice())
+    let wrong = crew.what_if.is_some();
+    impossible_among(alloc, wrong, crew.callers.as_slice(), ask.never.as_slice())
 }

@@ -107,7 +107,8 @@ fn unlock_call(lock: Option<Lock>) -> Result<WordCall, StepFault>
     }
 }
 
-// Whether callers may make a call of the kernel: it moves no thread to another stage, is of no mutex, and answers no bytes.
+// Whether callers may make a call of the kernel: it changes no thread's stage or policy, is of no mutex, and answers no
+// bytes.
 fn is_plain_call(call: &Call) -> bool
     ensures { result ≡ texts.is_plain_call call.now }
 {

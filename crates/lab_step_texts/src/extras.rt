@@ -5,8 +5,9 @@ ghost use Rattle.std.specs.Str.Lines.{lines};
 ghost use Rattle.evl_scenario.specs.Lines.{line_feed};
 ghost use Rattle.lab_scenario_orders.specs.Splits as splits;
 ghost use Rattle.lab_scenario_orders.specs.Splits.{joined_lines};
-ghost use Rattle.lab_step_texts.specs.Extras.{are_strange, is_empty, is_strange, is_unclear, plain_line, plain_lines, plain_part, way_set, ways_from, ways_on, ways_part, wrong_from, wrong_on, wrong_part, wrong_set};
+ghost use Rattle.lab_step_texts.specs.Extras.{is_empty, is_open, is_strange, is_stray, plain_line, plain_lines, plain_part, strange_from, strange_line, stray_from, stray_line, way_set, ways_from, ways_on, ways_part, wrong_from, wrong_on, wrong_part, wrong_set};
 
+use crate::answers::begins;
 use lab_kinds::{bare, is_own, is_set_to, is_what_if, is_what_if_head};
 use lab_scenario_orders::past;
 use lab_step_orders::{CoreUse, WhatIf};
@@ -21,8 +22,10 @@ pub(crate) struct Extras {
     pub(crate) ways: Vec<CoreUse>,
     /// The wrong step that is asked for.
     pub(crate) what_if: Option<WhatIf>,
-    /// Whether a line of `[what_if]` asks for none.
-    pub(crate) is_unclear: bool,
+    /// The number of the first line of `[what_if]` that asks for none, or for a second one.
+    pub(crate) strange: Option<usize>,
+    /// The number of the first line that sets `lasts` outside a step, or once more in one.
+    pub(crate) stray: Option<usize>,
 }
 
 // Whether a text is the end of the head of a step.
@@ -142,25 +145,68 @@ fn is_empty(line: &str) -> bool
     bare(line) == ""
 }
 
-// Whether a line of such a table asks for no wrong step.
-fn is_strange(is_in: bool, line: &str) -> bool
-    ensures { result ≡ is_strange is_in line.now }
+// Whether a line of such a table asks for no wrong step, or for a second one.
+fn is_strange(what: Option<WhatIf>, is_in: bool, line: &str) -> bool
+    ensures { result ≡ is_strange what is_in line.now }
 {
-    is_in && !(is_what_if_head(line) || (is_empty(line) || wrong_set(line).is_some()))
+    is_in
+        && !(is_what_if_head(line)
+            || (is_empty(line) || (wrong_set(line).is_some() && what.is_none())))
 }
 
-// Whether some line does.
-fn are_strange(lines: &[&str]) -> bool
-    ensures { result ≡ are_strange false (map (λ line. line.now) lines.now) }
+// The number of the first line that does, from 1.
+fn strange_in(lines: &[&str]) -> Option<usize>
+    ensures { result ≡ strange_from 1 None false (map (λ line. line.now) lines.now) }
 {
+    let mut what = None;
     let mut was = false;
-    for line in lines {
+    for (i, line) in lines.iter().enumerate() {
         was = is_what_if(was, *line);
-        if is_strange(was, *line) {
-            return true;
+        if is_strange(what, was, *line) {
+            return Some(i + 1);
         }
+        what = wrong_on(what, was, *line);
     }
-    false
+    None
+}
+
+// Whether a table begins here.
+fn is_table(line: &str) -> bool
+    ensures { result ≡ splits.is_table line.now }
+{
+    begins(b"[", bare(line).as_bytes())
+}
+
+// Whether a step goes on behind a line that has no `lasts` so far.
+fn is_open(was: bool, line: &str) -> bool
+    ensures { result ≡ is_open was line.now }
+{
+    if is_table(line) {
+        is_step(line)
+    } else {
+        was && !way_set(line).is_some()
+    }
+}
+
+// Whether a line sets `lasts` elsewhere, or once more.
+fn is_stray(going: bool, line: &str) -> bool
+    ensures { result ≡ is_stray going line.now }
+{
+    way_set(line).is_some() && !going
+}
+
+// The number of the first line that does, from 1.
+fn stray_in(lines: &[&str]) -> Option<usize>
+    ensures { result ≡ stray_from 1 false (map (λ line. line.now) lines.now) }
+{
+    let mut going = false;
+    for (i, line) in lines.iter().enumerate() {
+        if is_stray(going, *line) {
+            return Some(i + 1);
+        }
+        going = is_open(going, *line);
+    }
+    None
 }
 
 // Puts a line to the text of callers, blank where that hasn't it.
@@ -198,7 +244,8 @@ pub(crate) fn extras_of(alloc: Global, text: &str) -> Result<Extras, AllocError>
     ensures plain { IfOk result (λ e. string_bytes e.plain ≡ plain_part text.now) }
     ensures ways { IfOk result (λ e. e.ways.items ≡ ways_part text.now) }
     ensures what_if { IfOk result (λ e. e.what_if ≡ wrong_part text.now) }
-    ensures unclear { IfOk result (λ e. e.is_unclear ≡ is_unclear text.now) }
+    ensures strange { IfOk result (λ e. e.strange ≡ strange_line text.now) }
+    ensures stray { IfOk result (λ e. e.stray ≡ stray_line text.now) }
 {
     let all = lines_of(alloc, text)?;
     let lines = all.as_slice();
@@ -208,6 +255,7 @@ pub(crate) fn extras_of(alloc: Global, text: &str) -> Result<Extras, AllocError>
         plain,
         ways,
         what_if: wrong_in(lines),
-        is_unclear: are_strange(lines),
+        strange: strange_in(lines),
+        stray: stray_in(lines),
     })
 }

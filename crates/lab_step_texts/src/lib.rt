@@ -8,11 +8,12 @@ mod crews;
 mod extras;
 mod fact_texts;
 mod faults;
+mod near;
 mod questions;
 mod reading;
 
 pub use answers::first_impossible;
 pub use asks::read_step_ask;
 pub use calls::CallerCall;
-pub use faults::{StepFault, StepsFault};
+pub use faults::{StepFault, StepsFault, Unread};
 pub use reading::{asks_steps, read_steps};

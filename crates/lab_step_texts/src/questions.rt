@@ -5,16 +5,28 @@ ghost use Rattle.lab_scenario_orders.specs.KeyLines as keys;
 ghost use Rattle.lab_scenario_orders.specs.Splits.{joined_lines};
 ghost use Rattle.lab_step_orders.specs.declared.watches.StepWatch.{StepWatch};
 ghost use Rattle.lab_step_texts.specs.FactTexts.{claim_in};
-ghost use Rattle.lab_step_texts.specs.Questions.{AreAsked, AreOn, Claims, IsLineFault, IsOne, IsUnasked, LineAsks, are_there, is_there, joined_by, names_there, unasked_line, unasked_lines, value_set, when_asked, when_named, when_set};
+ghost use Rattle.lab_step_texts.specs.Questions.{AreAsked, AreOn, Claims, IsLineFault, IsOne, IsUnasked, IsUnlisted, IsUnread, IsUnreadAt, IsUnreadIn, IsUnreadOf, LineAsks, are_there, is_there, joined_by, line_fault, names_there, unasked_line, unasked_lines, value_set, when_asked, when_named, when_set};
 
 use crate::fact_texts::claim_in;
-use crate::faults::StepsFault;
+use crate::faults::{StepsFault, Unread};
+use crate::near::near_word;
 use evl_base::Board;
 use evl_scenario::Fault;
 use lab_kinds::bare;
 use lab_scenario_orders::{When, is_asked};
 use lab_step_orders::{StepClaim, StepFact, StepWatch};
 use std::alloc::{AllocError, Global};
+
+/// Why a line asks nothing.
+#[derive(Clone, Copy, PartialEq, Eq, Debug)]
+pub(crate) enum NotAsked {
+    /// It isn't set to texts in brackets.
+    Value,
+    /// The text with this number, from 1, isn't facts; this word of facts may be meant.
+    Text(usize, Option<&'static str>),
+    /// Memory couldn't grow.
+    Memory,
+}
 
 // What stands before the first `=`, and what behind it.
 fn around_equals(text: &str) -> Option<(&str, &str)>
@@ -140,60 +152,117 @@ fn claimed(
     Ok(StepWatch { when, text, claims })
 }
 
-// The question that a text asks; none where it isn't facts.
-fn question(alloc: Global, when: When, text: &str) -> Result<Option<StepWatch>, AllocError>
-    ensures text { IfOk result (λ all. IfSome all (λ watch. string_bytes watch.text ≡ text.now)) }
-    ensures is { IfOk result (λ all. IfSome all (IsOne when)) }
+// The text with this number isn't facts.
+fn unread(alloc: Global, number: usize, text: &str) -> NotAsked
+    ensures { IsUnread number text.now result }
 {
-    match claims_in(alloc, text)? {
-        Some(claims) => Ok(Some(claimed(alloc, when, text, claims)?)),
-        None => Ok(None),
+    match near_word(alloc, text) {
+        Ok(meant) => NotAsked::Text(number, meant),
+        Err(_) => NotAsked::Memory,
     }
 }
 
-// The questions that these texts ask; none where one isn't facts.
-fn questions(
+// The question that a text asks which claims this.
+fn asked(
     alloc: Global,
     when: When,
-    texts: &[&str],
-) -> Result<Option<Vec<StepWatch>>, AllocError>
-    ensures texts { IfOk result (λ all. IfSome all (λ watches. map (λ watch. string_bytes watch.text) watches.items ≡ map (λ one. one.now) texts.now)) }
-    ensures are { IfOk result (λ all. IfSome all (λ watches. All (IsOne when) watches.items)) }
+    text: &str,
+    claims: Vec<StepClaim>,
+) -> Result<StepWatch, NotAsked>
+    requires { Claims text.now claims.items }
+    ensures text { IfOk result (λ watch. string_bytes watch.text ≡ text.now) }
+    ensures is { IfOk result (IsOne when) }
+    ensures unread { IfErr result (λ why. why ≡ NotAsked.Memory) }
+{
+    match claimed(alloc, when, text, claims) {
+        Ok(watch) => Ok(watch),
+        Err(_) => Err(NotAsked::Memory),
+    }
+}
+
+// The question that the text with this number asks.
+fn question(alloc: Global, when: When, number: usize, text: &str) -> Result<StepWatch, NotAsked>
+    ensures text { IfOk result (λ watch. string_bytes watch.text ≡ text.now) }
+    ensures is { IfOk result (IsOne when) }
+    ensures unread { IfErr result (IsUnread number text.now) }
+{
+    let Ok(claims) = claims_in(alloc, text) else {
+        return Err(NotAsked::Memory);
+    };
+    match claims {
+        Some(claims) => asked(alloc, when, text, claims),
+        None => Err(unread(alloc, number, text)),
+    }
+}
+
+// The questions that these texts ask.
+fn questions(alloc: Global, when: When, texts: &[&str]) -> Result<Vec<StepWatch>, NotAsked>
+    ensures texts { IfOk result (λ watches. map (λ watch. string_bytes watch.text) watches.items ≡ map (λ one. one.now) texts.now) }
+    ensures are { IfOk result (λ watches. All (IsOne when) watches.items) }
+    ensures unread { IfErr result (IsUnreadOf (map (λ one. one.now) texts.now)) }
 {
     let mut watches = Vec::new(alloc);
-    for text in texts {
-        match question(alloc, when, *text)? {
-            Some(watch) => watches.push(watch)?,
-            None => return Ok(None),
+    for (i, text) in texts.iter().enumerate() {
+        let watch = match question(alloc, when, i + 1, *text) {
+            Ok(watch) => watch,
+            Err(why) => return Err(why),
+        };
+        match watches.push(watch) {
+            Ok(()) => {}
+            Err(_) => return Err(NotAsked::Memory),
         }
     }
-    Ok(Some(watches))
+    Ok(watches)
+}
+
+// The questions of texts in quotes, with commas between them.
+fn questions_in_list(alloc: Global, when: When, text: &str) -> Result<Vec<StepWatch>, NotAsked>
+    ensures asked { IfOk result (λ watches. (joined_by (codes "\", \"") (map (λ watch. string_bytes watch.text) watches.items) ≡ text.now) × All (IsOne when) watches.items) }
+    ensures unread { IfErr result (IsUnreadIn text.now) }
+{
+    let Ok(texts) = pieces(alloc, text, "\", \"") else {
+        return Err(NotAsked::Memory);
+    };
+    questions(alloc, when, texts.as_slice())
 }
 
 // The questions of a key that is set to this.
-fn questions_on(
-    alloc: Global,
-    when: When,
-    value: &str,
-) -> Result<Option<Vec<StepWatch>>, AllocError>
-    ensures { IfOk result (λ all. IfSome all (λ watches. AreOn when value.now watches.items)) }
+fn questions_on(alloc: Global, when: When, value: &str) -> Result<Vec<StepWatch>, NotAsked>
+    ensures asked { IfOk result (λ watches. AreOn when value.now watches.items) }
+    ensures unread { IfErr result (IsUnlisted value.now) }
 {
     match listed(value) {
-        Some(text) => {
-            let texts = pieces(alloc, text, "\", \"")?;
-            questions(alloc, when, texts.as_slice())
-        }
-        None => Ok(None),
+        Some(text) => questions_in_list(alloc, when, text),
+        None => Err(NotAsked::Value),
     }
 }
 
-// The questions of a line that sets a key for this; none where it isn't set to facts.
-fn questions_at(alloc: Global, when: When, line: &str) -> Result<Option<Vec<StepWatch>>, AllocError>
-    ensures { IfOk result (λ all. IfSome all (λ watches. LineAsks (Some when) line.now watches.items)) }
+// The questions of a line that sets a key for this.
+fn questions_at(alloc: Global, when: When, line: &str) -> Result<Vec<StepWatch>, NotAsked>
+    ensures asked { IfOk result (λ watches. LineAsks (Some when) line.now watches.items) }
+    ensures unread { IfErr result (IsUnreadAt line.now) }
 {
     match value_set(line) {
         Some(value) => questions_on(alloc, when, value),
-        None => Ok(None),
+        None => Err(NotAsked::Value),
+    }
+}
+
+// Why the line with this number asks nothing, which sets a key for this.
+fn line_fault(when: When, number: usize, why: NotAsked) -> StepsFault
+    ensures { result ≡ line_fault when number why }
+{
+    match why {
+        NotAsked::Value => StepsFault::Question(number),
+        NotAsked::Text(text, meant) => StepsFault::Facts(
+            number,
+            Unread {
+                when,
+                number: text,
+                meant,
+            },
+        ),
+        NotAsked::Memory => StepsFault::Text(Fault::Memory),
     }
 }
 
@@ -220,11 +289,9 @@ fn with_questions(
     ensures asked { IfOk result (λ next. (now : List StepWatch) × (next.items ≡ all.items ++ now) × LineAsks (Some when) line.now now × (are_there board.now now ≡ true)) }
     ensures refused { IfErr result (IsLineFault board.now (Some when) line.now number) }
 {
-    let Ok(asked) = questions_at(alloc, when, line) else {
-        return Err(StepsFault::Text(Fault::Memory));
-    };
-    let Some(now) = asked else {
-        return Err(StepsFault::Question(number));
+    let now = match questions_at(alloc, when, line) {
+        Ok(now) => now,
+        Err(why) => return Err(line_fault(when, number, why)),
     };
     if !are_there(board, now.as_slice()) {
         return Err(StepsFault::Lacking(number));

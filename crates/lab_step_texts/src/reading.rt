@@ -1,8 +1,8 @@
 //! Texts of callers whose orders of steps are asked for, read.
-ghost use Rattle.std.specs.Prelude.{◌≡◌, IfErr, IfOk, false, string_bytes, true};
+ghost use Rattle.std.specs.Prelude.{◌≡◌, IfErr, IfOk, None, false, string_bytes, true};
 ghost use Rattle.std.specs.Str.Lines.{lines};
 ghost use Rattle.lab_kinds.specs.Kinds.{kind_of};
-ghost use Rattle.lab_step_texts.specs.Crews.{IsReadAs, IsReadOf, IsRefused, IsStopped};
+ghost use Rattle.lab_step_texts.specs.Crews.{IsReadAs, IsReadOf, IsRefused, IsStopped, IsUnplain};
 ghost use Rattle.lab_step_texts.specs.Kinds.{asks_steps, is_of_callers};
 ghost use Rattle.lab_step_texts.specs.Questions.{AreAsked, IsUnasked, are_there};
 
@@ -73,6 +73,22 @@ fn read_split(alloc: Global, extras: &Extras, split: &Split, text: &str) -> Resu
     crew_of(alloc, read, count, extras, watches)
 }
 
+// Whether the lines of a text of steps alone ask for what there is.
+fn check_extras(extras: &Extras) -> Result<(), StepsFault>
+    ensures strange { IfOk result (λ checked. extras.now.strange ≡ None) }
+    ensures stray { IfOk result (λ checked. extras.now.stray ≡ None) }
+    ensures refused { IfErr result (IsUnplain extras.now) }
+{
+    match extras.strange {
+        Some(line) => return Err(StepsFault::WhatIf(line)),
+        None => {}
+    }
+    match extras.stray {
+        Some(line) => Err(StepsFault::Lasts(line)),
+        None => Ok(()),
+    }
+}
+
 /// The callers of a text, with their calls on words: a text of callers, in which `[[setup]]` stands for a step that comes
 /// first, `lasts` in a step says how it comes by the core, and a table `[what_if]` names a wrong step.
 pub fn read_steps(alloc: Global, bytes: &[u8]) -> Result<Crew, StepsFault>
@@ -85,8 +101,9 @@ pub fn read_steps(alloc: Global, bytes: &[u8]) -> Result<Crew, StepsFault>
     let Ok(extras) = extras_of(alloc, text) else {
         return Err(StepsFault::Text(Fault::Memory));
     };
-    if extras.is_unclear {
-        return Err(StepsFault::WhatIf);
+    match check_extras(&extras) {
+        Ok(()) => {}
+        Err(fault) => return Err(fault),
     }
     let Ok(split) = split_text(alloc, extras.plain.as_str()) else {
         return Err(StepsFault::Text(Fault::Memory));
