@@ -11,9 +11,10 @@ use Rattle.lab_scenario_orders.specs.declared.asks.Ask.{Ask}
 use Rattle.lab_scenario_orders.specs.declared.asks.AskFault.{AskFault}
 use Rattle.lab_scenario_orders.specs.declared.asks.Never.{Never}
 use Rattle.lab_step_orders.specs.Outcomes.{AreOutcomes, CanNotTell}
-use Rattle.lab_step_orders.specs.Reports.{outcome_text, report_text}
+use Rattle.lab_step_orders.specs.Reports.{report_text}
 use Rattle.lab_step_orders.specs.declared.crews.Crew.{Crew}
 use Rattle.lab_step_orders.specs.declared.outcomes.StepOutcomes.{StepOutcomes}
+use Rattle.lab_step_pictures.specs.Lines.{order_lines}
 use Rattle.lab_step_texts.specs.Answers.{first_impossible}
 use Rattle.lab_step_texts.specs.Asks.{IsAskOf}
 use Rattle.lab_step_texts.specs.Crews.{IsReadAs, IsRefused}
@@ -23,8 +24,11 @@ use Rattle.lab_step_texts.specs.declared.faults.StepsFault.{StepsFault}
 use Rattle.lab_step_texts.specs.declared.faults.StepsFault.TheVariants.{Text, Mixed, Mutex, Limit, Step, WhatIf, Lasts, Question, Facts, Lacking}
 use Rattle.lab_streams.specs.Endings.{fault_words, line_about}
 use Rattle.lab_asks.specs.Asks.{ask_fault_line, impossible_text}
+use Rattle.lab_asks.specs.Outcomes.{order_at}
 use Rattle.lab_streams.specs.Outputs.{Output, refuses}
 use Rattle.lab_asks.specs.Verdicts.{holds_text, unanswered_text}
+use Rattle.lab_asks.specs.declared.step_found.StepView.{StepView}
+use Rattle.lab_asks.specs.declared.step_found.StepView.TheVariants as view
 use Rattle.lab_streams.specs.declared.words.Shown.{Shown}
 use Rattle.lab_streams.specs.declared.words.Shown.TheVariants.{Report, Json, Outcome, State, Alone, First, Order}
 
@@ -37,8 +41,8 @@ first_against asks outcomes = position (λ outcome. is_against asks (string_byte
 unfoldable pub report_of : Crew → StepOutcomes → List ℕ
 report_of crew found = report_text crew found
 
-unfoldable pub outcome_of : Crew → ℕ → Tally → List ℕ
-outcome_of crew number outcome = outcome_text crew number outcome
+unfoldable pub lines_of : Crew → List ℕ → List ℕ
+lines_of crew order = order_lines crew order
 
 -- ---- what came of what is asked
 
@@ -94,33 +98,39 @@ verdict printed name asks found =
     let place = first_against asks found.all.items in
     record { printed = printed; said = asked_text name asks found place; status = asked_status asks found place }
 
--- the outcome with this number alone, if there is one
+-- the lines alone of the first order of the outcome with this number, if there is one
 abbrev pub one_told : List ℕ → ℕ → Crew → Ask → StepOutcomes → Option Tally → Output
 one_told name number crew asks found None = refuses 2 (line_about name (codes "there is no outcome " ++ decimal number))
-one_told name number crew asks found (Some outcome) = verdict (outcome_of crew number outcome) name asks found
+one_told name number crew asks found (Some outcome) = verdict (lines_of crew outcome.order.items) name asks found
 
--- the report, or one outcome alone
-abbrev pub outcomes_told : Option ℕ → List ℕ → Crew → Ask → StepOutcomes → Output
-outcomes_told None name crew asks found = verdict (report_of crew found) name asks found
-outcomes_told (Some number) name crew asks found = one_told name number crew asks found (slice_get found.all.items (number - 1))
+-- of the first order to a moment as the question with this number looks for, if one leads there
+abbrev pub state_told : List ℕ → ℕ → Crew → Ask → StepOutcomes → Option (List ℕ) → Output
+state_told name number crew asks found None = refuses 2 (line_about name (codes "no order leads to state " ++ decimal number))
+state_told name number crew asks found (Some order) = verdict (lines_of crew order) name asks found
+
+-- the report, or one order alone
+abbrev pub outcomes_told : StepView → List ℕ → Crew → Ask → StepOutcomes → Output
+outcomes_told view.Report name crew asks found = verdict (report_of crew found) name asks found
+outcomes_told (view.Outcome number) name crew asks found = one_told name number crew asks found (slice_get found.all.items (number - 1))
+outcomes_told (view.State number) name crew asks found = state_told name number crew asks found (order_at found.firsts.items number)
 
 -- the outcomes of all orders, or that there are more of these, or of runs of one length, than a count can tell
-abbrev pub TellsFound : ℕ → Option ℕ → List ℕ → Crew → Ask → Output → Type 0
+abbrev pub TellsFound : ℕ → StepView → List ℕ → Crew → Ask → Output → Type 0
 TellsFound most one name crew asks output =
     ((found : StepOutcomes) × AreOutcomes crew most found × (output ≡ outcomes_told one name crew asks found))
     ⊎ (CanNotTell crew Count × (output ≡ refuses 2 (line_about name (codes "more orders than can be counted"))))
 
--- the number of the outcome that is asked for alone, if one is; or why orders of steps can't be told so
-abbrev pub told_for : Shown → Result (Option ℕ) (List ℕ)
-told_for Report = Ok None
-told_for (Outcome number) = Ok (Some number)
+-- what is printed of orders of steps, or why they can't be told so
+abbrev pub told_for : Shown → Result StepView (List ℕ)
+told_for Report = Ok view.Report
+told_for (Outcome number) = Ok (view.Outcome number)
+told_for (State number) = Ok (view.State number)
 told_for Json = Err (codes "--json is for orders of whole calls")
-told_for (State number) = Err (codes "--state is for orders of whole calls")
 told_for Alone = Err (codes "--ask is for orders of whole calls")
 told_for First = Err (codes "--first is for orders of whole calls")
 told_for (Order text) = Err (codes "--order is for orders of whole calls")
 
-abbrev pub TellsGone : ℕ → List ℕ → Crew → Ask → Result (Option ℕ) (List ℕ) → Output → Type 0
+abbrev pub TellsGone : ℕ → List ℕ → Crew → Ask → Result StepView (List ℕ) → Output → Type 0
 TellsGone most name crew asks (Ok one) output = TellsFound most one name crew asks output
 TellsGone most name crew asks (Err words) output = output ≡ refuses 2 (line_about name words)
 

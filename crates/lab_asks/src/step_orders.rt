@@ -4,19 +4,17 @@ ghost use Rattle.std.specs.Io.KnownBytes.{Appends};
 ghost use Rattle.lab_streams.specs.Endings.{line_about};
 ghost use Rattle.lab_asks.specs.Orders.{impossible_text, text_name};
 ghost use Rattle.lab_streams.specs.Outputs.{Writes};
-ghost use Rattle.lab_asks.specs.StepOrders.{TellsAsked, TellsFound, TellsGone, TellsPossible, TellsSteps, TellsUnpicked, asked_status, asked_text, asks_whole, first_against, impossible_in, line_words, none_status, none_text, one_told, outcome_of, outcomes_told, report_of, states_status, states_text, steps_fault_words, told_for, verdict, wanted_status, wanted_text};
+ghost use Rattle.lab_asks.specs.StepOrders.{TellsAsked, TellsFound, TellsGone, TellsPossible, TellsSteps, TellsUnpicked, asked_status, asked_text, asks_whole, first_against, impossible_in, line_words, none_status, none_text, states_status, states_text, steps_fault_words, told_for, verdict, wanted_status, wanted_text};
 ghost use Rattle.lab_streams.specs.Streams.{EndsEarly};
 
-use crate::numbered::{outcome_at, tell_no_outcome};
 use crate::order_faults::{tell_ask_fault, tell_meant};
+use crate::step_found::{StepView, tell_found};
 use crate::verdicts::{tell_holds, tell_unanswered};
-use lab_orders::{OrdersError, Tally};
+use lab_orders::OrdersError;
 use lab_scenario_orders::{
     Ask, Never, asks_anything, first_against, is_count_against, state_against,
 };
-use lab_step_orders::{
-    Crew, StepOutcomes, step_outcomes_of, write_step_outcome, write_step_report,
-};
+use lab_step_orders::{Crew, StepOutcomes, step_outcomes_of};
 use lab_step_texts::{StepFault, StepsFault, Unread, first_impossible, read_step_ask, read_steps};
 use lab_streams::{AGAINST, AT_FAULT, Asked, Shown, Stream, refused, tell_fault, tell_refused};
 use std::alloc::{AllocError, Global};
@@ -113,8 +111,8 @@ fn against_in(ask: &Ask, found: &StepOutcomes) -> Option<usize>
     first_against(ask, found.all.as_slice())
 }
 
-// Prints this, and tells what came of what is asked; answers the status.
-fn tell_printed<O: Stream, E: Stream>(
+/// Prints this, and tells what came of what is asked; answers the status.
+pub(crate) fn tell_printed<O: Stream, E: Stream>(
     printed: &str,
     name: &str,
     ask: &Ask,
@@ -129,126 +127,21 @@ fn tell_printed<O: Stream, E: Stream>(
     tell_against(err, name, ask, found, against_in(ask, found))
 }
 
-// The report.
-#[tactic(auto, unfolding(crate::specs::StepOrders::report_of))]
-fn report_of(alloc: Global, crew: &Crew, found: &StepOutcomes) -> Result<String, AllocError>
-    ensures { IfOk result (λ text. string_bytes text ≡ report_of crew.now found.now) }
-{
-    write_step_report(alloc, crew, found)
-}
-
-// One outcome, told as this number.
-#[tactic(auto, unfolding(crate::specs::StepOrders::outcome_of))]
-fn outcome_of(
-    alloc: Global,
-    crew: &Crew,
-    number: u32,
-    outcome: &Tally,
-) -> Result<String, AllocError>
-    ensures { IfOk result (λ text. string_bytes text ≡ outcome_of crew.now number outcome.now) }
-{
-    write_step_outcome(alloc, crew, number as usize, outcome)
-}
-
-// Prints the report, and answers the status.
-fn tell_report<O: Stream, E: Stream>(
-    alloc: Global,
-    name: &str,
-    crew: &Crew,
-    ask: &Ask,
-    found: &StepOutcomes,
-    out: &mut O,
-    err: &mut E,
-) -> io::Result<u8>
-    ensures writes { IfOk result (Writes (λ output. output ≡ outcomes_told None name.now crew.now ask.now found.now) (O.contents out.old) (O.contents out.new) (E.contents err.old) (E.contents err.new)) }
-    ensures early { IfErr result (EndsEarly false (O.has_failed out.new) (E.has_failed err.new)) }
-{
-    match report_of(alloc, crew, found) {
-        Ok(report) => tell_printed(report.as_str(), name, ask, found, out, err),
-        Err(error) => Err(error.into()),
-    }
-}
-
-// Prints this outcome alone, and answers the status.
-fn tell_shown<O: Stream, E: Stream>(
-    alloc: Global,
-    name: &str,
-    number: u32,
-    crew: &Crew,
-    ask: &Ask,
-    found: &StepOutcomes,
-    outcome: &Tally,
-    out: &mut O,
-    err: &mut E,
-) -> io::Result<u8>
-    ensures writes { IfOk result (Writes (λ output. output ≡ verdict (outcome_of crew.now number outcome.now) name.now ask.now found.now) (O.contents out.old) (O.contents out.new) (E.contents err.old) (E.contents err.new)) }
-    ensures early { IfErr result (EndsEarly false (O.has_failed out.new) (E.has_failed err.new)) }
-{
-    match outcome_of(alloc, crew, number, outcome) {
-        Ok(text) => tell_printed(text.as_str(), name, ask, found, out, err),
-        Err(error) => Err(error.into()),
-    }
-}
-
-// Prints the outcome with this number alone, if there is one, and answers the status.
-fn tell_one<O: Stream, E: Stream>(
-    alloc: Global,
-    name: &str,
-    number: u32,
-    crew: &Crew,
-    ask: &Ask,
-    found: &StepOutcomes,
-    outcome: Option<&Tally>,
-    out: &mut O,
-    err: &mut E,
-) -> io::Result<u8>
-    ensures writes { IfOk result (Writes (λ output. output ≡ one_told name.now number crew.now ask.now found.now (option_map (λ outcome. outcome.now) outcome.entry)) (O.contents out.old) (O.contents out.new) (E.contents err.old) (E.contents err.new)) }
-    ensures early { IfErr result (EndsEarly false (O.has_failed out.new) (E.has_failed err.new)) }
-{
-    match outcome {
-        Some(one) => tell_shown(alloc, name, number, crew, ask, found, one, out, err),
-        None => tell_no_outcome(err, name, number),
-    }
-}
-
-// Prints the report, or the outcome with this number alone, and answers the status.
-fn tell_found<O: Stream, E: Stream>(
-    alloc: Global,
-    name: &str,
-    number: Option<u32>,
-    crew: &Crew,
-    ask: &Ask,
-    found: &StepOutcomes,
-    out: &mut O,
-    err: &mut E,
-) -> io::Result<u8>
-    ensures writes { IfOk result (Writes (λ output. output ≡ outcomes_told number name.now crew.now ask.now found.now) (O.contents out.old) (O.contents out.new) (E.contents err.old) (E.contents err.new)) }
-    ensures early { IfErr result (EndsEarly false (O.has_failed out.new) (E.has_failed err.new)) }
-{
-    match number {
-        None => tell_report(alloc, name, crew, ask, found, out, err),
-        Some(number) => {
-            let outcome = outcome_at(found.all.as_slice(), number);
-            tell_one(alloc, name, number, crew, ask, found, outcome, out, err)
-        }
-    }
-}
-
 // Goes through all orders, and answers the status.
 fn go_through<O: Stream, E: Stream>(
     alloc: Global,
     asked: &Asked<'_>,
-    number: Option<u32>,
+    view: StepView,
     crew: &Crew,
     ask: &Ask,
     out: &mut O,
     err: &mut E,
 ) -> io::Result<u8>
-    ensures writes { IfOk result (Writes (TellsFound asked.now.most number (text_name asked.now) crew.now ask.now) (O.contents out.old) (O.contents out.new) (E.contents err.old) (E.contents err.new)) }
+    ensures writes { IfOk result (Writes (TellsFound asked.now.most view (text_name asked.now) crew.now ask.now) (O.contents out.old) (O.contents out.new) (E.contents err.old) (E.contents err.new)) }
     ensures early { IfErr result (EndsEarly false (O.has_failed out.new) (E.has_failed err.new)) }
 {
     match step_outcomes_of(alloc, crew, asked.most) {
-        Ok(found) => tell_found(alloc, asked.name(), number, crew, ask, &found, out, err),
+        Ok(found) => tell_found(alloc, asked.name(), view, crew, ask, &found, out, err),
         Err(OrdersError::Count) => {
             let told = tell_refused(err, asked.name(), "more orders than can be counted");
             refused(told)
@@ -257,16 +150,16 @@ fn go_through<O: Stream, E: Stream>(
     }
 }
 
-// The number of the outcome that is asked for alone, if one is; or why orders of steps can't be told so.
-fn told_for(shown: Shown<'_>) -> Result<Option<u32>, &'static str>
-    ensures number { IfOk result (λ number. told_for shown.entry ≡ Ok number) }
+// What is printed of the orders of steps, or why they can't be told so.
+fn told_for(shown: Shown<'_>) -> Result<StepView, &'static str>
+    ensures view { IfOk result (λ view. told_for shown.entry ≡ Ok view) }
     ensures words { IfErr result (λ words. told_for shown.entry ≡ Err words.now) }
 {
     match shown {
-        Shown::Report => Ok(None),
-        Shown::Outcome(number) => Ok(Some(number)),
+        Shown::Report => Ok(StepView::Report),
+        Shown::Outcome(number) => Ok(StepView::Outcome(number)),
+        Shown::State(number) => Ok(StepView::State(number)),
         Shown::Json => Err("--json is for orders of whole calls"),
-        Shown::State(_) => Err("--state is for orders of whole calls"),
         Shown::Alone => Err("--ask is for orders of whole calls"),
         Shown::First => Err("--first is for orders of whole calls"),
         Shown::Order(_) => Err("--order is for orders of whole calls"),
@@ -286,7 +179,7 @@ fn tell_gone<O: Stream, E: Stream>(
     ensures early { IfErr result (EndsEarly false (O.has_failed out.new) (E.has_failed err.new)) }
 {
     match told_for(asked.shown) {
-        Ok(number) => go_through(alloc, asked, number, crew, ask, out, err),
+        Ok(view) => go_through(alloc, asked, view, crew, ask, out, err),
         Err(words) => refused(tell_refused(err, asked.name(), words)),
     }
 }

@@ -32,6 +32,7 @@ use Rattle.lab_drawing.specs.Pictures.{going_text, shown_with}
 use Rattle.lab_drawing.specs.Rows.{rows_text}
 use Rattle.lab_drawing.specs.Standings.{all_told, told_at}
 use Rattle.lab_drawing.specs.Tables.{table_text}
+use Rattle.lab_drawing.specs.Words.{bar}
 use Rattle.lab_drawing.specs.declared.frames.Goes.{Goes}
 use Rattle.lab_drawing.specs.declared.frames.Goes.TheVariants as goes
 use Rattle.lab_drawing.specs.declared.frames.Shows.TheVariants as shows
@@ -289,11 +290,17 @@ DrawsWhole bank drawing origin read text output =
 abbrev pub closing : List ℕ
 closing = codes "\nclose -> "
 
--- the lines of callers up to there, or else the whole text as a trace
+-- the whole text: lines of callers where one shows a word, or else a trace
+abbrev pub DrawsUnclosed : List Handler → Drawing → List ℕ → Output → Type 0
+DrawsUnclosed bank drawing text output =
+    ((front : List ℕ) × (back : List ℕ) × SplitsAroundMatch (FindsText bar) text front back × DrawsWhole bank drawing callers text text output)
+    ⊎ (FindsText bar text None × DrawsWhole bank drawing trace text text output)
+
+-- the lines of callers up to there, or else all of it
 abbrev pub DrawsText : List Handler → Drawing → List ℕ → Output → Type 0
 DrawsText bank drawing text output =
     ((front : List ℕ) × (back : List ℕ) × SplitsAroundMatch (FindsText closing) text front back × DrawsWhole bank drawing callers (front ++ line_feed) text output)
-    ⊎ (FindsText closing text None × DrawsWhole bank drawing trace text text output)
+    ⊎ (FindsText closing text None × DrawsUnclosed bank drawing text output)
 
 abbrev pub DrawsIf : List Handler → Bool → Drawing → List ℕ → Output → Type 0
 DrawsIf bank true drawing text output = DrawsText bank drawing text output

@@ -6,7 +6,7 @@ ghost use Rattle.evl_plans.specs.Told.{handler_of};
 ghost use Rattle.evl_scenario.specs.Lines.{line_feed};
 ghost use Rattle.evl_shell.specs.Runs as runs;
 ghost use Rattle.lab_draws.specs.Draws as draws;
-ghost use Rattle.lab_draws.specs.Draws.{AreMomentsOf, Draws, DrawsGiven, DrawsIf, DrawsLines, DrawsMade, DrawsMarks, DrawsOver, DrawsPage, DrawsPlayed, DrawsRead, DrawsSvg, DrawsText, DrawsWhole, IsPicture, first_of, goes_for, origin_of};
+ghost use Rattle.lab_draws.specs.Draws.{AreMomentsOf, Draws, DrawsGiven, DrawsIf, DrawsLines, DrawsMade, DrawsMarks, DrawsOver, DrawsPage, DrawsPlayed, DrawsRead, DrawsSvg, DrawsText, DrawsUnclosed, DrawsWhole, IsPicture, goes_for, origin_of};
 ghost use Rattle.lab_drawing.specs.Pictures.{going_text, shown_with};
 ghost use Rattle.lab_drawing.specs.declared.frames.Shows.TheVariants.{Words};
 ghost use Rattle.lab_streams.specs.Outputs.{Writes, WritesOfText};
@@ -15,6 +15,7 @@ ghost use Rattle.lab_streams.specs.Streams.{EndsEarly};
 use crate::callers_texts::{draw_unplayed, threads_moments};
 use crate::draw_faults::{tell_missing, tell_no_page, tell_page, tell_undrawn};
 use crate::draw_html::drawn_of;
+use crate::firsts::first_of;
 use evl_plans::{Planned, trace_plans};
 use lab_caller_pictures::Entered;
 use lab_drawing::{
@@ -36,6 +37,9 @@ use std::rt::Files;
 
 // What stands between the lines of callers and what is told of their machine's end.
 const CLOSING: &str = "\nclose -> ";
+
+// What stands before the word that a line of callers shows.
+const BAR: &str = " | ";
 
 /// What marks come from: a trace alone, a scenario that was played over these callbacks, or the lines of callers, alone
 /// or with the calls that were entered then.
@@ -248,27 +252,6 @@ fn draw_marks<O: Stream, E: Stream>(
     }
 }
 
-// The first marks, so many at most.
-fn first_count<'a, 'b>(marks: &'b [Mark<'a>], count: usize) -> &'b [Mark<'a>]
-    ensures { result.now ≡ take count marks.now }
-{
-    if marks.len() <= count {
-        marks
-    } else {
-        &marks[..count]
-    }
-}
-
-// The first marks, so many where a number is asked for.
-fn first_of<'a, 'b>(marks: &'b [Mark<'a>], upto: Option<u32>) -> &'b [Mark<'a>]
-    ensures { result.now ≡ first_of upto marks.now }
-{
-    match upto {
-        None => marks,
-        Some(count) => first_count(marks, count as usize),
-    }
-}
-
 // Writes the picture of the lines of a trace, with how the lanes stand as far as their source tells it.
 fn draw_lines<O: Stream, E: Stream>(
     alloc: Global,
@@ -408,6 +391,24 @@ fn draw_callers<O: Stream, E: Stream>(
     }
 }
 
+// Writes the picture of callers' lines, where one shows a word, of a trace, or of a scenario.
+fn draw_unclosed<O: Stream, E: Stream>(
+    alloc: Global,
+    text: &str,
+    view: &View<'_>,
+    out: &mut O,
+    err: &mut E,
+) -> io::Result<u8>
+    requires few { length view.now.bank.now ≤ 64 }
+    ensures writes { IfOk result (Writes (DrawsUnclosed (map handler_of view.now.bank.now) view.now.drawing text.now) (O.contents out.old) (O.contents out.new) (E.contents err.old) (E.contents err.new)) }
+    ensures early { IfErr result (EndsEarly false (O.has_failed out.new) (E.has_failed err.new)) }
+{
+    match text.split_once(BAR) {
+        Some(_) => draw_whole(alloc, text, Source::Callers, text, view, out, err),
+        None => draw_whole(alloc, text, Source::Trace, text, view, out, err),
+    }
+}
+
 // Writes the picture of a trace, of a scenario, or of callers up to where their machine is closed.
 fn draw_text<O: Stream, E: Stream>(
     alloc: Global,
@@ -422,7 +423,7 @@ fn draw_text<O: Stream, E: Stream>(
 {
     match text.split_once(CLOSING) {
         Some((front, _)) => draw_callers(alloc, front, text, view, out, err),
-        None => draw_whole(alloc, text, Source::Trace, text, view, out, err),
+        None => draw_unclosed(alloc, text, view, out, err),
     }
 }
 

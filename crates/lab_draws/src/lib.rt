@@ -5,6 +5,7 @@ mod callers_texts;
 mod draw_faults;
 mod draw_html;
 mod draws;
+mod firsts;
 mod machines;
 
 pub use draws::draw;

@@ -76,8 +76,8 @@ fn copied_call(alloc: Global, call: &Call) -> Result<Call, AllocError>
     }
 }
 
-// The call of a visit.
-fn call_made(alloc: Global, crew: &Crew, visit: Visit) -> Result<Call, AllocError>
+/// The call of a visit. `AllocError` where there is no memory for its bytes.
+pub fn call_made(alloc: Global, crew: &Crew, visit: Visit) -> Result<Call, AllocError>
     ensures { IfOk result (λ call. call ≡ call_made crew.now visit) }
 {
     match visit {

@@ -27,14 +27,18 @@ mod wrongs;
 
 pub use calls::{Answer, WordCall};
 pub use crews::{Crew, CrewCaller};
+pub use kernels::call_made;
 pub use laws::{no_stax_is_shared, one_has_the_mutex, visits_are_whole, words_stand};
-pub use moments::Moment;
+pub use moments::{Moment, first_moment, moment_after};
 pub use outcomes::{StepOutcomes, step_outcomes_of};
-pub use reports::{write_step_outcome, write_step_report};
+pub use reports::{gate_word, turn_of, write_step_report};
 pub use seen::SeenSteps;
+pub use shared::SharedWord;
 pub use steps::{
     Ahead, Asked, CoreChange, CoreUse, GateStep, MutexStep, Place, Taken, Then, Turn, Visit,
     WaitChange, Waiting, WhatIf, WordStep,
 };
+pub use told::number_in;
 pub use watches::{StepClaim, StepFact, StepWatch};
+pub use words::{count_in, mark_in, stage_in};
 pub use worlds::Stepping;

@@ -23,8 +23,9 @@ use std::alloc::{AllocError, Global};
 /// What is kept of callers and words at one moment.
 #[derive(Drop)]
 pub struct Moment {
-    pub(crate) gates: Vec<SharedWord>,
-    pub(crate) mutexes: Vec<SharedWord>,
+    /// The word of each stax, and of each mutex.
+    pub gates: Vec<SharedWord>,
+    pub mutexes: Vec<SharedWord>,
     /// Where each caller stands in its call.
     pub(crate) places: Vec<Place>,
     /// How many calls of each caller are over.
@@ -34,7 +35,7 @@ pub struct Moment {
     /// What each caller waits for.
     pub(crate) waits: Vec<Option<Waiting>>,
     /// Who has the core.
-    pub(crate) core: Option<Taken>,
+    pub core: Option<Taken>,
     /// The kernel's calls in visits, in their order, but for those that were refused: a refusal leaves the kernel as it
     /// was.
     pub(crate) trail: Vec<Visited>,
@@ -95,8 +96,8 @@ fn no_waits(alloc: Global, callers: &[CrewCaller]) -> Result<Vec<Option<Waiting>
     Ok(waits)
 }
 
-/// The moment before the first step.
-pub(crate) fn first_moment(alloc: Global, crew: &Crew) -> Result<Moment, AllocError>
+/// The moment before the first step. `AllocError` where memory couldn't grow.
+pub fn first_moment(alloc: Global, crew: &Crew) -> Result<Moment, AllocError>
     ensures seen { IfOk result (λ moment. seen_of crew.now moment ≡ first_seen crew.now) }
     ensures fits { IfOk result (IsMoment crew.now) }
 {
@@ -353,8 +354,8 @@ fn trail_after(
     Ok(all)
 }
 
-/// The moment after a turn of a caller.
-pub(crate) fn moment_after(
+/// The moment after a turn of a caller. `AllocError` where memory couldn't grow.
+pub fn moment_after(
     alloc: Global,
     crew: &Crew,
     before: &Moment,

@@ -15,8 +15,8 @@ use crate::steps::{CoreChange, GateStep, MutexStep, Turn, WordStep};
 use lab_orders::Tally;
 use std::alloc::{AllocError, Global};
 
-// The word of a step on a stax.
-fn gate_word(step: GateStep) -> &'static str
+/// The word of a step on a stax.
+pub fn gate_word(step: GateStep) -> &'static str
     ensures { result.now ≡ reports.gate_word step }
 {
     match step {
@@ -91,8 +91,8 @@ fn mark_at(index: usize) -> &'static str
     if index == 0 { " " } else { ", " }
 }
 
-// The next turn of a caller, if there is one with this number.
-fn turn_of(
+/// The next turn of a caller, if there is one with this number and it makes one. `AllocError` where memory couldn't grow.
+pub fn turn_of(
     alloc: Global,
     crew: &Crew,
     moment: &Moment,
@@ -267,19 +267,5 @@ pub fn write_step_report(
     put_counts(&mut text, found)?;
     put_states(alloc, &mut text, crew, found, crew.watches.as_slice())?;
     put_outcomes(alloc, &mut text, crew, found.all.as_slice())?;
-    Ok(text)
-}
-
-/// What the report has of one outcome, told as this number. `AllocError` where memory couldn't grow.
-pub fn write_step_outcome(
-    alloc: Global,
-    crew: &Crew,
-    number: usize,
-    outcome: &Tally,
-) -> Result<String, AllocError>
-    ensures { IfOk result (λ text. string_bytes text ≡ outcome_text crew.now number outcome.now) }
-{
-    let mut text = String::new(alloc);
-    put_outcome(alloc, &mut text, crew, number, outcome)?;
     Ok(text)
 }

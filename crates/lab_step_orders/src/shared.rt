@@ -8,8 +8,8 @@ use std::alloc::{AllocError, Global};
 
 /// A word, and for each caller whether it holds what the word guards.
 #[derive(Drop, PartialEq)]
-pub(crate) struct SharedWord {
-    pub(crate) word: u64,
+pub struct SharedWord {
+    pub word: u64,
     pub(crate) held: Vec<bool>,
 }
 

@@ -123,8 +123,8 @@ impl<'a> Lines for Staxes<'a> {
     }
 }
 
-// The owner's number in a mutex's word.
-fn number_in(word: u64) -> u64
+/// The number in a mutex's word: that of its owner, from 1, or 0.
+pub fn number_in(word: u64) -> u64
     ensures { result ≡ number_in word }
 {
     word % 65_536

@@ -24,14 +24,14 @@ const CLAIM_MARK: u64 = 1 << 31;
 const OFFER_BIT: u64 = 1 << 30;
 
 /// How many hold a gate with this word.
-pub(crate) fn count_in(word: u64) -> u16
+pub fn count_in(word: u64) -> u16
     ensures { result ≡ count_in word }
 {
     (word & COUNT_MASK) as u16
 }
 
 /// Their stage.
-pub(crate) fn stage_in(word: u64) -> Stage
+pub fn stage_in(word: u64) -> Stage
     ensures { result ≡ stage_in word }
 {
     if word & STAGE_BIT == 0 {
@@ -42,7 +42,7 @@ pub(crate) fn stage_in(word: u64) -> Stage
 }
 
 /// Whether the claim mark stands.
-pub(crate) fn mark_in(word: u64) -> bool
+pub fn mark_in(word: u64) -> bool
     ensures { result ≡ mark_in word }
 {
     word & CLAIM_MARK != 0

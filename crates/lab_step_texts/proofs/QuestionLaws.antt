@@ -1,13 +1,13 @@
 -- Texts with others between them, what lines ask, and why one asks nothing.
-use Rattle.std.proofs.Common.{Bor, append_assoc, ◌≡◌, ℕ, Bool, true, false, ◌&&◌, List, [], ◌∷◌, ◌++◌, length, drop, get_or, zero, suc, ◌+◌, ◌-◌, ◌<◌, ◌≤◌, map, Option, Some, None, option_map, refl, sym, ◌∙◌, ap, subst, arith, add-one, append-nil}
-use Rattle.std.specs.Prelude.{IsSomeAnd, is_some, slice_get}
+use Rattle.std.proofs.Common.{All, Bor, Result, Ok, Err, IfOk, IfErr, append_assoc, ◌≡◌, ℕ, Bool, true, false, ◌&&◌, List, [], ◌∷◌, ◌++◌, length, drop, get_or, zero, suc, ◌+◌, ◌-◌, ◌<◌, ◌≤◌, map, Option, Some, None, option_map, refl, sym, ◌∙◌, ap, subst, arith, add-one, append-nil}
+use Rattle.std.specs.Prelude.{IsSomeAnd, codes, is_some, slice_get, string_bytes}
 use Rattle.std.proofs.lemmas.List.{drop_all, map-append}
 use Rattle.std.proofs.lemmas.List.Folds.{list_all-append}
 use Rattle.evl_base.specs.declared.board.Board.{Board}
 use Rattle.lab_scenario_orders.specs.declared.watches.When.{When}
 use Rattle.lab_scenario_orders.specs.Splits.{is_asked}
 use Rattle.lab_step_orders.specs.declared.watches.StepWatch.{StepWatch}
-use Rattle.lab_step_texts.specs.Questions.{AreAsked, IsLineFault, IsUnasked, IsUnread, IsUnreadAt, IsUnreadOf, LineAsks, are_there, joined_by, line_fault, names_there, when_asked, when_set}
+use Rattle.lab_step_texts.specs.Questions.{AreAsked, AreOn, IsLineFault, IsOne, IsUnasked, IsUnlisted, IsUnread, IsUnreadAt, IsUnreadIn, IsUnreadOf, LineAsks, are_there, joined_by, line_fault, names_there, value_set, when_asked, when_set}
 use Rattle.lab_step_texts.specs.declared.faults.StepsFault.{StepsFault}
 use Rattle.lab_step_texts.specs.declared.faults.StepsFault.TheVariants.{Text, Mixed, Mutex, Limit, Step, WhatIf, Lasts, Question, Facts, Lacking}
 use Rattle.lab_step_texts.specs.Near.{near_word}
@@ -105,6 +105,52 @@ unread_at f texts i d not_asked.Value lt h = absurd h
 unread_at f texts i d (not_asked.Text n meant) lt h =
     subst (λ (l : Option (List ℕ)). IsSomeAnd l (λ text. option_map (λ word. word.now) meant ≡ near_word text)) (sym (line_at f texts i d n lt h.0)) h.1
 unread_at f texts i d not_asked.Memory lt h = tt
+
+-- texts in a list
+pub listed_asked : {A E : Type 0} (r : Result A E) (items : A → List StepWatch) (when : When) (texts : List (List ℕ)) (text : List ℕ) → joined_by (codes "\", \"") texts ≡ text
+    → IfOk r (λ a. map (λ watch. string_bytes watch.text) (items a) ≡ texts) → IfOk r (λ a. All (IsOne when) (items a))
+    → IfOk r (λ a. (joined_by (codes "\", \"") (map (λ watch. string_bytes watch.text) (items a)) ≡ text) × All (IsOne when) (items a))
+listed_asked (Ok a) items when texts text joined same are = (ap (λ (l : List (List ℕ)). joined_by (codes "\", \"") l) same ∙ joined, are)
+listed_asked (Err e) items when texts text joined same are = tt
+
+unread_in : (texts : List (List ℕ)) (text : List ℕ) → joined_by (codes "\", \"") texts ≡ text → (why : NotAsked) → IsUnreadOf texts why → IsUnreadIn text why
+unread_in texts text joined not_asked.Value h = absurd h
+unread_in texts text joined (not_asked.Text n meant) h = (texts, joined, h)
+unread_in texts text joined not_asked.Memory h = tt
+
+pub listed_unread : {A : Type 0} (r : Result A NotAsked) (texts : List (List ℕ)) (text : List ℕ) → joined_by (codes "\", \"") texts ≡ text → IfErr r (IsUnreadOf texts) → IfErr r (IsUnreadIn text)
+listed_unread (Ok a) texts text joined h = tt
+listed_unread (Err why) texts text joined h = unread_in texts text joined why h
+
+-- in brackets
+pub value_asked : {A E : Type 0} (r : Result A E) (items : A → List StepWatch) (when : When) (value text : List ℕ) → value ≡ codes "[\"" ++ (text ++ codes "\"]")
+    → IfOk r (λ a. (joined_by (codes "\", \"") (map (λ watch. string_bytes watch.text) (items a)) ≡ text) × All (IsOne when) (items a)) → IfOk r (λ a. AreOn when value (items a))
+value_asked (Ok a) items when value text is h = record { written = is ∙ ap (λ (t : List ℕ). codes "[\"" ++ (t ++ codes "\"]")) (sym h.0); are = h.1 }
+value_asked (Err e) items when value text is h = tt
+
+unlisted : (value text : List ℕ) → value ≡ codes "[\"" ++ (text ++ codes "\"]") → (why : NotAsked) → IsUnreadIn text why → IsUnlisted value why
+unlisted value text is not_asked.Value h = tt
+unlisted value text is (not_asked.Text n meant) h = (text, is, h)
+unlisted value text is not_asked.Memory h = tt
+
+pub value_unread : {A : Type 0} (r : Result A NotAsked) (value text : List ℕ) → value ≡ codes "[\"" ++ (text ++ codes "\"]") → IfErr r (IsUnreadIn text) → IfErr r (IsUnlisted value)
+value_unread (Ok a) value text is h = tt
+value_unread (Err why) value text is h = unlisted value text is why h
+
+-- to which a line sets its key
+pub line_asked : {A E : Type 0} (r : Result A E) (items : A → List StepWatch) (when : When) (line value : List ℕ) → Some value ≡ value_set line → IfOk r (λ a. AreOn when value (items a))
+    → IfOk r (λ a. LineAsks (Some when) line (items a))
+line_asked (Ok a) items when line value at h = (value, sym at, h)
+line_asked (Err e) items when line value at h = tt
+
+unread_on : (line value : List ℕ) → Some value ≡ value_set line → (why : NotAsked) → IsUnlisted value why → IsUnreadAt line why
+unread_on line value at not_asked.Value h = tt
+unread_on line value at (not_asked.Text n meant) h = (value, sym at, h)
+unread_on line value at not_asked.Memory h = tt
+
+pub line_unread : {A : Type 0} (r : Result A NotAsked) (line value : List ℕ) → Some value ≡ value_set line → IfErr r (IsUnlisted value) → IfErr r (IsUnreadAt line)
+line_unread (Ok a) line value at h = tt
+line_unread (Err why) line value at h = unread_on line value at why h
 
 -- a line with such a text
 pub line_refused : (board : Board) (when : When) (line : List ℕ) (number : ℕ) (why : NotAsked) → IsUnreadAt line why → IsLineFault board (Some when) line number (line_fault when number why)

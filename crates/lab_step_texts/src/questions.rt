@@ -162,24 +162,6 @@ fn unread(alloc: Global, number: usize, text: &str) -> NotAsked
     }
 }
 
-// The question that a text asks which claims this.
-fn asked(
-    alloc: Global,
-    when: When,
-    text: &str,
-    claims: Vec<StepClaim>,
-) -> Result<StepWatch, NotAsked>
-    requires { Claims text.now claims.items }
-    ensures text { IfOk result (λ watch. string_bytes watch.text ≡ text.now) }
-    ensures is { IfOk result (IsOne when) }
-    ensures unread { IfErr result (λ why. why ≡ NotAsked.Memory) }
-{
-    match claimed(alloc, when, text, claims) {
-        Ok(watch) => Ok(watch),
-        Err(_) => Err(NotAsked::Memory),
-    }
-}
-
 // The question that the text with this number asks.
 fn question(alloc: Global, when: When, number: usize, text: &str) -> Result<StepWatch, NotAsked>
     ensures text { IfOk result (λ watch. string_bytes watch.text ≡ text.now) }
@@ -190,7 +172,10 @@ fn question(alloc: Global, when: When, number: usize, text: &str) -> Result<Step
         return Err(NotAsked::Memory);
     };
     match claims {
-        Some(claims) => asked(alloc, when, text, claims),
+        Some(claims) => match claimed(alloc, when, text, claims) {
+            Ok(watch) => Ok(watch),
+            Err(_) => Err(NotAsked::Memory),
+        },
         None => Err(unread(alloc, number, text)),
     }
 }

@@ -10,7 +10,7 @@ use Rattle.lab_asks.proofs.step_orders.go_through.Goals as goal
 pub returns-in-Ok-clause-writes : goal.returns-in-Ok-clause-writes
 returns-in-Ok-clause-writes g c =
     let name = unwrap_or (option_map (λ file. file.now) c.args.asked.now.file) (codes "-") in
-    let one = c.args.number in
+    let one = c.args.view in
     let crew = c.args.crew.now in
     let ask = c.args.ask.now in
     let found = c.in-Ok.found in
@@ -20,5 +20,5 @@ returns-in-Ok-clause-writes g c =
 pub returns-in-Err-Count-clause-writes : goal.returns-in-Err-Count-clause-writes
 returns-in-Err-Count-clause-writes g c =
     let name = unwrap_or (option_map (λ file. file.now) c.args.asked.now.file) (codes "-") in
-    told _ (TellsFound c.args.asked.now.most c.args.number name c.args.crew.now c.args.ask.now) _ _ _ (line_about name (codes "more orders than can be counted"))
+    told _ (TellsFound c.args.asked.now.most c.args.view name c.args.crew.now c.args.ask.now) _ _ _ (line_about name (codes "more orders than can be counted"))
     c.tell_refused-told.result c.refused.result (inr (subst (λ (e : OrdersError). CanNotTell c.args.crew.now e) c.in-Err-Count.field-0-is c.in-Err-Count.ensures.uncounted, refl)) (rw c.name-in-Err-Count.ensures at c.tell_refused-told.ensures.line) c.refused.ensures.status

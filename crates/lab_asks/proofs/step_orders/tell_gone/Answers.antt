@@ -9,7 +9,7 @@ pub returns-in-Ok-clause-writes : goal.returns-in-Ok-clause-writes
 returns-in-Ok-clause-writes g c =
     let name = unwrap_or (option_map (λ file. file.now) c.args.asked.now.file) (codes "-") in
     let most = c.args.asked.now.most in
-    rw c.in-Ok.ensures.number (written_as _ (TellsGone most name c.args.crew.now c.args.ask.now (Ok c.in-Ok.number)) _ _ _ _ (TellsFound most c.in-Ok.number name c.args.crew.now c.args.ask.now) c.go_through.result
+    rw c.in-Ok.ensures.view (written_as _ (TellsGone most name c.args.crew.now c.args.ask.now (Ok c.in-Ok.view)) _ _ _ _ (TellsFound most c.in-Ok.view name c.args.crew.now c.args.ask.now) c.go_through.result
     (λ output h. h) c.go_through.ensures.writes)
 
 pub returns-in-Err-clause-writes : goal.returns-in-Err-clause-writes

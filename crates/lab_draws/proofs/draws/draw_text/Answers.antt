@@ -2,7 +2,7 @@ use Rattle.std.proofs.Common.{List, ◌++◌, inl, inr, map}
 use Rattle.evl_kernel.specs.state.States.{Handler}
 use Rattle.evl_plans.specs.Told.{handler_of}
 use Rattle.evl_scenario.specs.Lines.{line_feed}
-use Rattle.lab_draws.specs.Draws.{DrawsText, DrawsWhole, callers, trace}
+use Rattle.lab_draws.specs.Draws.{DrawsText, DrawsUnclosed, DrawsWhole, callers}
 use Rattle.lab_streams.proofs.OutputLemmas.{written_as}
 use Rattle.lab_draws.proofs.draws.draw_text.Goals as goal
 
@@ -17,4 +17,4 @@ pub returns-in-None-clause-writes : goal.returns-in-None-clause-writes
 returns-in-None-clause-writes g c =
     let bank : List Handler = map handler_of c.args.view.now.bank.now in
     let text = c.args.text.now in
-    written_as _ (DrawsText bank c.args.view.now.drawing text) _ _ _ _ (DrawsWhole bank c.args.view.now.drawing trace text text) c.draw_whole.result (λ output h. inr (c.in-None.ensures.cases, h)) c.draw_whole.ensures.writes
+    written_as _ (DrawsText bank c.args.view.now.drawing text) _ _ _ _ (DrawsUnclosed bank c.args.view.now.drawing text) c.draw_unclosed.result (λ output h. inr (c.in-None.ensures.cases, h)) c.draw_unclosed.ensures.writes

@@ -1,8 +1,8 @@
-use Rattle.std.proofs.Common.{◌≡◌, ◌++◌, None, Some, codes, decimal, refl}
+use Rattle.std.proofs.Common.{◌≡◌, ◌∙◌, ◌++◌, ℕ, List, None, Some, ap, codes, decimal, refl}
 use Rattle.lab_streams.specs.Endings.{line_about}
-use Rattle.lab_asks.specs.StepOrders.{one_told, outcome_of, verdict}
+use Rattle.lab_asks.specs.StepOrders.{lines_of, one_told, verdict}
 use Rattle.lab_streams.proofs.OutputLemmas.{said, written_as}
-use Rattle.lab_asks.proofs.step_orders.tell_one.Goals as goal
+use Rattle.lab_asks.proofs.step_found.tell_one.Goals as goal
 
 pub returns-in-Some-clause-writes : goal.returns-in-Some-clause-writes
 returns-in-Some-clause-writes g c =
@@ -10,10 +10,10 @@ returns-in-Some-clause-writes g c =
     let crew = c.args.crew.now in
     let ask = c.args.ask.now in
     let found = c.args.found.now in
-    let number = c.args.number in
     let one = c.in-Some.one.now in
-    rw c.in-Some.is (written_as _ (λ output. output ≡ one_told name number crew ask found (Some one)) _ _ _ _ (λ output. output ≡ verdict (outcome_of crew number one) name ask found) c.tell_shown.result (λ output h. h)
-    c.tell_shown.ensures.writes)
+    let is = ap (λ (order : List ℕ). verdict (lines_of crew order) name ask found) c.as_slice-order.ensures.value in
+    rw c.in-Some.is (written_as _ (λ output. output ≡ one_told name c.args.number crew ask found (Some one)) _ _ _ _ (λ output. output ≡ verdict (lines_of crew c.as_slice-order.result.now) name ask found)
+    c.tell_lines.result (λ output h. h ∙ is) c.tell_lines.ensures.writes)
 
 pub returns-in-None-clause-writes : goal.returns-in-None-clause-writes
 returns-in-None-clause-writes g c =
