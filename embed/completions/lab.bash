@@ -15,7 +15,7 @@ _lab() {
         convert) words="--lines --toml --help" files='*.@(toml|trace|txt)' ;;
         live) words="--bank --limit --prompt --help" ;;
         callers) words="--bank --limit --help" ;;
-        orders) words="--bank --most --outcome --state --ask --first --order --json --help" ;;
+        orders) words="--bank --most --outcome --state --ask --first --order --answers --json --help" ;;
         help) mapfile -t COMPREPLY < <(compgen -W "--json $("${COMP_WORDS[0]}" help 2>/dev/null | cut -d' ' -f2)" -- "$word"); return ;;
         draw) words="--bank --outcome --svg --html --perfetto --csv --lanes --down --across --upto --page --help" files='*.@(toml|trace)' ;;
         *) words=--help ;;

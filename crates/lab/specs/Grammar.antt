@@ -74,7 +74,7 @@ live_part = part (codes "live") (bank_rule ∷ limit_rule ∷ free_rule (codes "
 unfoldable pub orders_part : Shape
 orders_part =
     part (codes "orders") (bank_rule ∷ number_rule (codes "most") (pos 100000000) ∷ number_rule (codes "outcome") (pos 1000000) ∷ number_rule (codes "state") (pos 1000000)
-    ∷ free_rule (codes "ask") ∷ free_rule (codes "first") ∷ text_rule (codes "order") ∷ free_rule (codes "json") ∷ file_rule ∷ [])
+    ∷ free_rule (codes "ask") ∷ free_rule (codes "first") ∷ text_rule (codes "order") ∷ free_rule (codes "answers") ∷ free_rule (codes "json") ∷ file_rule ∷ [])
 
 unfoldable pub callers_part : Shape
 callers_part = part (codes "callers") (bank_rule ∷ limit_rule ∷ file_rule ∷ [])

@@ -316,6 +316,18 @@ fn order_word<'a>(alloc: Global) -> Arg<'a>
         .help("Prints the scenario of this order alone, as \"T1 T2 T1\", if its steps can be made")
 }
 
+// Whether the answers that came at each step are told.
+fn answers_word<'a>(alloc: Global) -> Arg<'a>
+    ensures { IsWord (free_rule (codes "answers")) result }
+{
+    Arg::new(alloc, "answers")
+        .long("answers")
+        .action(ArgAction::SetTrue)
+        .help(
+            "Prints which answers came at each step, and in how many orders, in place of the outcomes",
+        )
+}
+
 // What is told of all orders as JSON.
 fn orders_json_word<'a>(alloc: Global) -> Arg<'a>
     ensures { IsWord (free_rule (codes "json")) result }
@@ -340,7 +352,8 @@ fn orders_command<'a>(alloc: Global) -> Result<Command<'a>, AllocError>
     let with_ask = with_state.arg(ask_word(alloc))?;
     let with_first = with_ask.arg(first_word(alloc))?;
     let with_order = with_first.arg(order_word(alloc))?;
-    let with_json = with_order.arg(orders_json_word(alloc))?;
+    let with_answers = with_order.arg(answers_word(alloc))?;
+    let with_json = with_answers.arg(orders_json_word(alloc))?;
     let with_file = with_json.arg(callers_file(alloc))?;
     Ok(with_file)
 }

@@ -1,16 +1,22 @@
 -- The report and the first outcome that is against what is asked, as the definitions of orders have them.
-use Rattle.std.proofs.Common.{◌≡◌, ◌⊎◌, ◌++◌, inr, List, ℕ, Bool, true, false, Option, Result, Ok, Err, IfOk, OnOk, ap, append_assoc, codes, decimal, refl, subst, sym}
+use Rattle.std.proofs.Common.{◌≡◌, ◌⊎◌, ◌++◌, inr, List, ℕ, Bool, true, false, Option, Result, Ok, Err, IfOk, OnOk, ap, append_assoc, codes, decimal, refl, subst, sym, ◌∙◌}
 use Rattle.std.specs.Prelude.{IsSomeAnd, MatchBool, is_ok, position, string_bytes}
 use Rattle.std.specs.Io.KnownBytes.{Appends}
 use Rattle.evl_kernel.specs.state.States.{Handler}
+use Rattle.lab_orders.specs.Machines.{orders}
+use Rattle.lab_orders.specs.Tallies.{told_weight}
 use Rattle.lab_orders.specs.declared.tallies.Tally.{Tally}
+use Rattle.lab_orders.proofs.Totals.{total_of_ones}
 use Rattle.lab_scenario_orders.specs.Answers.{first_impossible}
 use Rattle.lab_scenario_orders.specs.Asks.{is_against}
+use Rattle.lab_scenario_orders.specs.Callers.{first_seen, machine}
 use Rattle.lab_scenario_orders.specs.Json.{json_text}
+use Rattle.lab_scenario_orders.specs.Outcomes.{AreOutcomes}
 use Rattle.lab_scenario_orders.specs.Reports.{report_text}
 use Rattle.lab_scenario_orders.specs.declared.asks.Ask.{Ask}
 use Rattle.lab_scenario_orders.specs.declared.callers.Callers.{Callers}
 use Rattle.lab_scenario_orders.specs.declared.outcomes.Outcomes.{Outcomes}
+use Rattle.lab_scenario_orders.specs.declared.watches.Watch.{Watch}
 use Rattle.lab_streams.specs.Banks.{IsBank, Refuses}
 use Rattle.lab_scenario_orders.specs.Scenarios.{order_scenario}
 use Rattle.lab_scenario_orders.specs.declared.texts.TextFault.{TextFault}
@@ -46,6 +52,10 @@ against_is asks outcomes = refl
 pub impossible_is : (c : Callers) (asks : Ask) → first_impossible c.steps.items asks.never.items ≡ impossible_in c asks
 unfolding impossible_in
 impossible_is c asks = refl
+
+-- the outcomes have as many orders together as were counted
+pub all_are_counted : (c : Callers) (bank : List Handler) (watches : List Watch) (most : ℕ) (found : Outcomes) → AreOutcomes c bank watches most found → told_weight (λ told. 1) found.all.items ≡ found.count
+all_are_counted c bank watches most found are = are.counted (λ told. 1) ∙ (total_of_ones (orders (machine c) (first_seen c bank) found.steps) ∙ sym are.count)
 
 -- over a bank that is read with nothing said
 pub over_bank : (E : Type 0) (Is : List Handler → Reading → Output → Type 0) (plans file known old new quiet between spoken : Option (List ℕ)) (bank : List Handler) (r : Result ℕ E)

@@ -33,13 +33,14 @@ use Rattle.lab_streams.specs.Readings.{Reading}
 use Rattle.lab_asks.specs.StepOrders.{TellsSteps}
 use Rattle.lab_streams.specs.declared.words.Asked.{Asked}
 use Rattle.lab_streams.specs.declared.words.Shown.{Shown}
-use Rattle.lab_streams.specs.declared.words.Shown.TheVariants.{Report, Json, Outcome, State, Alone, First, Order}
+use Rattle.lab_streams.specs.declared.words.Shown.TheVariants.{Report, Json, Outcome, State, Alone, First, Order, Answers}
 use Rattle.lab_asks.specs.declared.orders.View.TheVariants as view
 
 -- the outcomes of all orders, or one order alone
 abbrev pub TellsOutcomes : List Handler → ℕ → Shown → List ℕ → Callers → Ask → Output → Type 0
 TellsOutcomes bank most Report name callers asks output = TellsAll bank most view.Report name callers asks output
 TellsOutcomes bank most Json name callers asks output = TellsAll bank most view.Json name callers asks output
+TellsOutcomes bank most Answers name callers asks output = TellsAll bank most view.Answers name callers asks output
 TellsOutcomes bank most (Outcome number) name callers asks output = TellsAll bank most (view.Outcome number) name callers asks output
 TellsOutcomes bank most (State number) name callers asks output = TellsAll bank most (view.State number) name callers asks output
 TellsOutcomes bank most Alone name callers asks output = TellsAlone bank most name callers asks output

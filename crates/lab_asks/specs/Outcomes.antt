@@ -1,5 +1,5 @@
 -- What `lab orders` tells of the outcomes of all orders.
-use Rattle.std.specs.Prelude.{◌≡◌, ◌⊎◌, ◌-◌, ℕ, List, ◌++◌, codes, decimal, position, slice_get, string_bytes, Option, Some, None, option_and_then}
+use Rattle.std.specs.Prelude.{◌≡◌, ◌⊎◌, ◌-◌, ℕ, List, ◌++◌, codes, decimal, flat_map, length, position, slice_get, string_bytes, Option, Some, None, option_and_then}
 use Rattle.evl_kernel.specs.state.States.{Handler}
 use Rattle.lab_orders.specs.declared.firsts.First.{First}
 use Rattle.lab_orders.specs.declared.firsts.First.TheVariants.{Nowhere, After}
@@ -8,8 +8,10 @@ use Rattle.lab_orders.specs.declared.tallies.Tally.{Tally}
 use Rattle.lab_scenario_orders.specs.Asks.{is_against}
 use Rattle.lab_scenario_orders.specs.Json.{json_text}
 use Rattle.lab_scenario_orders.specs.Outcomes.{AreOutcomes, CanNotTell}
-use Rattle.lab_scenario_orders.specs.Reports.{report_text}
+use Rattle.lab_answers.specs.Answers.{answers_text}
+use Rattle.lab_scenario_orders.specs.Reports.{counts_text, report_text}
 use Rattle.lab_scenario_orders.specs.declared.asks.Ask.{Ask}
+use Rattle.lab_scenario_orders.specs.declared.callers.Caller.{Caller}
 use Rattle.lab_scenario_orders.specs.declared.callers.Callers.{Callers}
 use Rattle.lab_scenario_orders.specs.declared.outcomes.Outcomes.{Outcomes}
 use Rattle.lab_streams.specs.Endings.{line_about}
@@ -17,7 +19,7 @@ use Rattle.lab_streams.specs.Outputs.{Output, refuses}
 use Rattle.lab_asks.specs.OneOrder.{order_of}
 use Rattle.lab_asks.specs.Verdicts.{asked_status, asked_text}
 use Rattle.lab_asks.specs.declared.orders.View.{View}
-use Rattle.lab_asks.specs.declared.orders.View.TheVariants.{Report, Json, Outcome, State}
+use Rattle.lab_asks.specs.declared.orders.View.TheVariants.{Report, Json, Outcome, State, Answers}
 
 -- the place of the first outcome that is against what is asked
 unfoldable pub first_against : Ask → List Tally → Option ℕ
@@ -30,6 +32,16 @@ report_of callers asks found = report_text callers asks.watches.items found
 -- the same as JSON
 unfoldable pub json_of : Callers → Ask → Outcomes → List ℕ
 json_of callers asks found = json_text callers asks found
+
+-- the answers that came at each caller's steps, behind the report's counts
+abbrev pub caller_answers : List Tally → Caller → List ℕ
+caller_answers outcomes caller = answers_text outcomes caller.who.0 (length caller.places.items)
+
+abbrev pub callers_answers : List Tally → List Caller → List ℕ
+callers_answers outcomes callers = flat_map (caller_answers outcomes) callers
+
+unfoldable pub answers_of : Callers → Outcomes → List ℕ
+answers_of callers found = counts_text found ++ callers_answers found.all.items callers.callers.items
 
 -- the first order that leads to an outcome, as a scenario
 unfoldable pub scenario_of : Callers → Tally → List ℕ
@@ -48,6 +60,13 @@ report_told name callers asks found place = record {
 abbrev pub json_told : List ℕ → Callers → Ask → Outcomes → Option ℕ → Output
 json_told name callers asks found place = record {
   printed = json_of callers asks found;
+  said = asked_text name asks found place;
+  status = asked_status asks found place;
+}
+
+abbrev pub answers_told : List ℕ → Callers → Ask → Outcomes → Option ℕ → Output
+answers_told name callers asks found place = record {
+  printed = answers_of callers found;
   said = asked_text name asks found place;
   status = asked_status asks found place;
 }
@@ -85,6 +104,7 @@ state_told name number callers asks found place (Some order) = record {
 abbrev pub outcomes_told : View → List ℕ → Callers → Ask → Outcomes → Option ℕ → Output
 outcomes_told Report name callers asks found place = report_told name callers asks found place
 outcomes_told Json name callers asks found place = json_told name callers asks found place
+outcomes_told Answers name callers asks found place = answers_told name callers asks found place
 outcomes_told (Outcome number) name callers asks found place = scenario_told name number callers asks found place (slice_get found.all.items (number - 1))
 outcomes_told (State number) name callers asks found place = state_told name number callers asks found place (order_at found.firsts.items number)
 

@@ -30,7 +30,7 @@ use Rattle.lab_asks.specs.Verdicts.{holds_text, unanswered_text}
 use Rattle.lab_asks.specs.declared.step_found.StepView.{StepView}
 use Rattle.lab_asks.specs.declared.step_found.StepView.TheVariants as view
 use Rattle.lab_streams.specs.declared.words.Shown.{Shown}
-use Rattle.lab_streams.specs.declared.words.Shown.TheVariants.{Report, Json, Outcome, State, Alone, First, Order}
+use Rattle.lab_streams.specs.declared.words.Shown.TheVariants.{Report, Json, Outcome, State, Alone, First, Order, Answers}
 
 -- ---- the outcomes
 
@@ -129,6 +129,7 @@ told_for Json = Err (codes "--json is for orders of whole calls")
 told_for Alone = Err (codes "--ask is for orders of whole calls")
 told_for First = Err (codes "--first is for orders of whole calls")
 told_for (Order text) = Err (codes "--order is for orders of whole calls")
+told_for Answers = Err (codes "--answers is for orders of whole calls")
 
 abbrev pub TellsGone : ℕ → List ℕ → Crew → Ask → Result StepView (List ℕ) → Output → Type 0
 TellsGone most name crew asks (Ok one) output = TellsFound most one name crew asks output

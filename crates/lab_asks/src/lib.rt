@@ -2,6 +2,7 @@
 #![tactic(auto)]
 
 mod alone;
+mod answers;
 mod copies;
 mod numbered;
 mod one_order;

@@ -3,10 +3,12 @@ ghost use Rattle.std.specs.Prelude.{◌≡◌, map, option_map, IfOk, OnOk, IfEr
 ghost use Rattle.std.specs.Io.KnownBytes.{Appends};
 ghost use Rattle.evl_plans.specs.Told.{handler_of};
 ghost use Rattle.lab_asks.specs.Orders.{IsSetTo, IsUnpicked, TellsAll, TellsAsked, TellsEither, TellsGiven, TellsOrders, TellsOutcomes, TellsPossible, TellsRead, TellsText, impossible_in, json_of, json_told, order_of, outcomes_told, report_of, report_told, scenario_of, scenario_told, state_told, text_name};
+ghost use Rattle.lab_orders.specs.Tallies.{told_weight};
 ghost use Rattle.lab_streams.specs.Outputs.{Writes, WritesOfText};
 ghost use Rattle.lab_streams.specs.Streams.{EndsEarly};
 
 use crate::alone::tell_alone;
+use crate::answers::tell_answers;
 use crate::copies::Copies;
 use crate::numbered::{order_at, outcome_at, tell_no_outcome, tell_no_state};
 use crate::one_order::{print_order, tell_first, tell_order};
@@ -39,6 +41,8 @@ enum View {
     Outcome(u32),
     // That of the first order that leads to a moment as the question with this number looks for, from 1.
     State(u32),
+    // Which answers came at each step.
+    Answers,
 }
 
 // Prints the outcomes.
@@ -194,6 +198,7 @@ fn tell_answered<O: Stream, E: Stream>(
     out: &mut O,
     err: &mut E,
 ) -> io::Result<u8>
+    requires { told_weight (λ told. 1) answered.now.outcomes.all.items ≡ answered.now.outcomes.count }
     ensures writes { IfOk result (Writes (λ output. output ≡ outcomes_told view (text_name asked.now) callers.now ask.now answered.now.outcomes answered.now.against) (O.contents out.old) (O.contents out.new) (E.contents err.old) (E.contents err.new)) }
     ensures early { IfErr result (EndsEarly false (O.has_failed out.new) (E.has_failed err.new)) }
 {
@@ -211,6 +216,7 @@ fn tell_answered<O: Stream, E: Stream>(
             )
         }
         View::Json => tell_json(alloc, asked, callers, ask, answered, out, err),
+        View::Answers => tell_answers(alloc, asked, callers, ask, answered, out, err),
         View::Report => tell_report(alloc, asked, callers, ask, bank, answered, out, err),
     }
 }
@@ -261,6 +267,9 @@ fn go_through<O: Stream, E: Stream>(
             go_through_all(alloc, asked, View::Report, callers, ask, &bank, out, err)
         }
         Shown::Json => go_through_all(alloc, asked, View::Json, callers, ask, &bank, out, err),
+        Shown::Answers => {
+            go_through_all(alloc, asked, View::Answers, callers, ask, &bank, out, err)
+        }
         Shown::Outcome(number) => {
             let view = View::Outcome(number);
             go_through_all(alloc, asked, view, callers, ask, &bank, out, err)

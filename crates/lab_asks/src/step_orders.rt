@@ -163,6 +163,7 @@ fn told_for(shown: Shown<'_>) -> Result<StepView, &'static str>
         Shown::Alone => Err("--ask is for orders of whole calls"),
         Shown::First => Err("--first is for orders of whole calls"),
         Shown::Order(_) => Err("--order is for orders of whole calls"),
+        Shown::Answers => Err("--answers is for orders of whole calls"),
     }
 }
 

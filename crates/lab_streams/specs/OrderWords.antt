@@ -4,7 +4,7 @@ use Rattle.clap.specs.Words.{first_value}
 use Rattle.clap.specs.declared.parser.matches.Found.{Found}
 use Rattle.lab_streams.specs.Words.{is_set, number_at}
 use Rattle.lab_streams.specs.declared.words.Shown.{Shown}
-use Rattle.lab_streams.specs.declared.words.Shown.TheVariants.{Report, Json, Outcome, State, Alone, First, Order}
+use Rattle.lab_streams.specs.declared.words.Shown.TheVariants.{Report, Json, Outcome, State, Alone, First, Order, Answers}
 
 -- none of these words stands there
 pub record IsPlain (found : Found) : Type 0 where
@@ -21,4 +21,5 @@ Shows found First = (is_set found (codes "json") ≡ false) × (is_set found (co
 Shows found (Order text) = (is_set found (codes "json") ≡ false) × (is_set found (codes "ask") ≡ false) × (is_set found (codes "first") ≡ false) × (first_value found (codes "order") ≡ Some text.now)
 Shows found (Outcome number) = IsPlain found × (number_at found (codes "outcome") ≡ Some number)
 Shows found (State number) = IsPlain found × (number_at found (codes "outcome") ≡ None) × (number_at found (codes "state") ≡ Some number)
-Shows found Report = IsPlain found × (number_at found (codes "outcome") ≡ None) × (number_at found (codes "state") ≡ None)
+Shows found Answers = IsPlain found × (number_at found (codes "outcome") ≡ None) × (number_at found (codes "state") ≡ None) × (is_set found (codes "answers") ≡ true)
+Shows found Report = IsPlain found × (number_at found (codes "outcome") ≡ None) × (number_at found (codes "state") ≡ None) × (is_set found (codes "answers") ≡ false)

@@ -157,6 +157,8 @@ pub enum Shown<'a> {
     First,
     /// That of the order that this text tells.
     Order(&'a str),
+    /// Which answers came at each step, and in how many orders each.
+    Answers,
 }
 
 /// What `orders` is asked for: the file of a bank, how many moments one number of steps may lead to, what is printed, and
@@ -258,9 +260,13 @@ fn shown_of<'a>(matches: &ArgMatches<'a>) -> Shown<'a>
     if let Some(number) = number_at(matches, "outcome") {
         return Shown::Outcome(number);
     }
-    match number_at(matches, "state") {
-        Some(number) => Shown::State(number),
-        None => Shown::Report,
+    if let Some(number) = number_at(matches, "state") {
+        return Shown::State(number);
+    }
+    if is_set(matches, "answers") {
+        Shown::Answers
+    } else {
+        Shown::Report
     }
 }
 

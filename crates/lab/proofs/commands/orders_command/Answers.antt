@@ -24,8 +24,10 @@ returns c =
     let local_with_first = c.in_ok-with_first.ensures.globals ∙ ap₂ ◌||◌ local_with_ask c.first_word.ensures.1 in
     let with_order = c.in_ok-with_order.ensures.shape c.order_word.ensures.1 ∙ ap₂ with_rule with_first c.order_word.ensures.0 in
     let local_with_order = c.in_ok-with_order.ensures.globals ∙ ap₂ ◌||◌ local_with_first c.order_word.ensures.1 in
-    let with_json = c.in_ok-with_json.ensures.shape c.orders_json_word.ensures.1 ∙ ap₂ with_rule with_order c.orders_json_word.ensures.0 in
-    let local_with_json = c.in_ok-with_json.ensures.globals ∙ ap₂ ◌||◌ local_with_order c.orders_json_word.ensures.1 in
+    let with_answers = c.in_ok-with_answers.ensures.shape c.answers_word.ensures.1 ∙ ap₂ with_rule with_order c.answers_word.ensures.0 in
+    let local_with_answers = c.in_ok-with_answers.ensures.globals ∙ ap₂ ◌||◌ local_with_order c.answers_word.ensures.1 in
+    let with_json = c.in_ok-with_json.ensures.shape c.orders_json_word.ensures.1 ∙ ap₂ with_rule with_answers c.orders_json_word.ensures.0 in
+    let local_with_json = c.in_ok-with_json.ensures.globals ∙ ap₂ ◌||◌ local_with_answers c.orders_json_word.ensures.1 in
     let with_file = c.in_ok-with_file.ensures.shape c.callers_file.ensures.1 ∙ ap₂ with_rule with_json c.callers_file.ensures.0 in
     let local_with_file = c.in_ok-with_file.ensures.globals ∙ ap₂ ◌||◌ local_with_json c.callers_file.ensures.1 in
     λ old new adds. adds.shape local_with_file ∙ ap (λ app. with_subcommand (app_of old) app.top) with_file

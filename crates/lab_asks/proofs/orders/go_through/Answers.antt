@@ -4,7 +4,7 @@ use Rattle.evl_plans.specs.Told.{handler_of as told_by}
 use Rattle.lab_asks.specs.Orders.{TellsOutcomes}
 use Rattle.lab_asks.specs.Outcomes.{TellsAll}
 use Rattle.lab_asks.specs.declared.orders.View.TheVariants as view
-use Rattle.lab_streams.specs.declared.words.Shown.TheVariants.{Report, Json, Outcome, State}
+use Rattle.lab_streams.specs.declared.words.Shown.TheVariants.{Report, Json, Outcome, State, Answers}
 use Rattle.lab_streams.proofs.OutputLemmas.{written_as}
 use Rattle.lab_asks.proofs.orders.go_through.Goals as goal
 
@@ -23,6 +23,14 @@ returns-in-Json-clause-writes g c =
     let most = c.args.asked.now.most in
     rw c.in-Json.is (written_as _ (TellsOutcomes bank most Json name c.args.callers.now c.args.ask.now) _ _ _ _ (TellsAll bank most view.Json name c.args.callers.now c.args.ask.now)
     c.go_through_all-in-Json.result (λ output h. h) c.go_through_all-in-Json.ensures.writes)
+
+pub returns-in-Answers-clause-writes : goal.returns-in-Answers-clause-writes
+returns-in-Answers-clause-writes g c =
+    let name = unwrap_or (option_map (λ file. file.now) c.args.asked.now.file) (codes "-") in
+    let bank = map told_by c.args.plans.now in
+    let most = c.args.asked.now.most in
+    rw c.in-Answers.is (written_as _ (TellsOutcomes bank most Answers name c.args.callers.now c.args.ask.now) _ _ _ _ (TellsAll bank most view.Answers name c.args.callers.now c.args.ask.now)
+    c.go_through_all-in-Answers.result (λ output h. h) c.go_through_all-in-Answers.ensures.writes)
 
 pub returns-in-Outcome-clause-writes : goal.returns-in-Outcome-clause-writes
 returns-in-Outcome-clause-writes g c =

@@ -6,9 +6,13 @@ use Rattle.lab_scenario_orders.specs.Outcomes.{CanNotTell}
 use Rattle.lab_streams.specs.Endings.{line_about}
 use Rattle.lab_asks.specs.Outcomes.{TellsAll, outcomes_told}
 use Rattle.lab_streams.specs.Outputs.{Output}
-use Rattle.lab_asks.proofs.OrderLemmas.{against_is}
+use Rattle.lab_asks.proofs.OrderLemmas.{against_is, all_are_counted}
 use Rattle.lab_streams.proofs.OutputLemmas.{told, written_as}
 use Rattle.lab_asks.proofs.orders.go_through_all.Goals as goal
+
+pub tell_answered-requires : goal.tell_answered-requires
+tell_answered-requires g c =
+    all_are_counted c.args.callers.now (map told_by c.args.bank.now.plans.now) c.args.ask.now.watches.items c.args.asked.now.most c.in-Ok.answered.outcomes c.in-Ok.ensures.outcomes
 
 pub returns-in-Ok-clause-writes : goal.returns-in-Ok-clause-writes
 returns-in-Ok-clause-writes g c =

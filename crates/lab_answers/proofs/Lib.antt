@@ -1,0 +1,4 @@
+pub mod AnswerLaws
+pub mod LineLaws
+pub mod OnceLaws
+pub mod SumLaws
