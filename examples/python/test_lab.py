@@ -206,6 +206,27 @@ def test_orders_over_a_bank() -> None:
     assert found.outcomes[0]._repr_svg_() == evlsim.draw(found.outcomes[0].trace())
 
 
+def test_a_long_history_is_played_again() -> None:
+    kernel = evlsim.Kernel(threads=2, sems=[0], mutexes=["ceiling 50"], xbufs=[(8, 16)], limit=40000)
+    kernel.request(0, line=5, stage="oob", callback=1)
+    for _ in range(15000):
+        assert kernel.arrive(0, line=5) and kernel.try_get(1, sem=0)
+    refused(kernel.scenario, evlsim.Refused, "1,048,576")
+    text, trace = kernel.lines(), kernel.trace()
+    assert evlsim.Kernel.from_lines(text).trace() == evlsim.Kernel.from_lines(trace).trace() == trace
+    refused(lambda: evlsim.Kernel.from_lines(text, bank=[]), evlsim.BadText, "here it is answered")
+    refused(lambda: evlsim.Kernel.from_lines("1 T0 now -> number 0\n"), evlsim.BadBoard, "no line of a board")
+    if not LAB:
+        return
+    board, _, rest = text.partition("\n")
+    calls = "".join(f"{it.partition(' ')[2]}\n" for it in rest.splitlines() if not it.startswith(" "))
+    with tempfile.TemporaryDirectory(prefix="evlsim-") as folder:
+        with open(f"{folder}/board.txt", "w", encoding="utf-8") as file:
+            file.write(board + "\n")
+        words = [LAB, "live", f"{folder}/board.txt"]
+        assert subprocess.run(words, input=calls, stdout=subprocess.PIPE, text=True).stdout == trace
+
+
 def test_callers() -> None:
     told = evlsim.callers(text_of("callers/contended_mutex.toml"))
     assert told == text_of("callers/contended_mutex.told") and told.closed == "done"

@@ -1,16 +1,16 @@
 """A kernel with its history."""
 
 from types import TracebackType
-from typing import Any, Dict, Iterator, NoReturn, Optional, Tuple, Type
+from typing import Any, Dict, Iterable, Iterator, NoReturn, Optional, Tuple, Type
 
 from . import _library as lib
 from ._answers import Answer
 from ._calls import Words
-from ._errors import BadQuestion, BadStep, KernelClosed, Refused, near, whole
+from ._errors import BadQuestion, BadStep, BadText, KernelClosed, Refused, near, whole
 from ._kernel import Plan
 from ._pictures import shown
 from ._questions import Questions
-from ._traces import Entry, read_trace
+from ._traces import Entry, board_line, read_board_line, read_trace
 
 
 class Kernel(Words, Questions):
@@ -96,6 +96,31 @@ class Kernel(Words, Questions):
         return made
 
     __copy__ = copy
+
+    def lines(self) -> str:
+        """The history as a text of lines, of any length: its board's, and then those of the trace. Such a text is played again
+        by from_lines, and by `lab live` (docs/use/LAB.md)."""
+        return board_line(self._board, self._limit) + self.trace().partition("\n")[2]
+
+    @classmethod
+    def from_lines(cls, text: str, bank: Optional[Iterable[Plan]] = None, strict: bool = False) -> "Kernel":
+        """The kernel whose history a text of lines is, as lines() or a trace. Raises BadText where a call is answered
+        otherwise: over another bank, or of a trace over a board whose elements aren't plain.
+
+        >>> with Kernel(threads=1, mutexes=["ceiling 50"], sems=[2]) as kernel:
+        ...     assert kernel.try_get(0, sem=0)
+        ...     print(Kernel.from_lines(kernel.lines()).lines(), end="")
+        board threads=1 sems=[2] flags=[] xbufs=[] mutexes=[ceiling 50] groups=[] limit=1000
+        1 T0 try_get sem=0 -> done
+        """
+        head, _, rest = text.partition("\n")
+        made = cls(**read_board_line(head), bank=bank)
+        for entry in read_trace(rest):
+            answer = made.call(entry.word, entry.who, **entry.keys)
+            if str(answer) != str(entry.answer):
+                raise BadText(f"{entry.number or '-'} {entry}: here it is answered {answer}")
+        made._strict = strict
+        return made
 
     def __deepcopy__(self, memo: Dict[int, Any]) -> "Kernel":
         return self.copy()

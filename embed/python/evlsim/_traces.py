@@ -4,6 +4,7 @@ import re
 from typing import Any, Dict, Iterator, List, NamedTuple, Optional, Tuple
 
 from ._answers import Answer, Clock, Deadline, Line, Next, Play, Timer
+from ._errors import BadBoard
 from ._kernel import Plan
 from ._pictures import shown
 
@@ -138,3 +139,37 @@ def read_play(text: str) -> Play:
     if word == "timer":
         return Timer(numbers[0], numbers[1], numbers[2], rest[-1] == "handled")
     return Line(numbers[0], rest[1], numbers[1], rest[-1] == "handled")
+
+
+# what a number stands for in a board's line: so many plain elements
+PLAIN: Dict[str, Any] = {"sems": 0, "flags": 0, "xbufs": (256, 256), "mutexes": "normal", "groups": 100}
+
+
+def board_line(board: Dict[str, Any], limit: int) -> str:
+    """The line of a board, with each of its elements."""
+    parts = [f"threads={board['threads']}"]
+    for name in PLAIN:
+        items = [f"[{it[0]}, {it[1]}]" if name == "xbufs" else str(it) for it in board[name]]
+        parts.append(f"{name}=[{', '.join(items)}]")
+    return f"board {' '.join(parts)} limit={limit}\n"
+
+
+def read_board_line(line: str) -> Dict[str, Any]:
+    """The board that a line names, as the words of a Kernel.
+
+    >>> read_board_line("board threads=2 sems=1 xbufs=[[8, 16]] mutexes=[normal, ceiling 9] limit=5")["xbufs"]
+    [(8, 16)]
+    """
+    found = re.findall(r" (\w+)=(\[.*?\](?= \w+=|$)|\d+)", line.rstrip())
+    if not line.startswith("board ") or len(found) != line.count("="):
+        raise BadBoard(f"{line[:80]!r} is no line of a board")
+    board: Dict[str, Any] = {}
+    for key, value in found:
+        if value.isdecimal():
+            board[key] = [PLAIN[key]] * min(int(value), 1000) if key in PLAIN else int(value)
+        elif key == "mutexes":
+            board[key] = [it.strip() for it in value[1:-1].split(",") if it.strip()]
+        else:
+            numbers = [int(it) for it in re.findall(r"\d+", value)]
+            board[key] = list(zip(numbers[::2], numbers[1::2])) if key == "xbufs" else numbers
+    return board
