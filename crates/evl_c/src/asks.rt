@@ -1,5 +1,5 @@
 //! Questions to kernels, and to the kernels of machines, of C.
-ghost use Rattle.std.specs.Prelude.{◌≡◌, ◌≢◌, ◌↔◌, ◌∷◌, [], false, true, None, IsSomeAnd};
+ghost use Rattle.std.specs.Prelude.{◌≡◌, ◌≢◌, ◌↔◌, false, true, None, IsSomeAnd};
 ghost use Rattle.evl_c.specs.Handles.{kernel_held};
 ghost use Rattle.evl_c.specs.HostCalls as host_calls;
 ghost use Rattle.evl_c.specs.HostCalls.{host_held};
@@ -55,7 +55,8 @@ pub extern "C" fn evlsim_c_caller_ask(
     ensures none { (result ≡ 6) ↔ ((readings.is_question question.now ≡ true) × (host_held caller.old ≡ None)) }
     ensures statuses { is_among of_caller_ask result ≡ true }
     ensures refused { result ≢ 0 → reading.new ≡ reading.old }
-    ensures kept { is_among (6 ∷ 7 ∷ []) result ≡ true → host_held caller.new ≡ host_held caller.old }
+    ensures closed { result ≡ 6 → host_held caller.new ≡ host_held caller.old }
+    ensures odd { result ≡ 7 → host_held caller.new ≡ host_held caller.old }
 {
     if !is_question(question) {
         return 7;

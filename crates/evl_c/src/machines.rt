@@ -77,6 +77,7 @@ pub extern "C" fn evlsim_c_machine_open(
     ensures fits { result ≡ 0 → can_be_opened board.now staxes.now (length plans.now) limit ≡ true }
     ensures board { result ≡ 2 → can_be_opened board.now staxes.now (length plans.now) limit ≡ false }
     ensures plans { (result ≡ 5) ↔ (are_plans plans.now ≡ false) }
+    ensures numbers { (result ≡ 7) ↔ ((are_plans plans.now ≡ true) × (length callers.old ≢ board.now.threads)) }
     ensures statuses { is_among of_machine result ≡ true }
     ensures refused { result ≢ 0 → are_free callers.new }
 {
