@@ -58,9 +58,10 @@ void try_texts() {
 
 /* Two callers of one machine; they may be on two threads (examples/c/machine.c). */
 void try_callers() {
+  const std::uint32_t sems[] = {0};
   const evlsim_mutex mutexes[] = {{EVLSIM_NORMAL, 0}};
   evlsim_board board{};
-  board.threads = 2, board.mutexes = mutexes, board.mutex_count = 1;
+  board.threads = 2, board.sems = sems, board.sem_count = 1, board.mutexes = mutexes, board.mutex_count = 1;
   std::vector<evlsim::caller> callers = evlsim::open_machine(board, {1});
   evlsim::caller &first = callers[0], &second = callers[1];
   for (evlsim::caller &caller : callers) {
@@ -71,6 +72,10 @@ void try_callers() {
   require(first.try_unlock_mutex(0).is_done() && second.finish_lock_mutex().is_done(), "handed on");
   require(first.try_lock_stax(0).is_done() && second.try_lock_stax(0).refused_as(EVLSIM_REFUSAL_LIMIT), "one at most");
   require(first.unlock_stax(0).is_done() && first.trace() == second.trace(), "one trace");
+  require(second.unlock_mutex(0).is_done() && first.lock_mutex(0).is_done(), "a lock that may wait");
+  require(first.call(evlsim_call_put(0)).is_done() && second.ask(EVLSIM_SEE_COUNT).count == 1, "a count is seen");
+  require(second.wait(evlsim_call_begin_get(0)).is_done() && second.thread() == 1, "a wait that is over at once");
+  require(second.wait(evlsim_until(evlsim_call_begin_get(0), 0)).is_timed_out(), "and one that is timed out");
   evlsim::caller gone = std::move(first);
   try {
     first.try_lock_stax(0);
