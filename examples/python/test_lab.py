@@ -184,11 +184,12 @@ def test_orders_as_the_program_tells_them() -> None:
     for path in sorted(glob.glob(f"{TOP}/examples/orders/**/*.toml", recursive=True))[::2] if LAB else ():
         with open(path, "rb") as file:
             data = file.read()
-        if b"try_lock_" in data or b"staxes" in data:
+        if "/steps/" in path or b"try_lock_" in data or b"staxes" in data:
             continue  # orders of atomic steps are the program's alone
         status, out, told = by_the_program(data, "orders", "--most", "2000")
         if status == 2:
-            refused(lambda: evlsim.orders(data, most=2000), evlsim.Refused, told.split(": ", 1)[1])
+            words = told.partition("\n")[0].partition(": ")[2]
+            refused(lambda: evlsim.orders(data, most=2000), evlsim.Refused, words)
             continue
         found = evlsim.orders(data, most=2000)
         assert found.holds is {0: True, 1: False, 5: None}[status], path
