@@ -64,6 +64,7 @@ impl Held {
     }
 
     /// Answers a call of a thread, settles, and enters the call into the history.
+    #[inline(always)]
     pub fn apply(&mut self, caller: ThreadId, call: Call) -> Result<Reply, Refusal>
         ensures entry { IsTrue (makes_entry result) → AddsEntry self.old.history caller.0 call result self.new.history }
         ensures none { IsFalse (makes_entry result) → self.new.history ≡ self.old.history }
