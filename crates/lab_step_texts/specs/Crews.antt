@@ -1,9 +1,12 @@
 -- The callers of a text, with their calls.
 use Rattle.std.specs.Prelude.{◌≡◌, ◌≤◌, ◌<◌, ◌⊎◌, ℕ, Bool, true, false, List, [], drop, length, Some, None, Ok, Err, map, min, slice_get, take}
 use Rattle.std.specs.List.{list_all}
+use Rattle.std.specs.Str.{is_utf8}
 use Rattle.std.specs.Str.Lines.{lines}
 use Rattle.evl_base.specs.declared.mutex_kind.MutexKind.{MutexKind}
 use Rattle.evl_base.specs.declared.mutex_kind.MutexKind.TheVariants.{Normal, Recursive, Ceiling}
+use Rattle.evl_scenario.specs.declared.faults.Fault.TheVariants as fault
+use Rattle.lab_callers_text.specs.Readings as texts
 use Rattle.lab_callers_text.specs.Readings.{IsRead}
 use Rattle.lab_callers_text.specs.declared.acts.CallersStep.{CallersStep}
 use Rattle.lab_callers_text.specs.declared.reading.CallersText.{CallersText}
@@ -74,7 +77,7 @@ pub record IsReadAs (text : List ℕ) (crew : Crew) : Type 0 where
 
 -- Why a text of callers that was read isn't gone through.
 abbrev pub IsKept : CallersText → ℕ → StepsFault → Type 0
-IsKept read count (Text fault) = Unit {0}
+IsKept read count (Text e) = Unit {0}
 IsKept read count Mixed = ⊥
 IsKept read count (WhatIf line) = ⊥
 IsKept read count (Lasts line) = ⊥
@@ -83,30 +86,33 @@ IsKept read count (Facts line unread) = ⊥
 IsKept read count (Lacking line) = ⊥
 IsKept read count Mutex = list_all is_plain read.board.mutexes.items ≡ false
 IsKept read count Limit = read.limit < length read.steps.items
-IsKept read count (Step n fault) =
-    ((fault ≡ Setup) × (unattached read.board.threads 1 [] (take count read.steps.items) ≡ Some n)) ⊎ (calls_behind read.board.threads count read.steps.items ≡ Err (n, fault))
+IsKept read count (Step n why) =
+    ((why ≡ Setup) × (unattached read.board.threads 1 [] (take count read.steps.items) ≡ Some n)) ⊎ (calls_behind read.board.threads count read.steps.items ≡ Err (n, why))
 
--- why a scenario of callers isn't: it can't be read, or memory ran out; or it is read, and there is a reason
+-- why a scenario of callers isn't: it is refused, for that fault; or it is read, and there is a reason, or no memory
 abbrev pub IsKeptOf : List ℕ → ℕ → StepsFault → Type 0
-IsKeptOf scenario count (Text fault) = Unit {0}
-IsKeptOf scenario count fault = (read : CallersText) × IsRead None scenario read × IsKept read (set_up count read) fault
+IsKeptOf scenario count (Text e) = texts.IsRefused None scenario e ⊎ ((read : CallersText) × IsRead None scenario read)
+IsKeptOf scenario count why = (read : CallersText) × IsRead None scenario read × IsKept read (set_up count read) why
 
 -- or these lines ask something else of its moments
 abbrev pub IsStopped : List (List ℕ) → List ℕ → ℕ → StepsFault → Type 0
 IsStopped all scenario count (Question line) = (read : CallersText) × IsRead None scenario read × IsUnasked read.board all (Question line)
 IsStopped all scenario count (Facts line unread) = (read : CallersText) × IsRead None scenario read × IsUnasked read.board all (Facts line unread)
 IsStopped all scenario count (Lacking line) = (read : CallersText) × IsRead None scenario read × IsUnasked read.board all (Lacking line)
-IsStopped all scenario count fault = IsKeptOf scenario count fault
+IsStopped all scenario count why = IsKeptOf scenario count why
 
 -- or a line of its own asks for something else
 abbrev pub IsUnplain : Extras → StepsFault → Type 0
 IsUnplain extras (WhatIf line) = extras.strange ≡ Some line
 IsUnplain extras (Lasts line) = extras.stray ≡ Some line
-IsUnplain extras fault = ⊥
+IsUnplain extras why = ⊥
 
 -- why a text isn't
 abbrev pub IsRefused : List ℕ → StepsFault → Type 0
+IsRefused text (Text e) =
+    (e ≡ fault.Memory)
+    ⊎ (((e ≡ fault.Text) × (is_utf8 text ≡ false)) ⊎ IsStopped (lines text) (scenario_part (plain_part text)) (setup_count (plain_part text)) (Text e))
 IsRefused text Mixed = is_mixed (lines (plain_part text)) ≡ true
 IsRefused text (WhatIf line) = strange_line text ≡ Some line
 IsRefused text (Lasts line) = stray_line text ≡ Some line
-IsRefused text fault = IsStopped (lines text) (scenario_part (plain_part text)) (setup_count (plain_part text)) fault
+IsRefused text why = IsStopped (lines text) (scenario_part (plain_part text)) (setup_count (plain_part text)) why

@@ -1,6 +1,7 @@
-use Rattle.std.proofs.Common.{◌≡◌, ℕ, ◌∙◌, List, length, ap}
-use Rattle.std.specs.Prelude.{min}
+use Rattle.std.proofs.Common.{◌≡◌, ℕ, ◌∙◌, List, length, ap, inl, subst}
+use Rattle.std.specs.Prelude.{None, min}
 use Rattle.std.specs.Str.Lines.{lines}
+use Rattle.lab_callers_text.specs.Readings.{IsRefused}
 use Rattle.lab_callers_text.specs.declared.acts.CallersStep.{CallersStep}
 use Rattle.lab_step_texts.specs.Crews.{set_up}
 use Rattle.lab_step_texts.proofs.ReadingLaws.{crew_asked, crew_read, crew_there, kept_read, unasked_read}
@@ -30,3 +31,6 @@ pub returns-in-Err-questions_of-clause-kept : goal.returns-in-Err-questions_of-c
 returns-in-Err-questions_of-clause-kept c =
     unasked_read (lines c.args.text.now) _ c.as_bytes.result.now c.args.split.now.setup c.in-Ok.read (c.as_bytes.ensures.value ∙ c.as_str.ensures.value) c.in-Ok.ensures.opens c.in-Err-questions_of.fault
     c.in-Err-questions_of.ensures.refused
+
+pub returns-in-Err-clause-kept : goal.returns-in-Err-clause-kept
+returns-in-Err-clause-kept c = inl (subst (λ (t : List ℕ). IsRefused None t c.in-Err.fault) (c.as_bytes.ensures.value ∙ c.as_str.ensures.value) c.in-Err.ensures.refused)

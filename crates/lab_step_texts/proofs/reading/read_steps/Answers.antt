@@ -1,4 +1,5 @@
-use Rattle.std.proofs.Common.{◌∙◌, sym}
+use Rattle.std.proofs.Common.{◌∙◌, inl, inr, refl, sym}
+use Rattle.evl_scenario.proofs.Texts.{is_utf8-false}
 use Rattle.lab_step_texts.proofs.ReadingLaws.{crew_split, refused_read, unplain_refused}
 use Rattle.lab_step_texts.proofs.reading.read_steps.Goals as goal
 
@@ -20,3 +21,6 @@ pub returns-in-Err-clause-refused : goal.returns-in-Err-clause-refused
 returns-in-Err-clause-refused c =
     let extras = c.in-Ok-extras_of.ensures in
     unplain_refused c.args.bytes.now c.in-Ok.text.now c.in-Ok-extras_of.extras c.in-Ok.ensures.cases.0 extras.strange extras.stray c.in-Err.fault c.in-Err.ensures.refused
+
+pub returns-in_default-clause-refused : goal.returns-in_default-clause-refused
+returns-in_default-clause-refused c = inr (inl (refl, is_utf8-false c.args.bytes.now c.in_default.ensures.cases.0))
