@@ -9,7 +9,7 @@ use Rattle.lab_faults.specs.declared.found.Found.{Found}
 use Rattle.lab_json.specs.Notices.{Said, fault_json, notice_json}
 use Rattle.lab_json.specs.Warned.{judged_said, warned_json}
 use Rattle.lab_json.specs.declared.notices.Noticed.TheVariants.{Fault, Unread as OfUnread}
-use Rattle.lab_kinds.specs.Kinds.{kind_of}
+use Rattle.lab_kinds.specs.Kinds.{checked_kind}
 use Rattle.lab_kinds.specs.Reports.{ScenarioTells, TellsKind, is_some_found}
 use Rattle.lab_kinds.specs.declared.kinds.TextKind.{TextKind}
 use Rattle.lab_lines.specs.Kinds.{IsPlain, IsUnread}
@@ -60,7 +60,7 @@ NotesUnread name text old new at_fault =
 -- what stands for a text; of a text of lines that can't be read its first fault
 abbrev pub NotesText : List Handler → List ℕ → List ℕ → List ℕ → List ℕ → Bool → Type 0
 NotesText bank name text old new at_fault =
-    ((plain : List ℕ) × IsPlain text plain × NotesKind bank (kind_of plain) name plain old new at_fault)
+    ((plain : List ℕ) × IsPlain text plain × NotesKind bank (checked_kind plain) name plain old new at_fault)
     ⊎ NotesUnread name text old new at_fault
 
 -- what is judged of its steps, if anything is

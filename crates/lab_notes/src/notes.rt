@@ -3,7 +3,7 @@ ghost use Rattle.std.specs.Prelude.{◌≡◌, ◌≤◌, ◌++◌, ◌∷◌, [
 ghost use Rattle.evl_plans.specs.Told.{handler_of};
 ghost use Rattle.lab_faults.specs.Told.{fault_told};
 ghost use Rattle.lab_json.specs.Notices.{notice_json};
-ghost use Rattle.lab_kinds.specs.Kinds.{kind_of};
+ghost use Rattle.lab_kinds.specs.Kinds.{checked_kind};
 ghost use Rattle.lab_kinds.specs.Reports as reports;
 ghost use Rattle.lab_kinds.specs.Reports.{ScenarioTells, TellsKind};
 ghost use Rattle.lab_notes.specs.Notes.{NotesAll, NotesEach, NotesFile, NotesKind, NotesText, NotesUnlessRefused, judged_notes, place_said, said_at, unread_said, warned_notes};
@@ -13,7 +13,7 @@ ghost use Rattle.lab_streams.specs.Streams.{EndsEarly};
 use evl_plans::Planned;
 use lab_faults::{Found, check};
 use lab_json::{Notice, Noticed, write_faults, write_judged, write_notice, write_warnings};
-use lab_kinds::{TextKind, check_bank, check_callers, check_orders, kind_of};
+use lab_kinds::{TextKind, check_bank, check_callers, check_orders, checked_kind};
 use lab_lines::{LinesFault, plain_text};
 use lab_plays::{Judged, judge, warn};
 use lab_streams::{AT_FAULT, Stream, Unread, read_file, read_plans, status_of, worse};
@@ -90,7 +90,7 @@ fn note_kind(
     Ok(false)
 }
 
-// The same of a text by its kind.
+// The same of a text, by the kind as which its faults are looked for.
 fn note_text(
     alloc: Global,
     plans: &[Planned],
@@ -98,9 +98,9 @@ fn note_text(
     text: &[u8],
     json: &mut String,
 ) -> Result<bool, AllocError>
-    ensures { IfOk result (NotesKind (map handler_of plans.now) (kind_of text.now) name.now text.now (string_bytes json.old) (string_bytes json.new)) }
+    ensures { IfOk result (NotesKind (map handler_of plans.now) (checked_kind text.now) name.now text.now (string_bytes json.old) (string_bytes json.new)) }
 {
-    let kind = kind_of(alloc, text)?;
+    let kind = checked_kind(alloc, text)?;
     note_kind(alloc, plans, kind, name, text, json)
 }
 

@@ -1,6 +1,6 @@
 use Rattle.std.proofs.Common.{◌≡◌, inl, inr, map, subst, sym, string_bytes, true}
 use Rattle.evl_plans.specs.Told.{handler_of}
-use Rattle.lab_kinds.specs.Kinds.{kind_of}
+use Rattle.lab_kinds.specs.Kinds.{checked_kind}
 use Rattle.lab_lines.specs.Kinds.{IsPlain}
 use Rattle.lab_notes.specs.Notes.{NotesKind, NotesText}
 use Rattle.lab_notes.proofs.NoteLemmas.{noted_as, noted_of}
@@ -13,7 +13,7 @@ returns-in-Ok c =
     let plain = c.as_slice.result.now in
     let is : IsPlain c.args.text.items plain = subst (IsPlain c.args.text.items) (sym c.as_slice.ensures.value) c.in-Ok.ensures.plain in
     let old = string_bytes c.args.json.now in
-    noted_as (NotesText bank name c.args.text.items old (string_bytes c.note_text.new.json)) (NotesKind bank (kind_of plain) name plain old (string_bytes c.note_text.new.json)) c.note_text.result
+    noted_as (NotesText bank name c.args.text.items old (string_bytes c.note_text.new.json)) (NotesKind bank (checked_kind plain) name plain old (string_bytes c.note_text.new.json)) c.note_text.result
     (λ b h. inl (plain, is, h)) c.note_text.ensures
 
 pub returns-in-Err : goal.returns-in-Err
