@@ -24,7 +24,7 @@ use Rattle.lab_drawing.specs.declared.marks.Mark.{Mark}
 use Rattle.lab_drawing.specs.declared.snapshots.Snapshot.{Snapshot}
 use Rattle.lab_drawing.specs.declared.moments.Moment.{Moment}
 use Rattle.lab_reports.specs.Events.{events_text}
-use Rattle.lab_draws.specs.Draws.{AreLinesOf, AreMomentsOf, DrawsCallers, DrawsIf, DrawsKind, DrawsMade, DrawsPage, DrawsPlayed, DrawsRun, DrawsText, IsDrawn, IsPicture, Origin, SaysFirst, callers, events_of, fault_words, goes_for, html_of, moments_at, undrawn_text, origin_of, page_at, page_text, picture_text, rows_of, scenario, table_of, threads, trace}
+use Rattle.lab_draws.specs.Draws.{AreLinesOf, AreMomentsOf, DrawsCallers, DrawsIf, DrawsKind, DrawsMade, DrawsPage, DrawsPlayed, DrawsRun, DrawsSome, IsDrawn, IsPicture, Origin, SaysFirst, callers, events_of, fault_words, goes_for, html_of, moments_at, undrawn_text, origin_of, page_at, page_text, picture_text, rows_of, scenario, table_of, threads, trace}
 use Rattle.lab_caller_pictures.specs.declared.plays.CallersRun.{CallersRun}
 use Rattle.lab_caller_pictures.specs.declared.plays.Entered.{Entered}
 use Rattle.lab_kinds.specs.Kinds.{kind_of}
@@ -222,10 +222,10 @@ others_told kind line e quiet spoken (Err x) other says = tt
 
 -- a text in UTF-8, and another
 pub of_text : (E : Type 0) (bank : List Handler) (drawing : Drawing) (bytes text : List ℕ) (old new quiet spoken : Option (List ℕ)) (r : Result ℕ E) → text ≡ bytes → is_utf8 bytes ≡ true
-    → IfOk r (Writes (DrawsText bank drawing text) old new quiet spoken) → IfOk r (Writes (DrawsIf bank (is_utf8 bytes) drawing bytes) old new quiet spoken)
+    → IfOk r (Writes (DrawsSome bank drawing text) old new quiet spoken) → IfOk r (Writes (DrawsIf bank (is_utf8 bytes) drawing bytes) old new quiet spoken)
 of_text E bank drawing bytes text old new quiet spoken r same utf8 w =
-    written_as E (DrawsIf bank (is_utf8 bytes) drawing bytes) old new quiet spoken (DrawsText bank drawing text) r
-    (λ output h. subst (λ (b : Bool). DrawsIf bank b drawing bytes output) (sym utf8) (subst (λ (t : List ℕ). DrawsText bank drawing t output) same h)) w
+    written_as E (DrawsIf bank (is_utf8 bytes) drawing bytes) old new quiet spoken (DrawsSome bank drawing text) r
+    (λ output h. subst (λ (b : Bool). DrawsIf bank b drawing bytes output) (sym utf8) (subst (λ (t : List ℕ). DrawsSome bank drawing t output) same h)) w
 
 pub of_no_text : (E : Type 0) (bank : List Handler) (drawing : Drawing) (bytes : List ℕ) (old quiet spoken : Option (List ℕ)) (r : Result ℕ E) → is_utf8 bytes ≡ false
     → OnOk r (Appends quiet spoken (codes "lab: the text is no UTF-8\n")) → IfOk r (λ s. s ≡ 2) → IfOk r (Writes (DrawsIf bank (is_utf8 bytes) drawing bytes) old old quiet spoken)

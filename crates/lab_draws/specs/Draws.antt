@@ -1,5 +1,5 @@
 -- What `lab draw` draws of a text.
-use Rattle.std.specs.Prelude.{string_bytes, ◌≡◌, ◌⊎◌, ◌<◌, ◌≤◌, ◌+◌, ◌*◌, ◌-◌, max, nat_le, nat_lt, ℕ, List, [], ◌++◌, map, take, drop, length, count_by, codes, decimal, Bool, true, false, if◌then◌else◌, Option, Some, None, unwrap_or, IsSomeAnd, Result, Ok, Err}
+use Rattle.std.specs.Prelude.{string_bytes, ◌≡◌, ◌⊎◌, ◌<◌, ◌≤◌, ◌+◌, ◌*◌, ◌-◌, max, nat_le, nat_lt, ℕ, List, [], ◌++◌, map, take, drop, length, count_by, codes, decimal, Bool, true, false, MatchBool, ◌==◌, if◌then◌else◌, Option, Some, None, unwrap_or, IsSomeAnd, Result, Ok, Err}
 use Rattle.std.specs.List.{All}
 use Rattle.std.specs.Option.{option_map_or}
 use Rattle.std.specs.Str.{is_utf8}
@@ -302,8 +302,12 @@ DrawsText bank drawing text output =
     ((front : List ℕ) × (back : List ℕ) × SplitsAroundMatch (FindsText closing) text front back × DrawsWhole bank drawing callers (front ++ line_feed) text output)
     ⊎ (FindsText closing text None × DrawsUnclosed bank drawing text output)
 
+-- an empty text is no trace: it is taken as a scenario
+abbrev pub DrawsSome : List Handler → Drawing → List ℕ → Output → Type 0
+DrawsSome bank drawing text output = MatchBool (length text == 0) (DrawsGiven bank drawing text 1 output) (DrawsText bank drawing text output)
+
 abbrev pub DrawsIf : List Handler → Bool → Drawing → List ℕ → Output → Type 0
-DrawsIf bank true drawing text output = DrawsText bank drawing text output
+DrawsIf bank true drawing text output = DrawsSome bank drawing text output
 DrawsIf bank false drawing text output = output ≡ refuses 2 (codes "lab: the text is no UTF-8\n")
 
 -- of a file, by what was read of it

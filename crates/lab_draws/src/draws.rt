@@ -1,12 +1,11 @@
 //! `lab draw`: the picture of a trace, of a scenario, which is played, or of what `lab callers` tells.
-ghost use Rattle.std.specs.Prelude.{◌≡◌, ◌≤◌, ◌++◌, codes, length, map, take, None, option_map, unwrap_or, IfErr, IfOk, OnOk, false};
+ghost use Rattle.std.specs.Prelude.{◌≡◌, ◌≤◌, ◌++◌, codes, length, map, take, None, option_map, unwrap_or, IfErr, IfOk, false};
 ghost use Rattle.std.specs.Str.{is_utf8};
-ghost use Rattle.std.specs.Io.KnownBytes.{Appends};
 ghost use Rattle.evl_plans.specs.Told.{handler_of};
 ghost use Rattle.evl_scenario.specs.Lines.{line_feed};
 ghost use Rattle.evl_shell.specs.Runs as runs;
 ghost use Rattle.lab_draws.specs.Draws as draws;
-ghost use Rattle.lab_draws.specs.Draws.{AreMomentsOf, Draws, DrawsGiven, DrawsIf, DrawsLines, DrawsMade, DrawsMarks, DrawsOver, DrawsPage, DrawsPlayed, DrawsRead, DrawsSvg, DrawsText, DrawsUnclosed, DrawsWhole, IsPicture, goes_for, origin_of};
+ghost use Rattle.lab_draws.specs.Draws.{AreMomentsOf, Draws, DrawsGiven, DrawsIf, DrawsLines, DrawsMade, DrawsMarks, DrawsOver, DrawsPage, DrawsPlayed, DrawsRead, DrawsSome, DrawsSvg, DrawsText, DrawsUnclosed, DrawsWhole, IsPicture, goes_for, origin_of};
 ghost use Rattle.lab_drawing.specs.Pictures.{going_text, shown_with};
 ghost use Rattle.lab_drawing.specs.declared.frames.Shows.TheVariants.{Words};
 ghost use Rattle.lab_streams.specs.Outputs.{Writes, WritesOfText};
@@ -14,18 +13,17 @@ ghost use Rattle.lab_streams.specs.Streams.{EndsEarly};
 
 use crate::callers_texts::{draw_unplayed, threads_moments};
 use crate::draw_faults::{tell_missing, tell_no_page, tell_page, tell_undrawn};
+use crate::draw_forms::{draw_events, draw_rows, draw_table};
 use crate::draw_html::drawn_of;
 use crate::firsts::first_of;
 use evl_plans::{Planned, trace_plans};
 use lab_caller_pictures::Entered;
 use lab_drawing::{
     Goes, Mark, Moment, lanes_of, marks_of, missing_callback, page, page_count, page_moments,
-    told_moments, write_callers, write_down, write_rows, write_svg, write_table, write_told,
-    write_told_down,
+    told_moments, write_callers, write_down, write_svg, write_told, write_told_down,
 };
 use lab_lines::plain_text;
 use lab_moments::moments_of;
-use lab_reports::write_events;
 use lab_streams::{
     AT_FAULT, Drawing, Form, Stream, Way, called, put, read_plans, read_text, refused, tell_place,
     tell_unread, text_in, with_line_feed,
@@ -192,42 +190,6 @@ fn draw_svg<O: Stream, E: Stream>(
         tell_no_page(err, drawing.page, all)
     } else {
         draw_page(alloc, marks, source, drawing, all, out, err)
-    }
-}
-
-// Writes marks as trace events.
-fn draw_events<O: Stream>(alloc: Global, marks: &[Mark<'_>], out: &mut O) -> io::Result<u8>
-    ensures status { IfOk result (λ status. status ≡ 0) }
-    ensures text { OnOk result (Appends (O.contents out.old) (O.contents out.new) (draws.events_of marks.now)) }
-    ensures early { IfErr result (EndsEarly false (O.has_failed out.new) false) }
-{
-    match write_events(alloc, marks) {
-        Ok(events) => put(out, events.as_bytes()),
-        Err(error) => Err(error.into()),
-    }
-}
-
-// Writes the table of marks.
-fn draw_table<O: Stream>(alloc: Global, marks: &[Mark<'_>], out: &mut O) -> io::Result<u8>
-    ensures status { IfOk result (λ status. status ≡ 0) }
-    ensures text { OnOk result (Appends (O.contents out.old) (O.contents out.new) (draws.table_of marks.now)) }
-    ensures early { IfErr result (EndsEarly false (O.has_failed out.new) false) }
-{
-    match write_table(alloc, marks) {
-        Ok(table) => put(out, table.as_slice()),
-        Err(error) => Err(error.into()),
-    }
-}
-
-// Writes marks in characters.
-fn draw_rows<O: Stream>(alloc: Global, marks: &[Mark<'_>], out: &mut O) -> io::Result<u8>
-    ensures status { IfOk result (λ status. status ≡ 0) }
-    ensures text { OnOk result (Appends (O.contents out.old) (O.contents out.new) (draws.rows_of marks.now)) }
-    ensures early { IfErr result (EndsEarly false (O.has_failed out.new) false) }
-{
-    match write_rows(alloc, marks) {
-        Ok(rows) => put(out, rows.as_bytes()),
-        Err(error) => Err(error.into()),
     }
 }
 
@@ -427,7 +389,26 @@ fn draw_text<O: Stream, E: Stream>(
     }
 }
 
-// Writes the picture of a text.
+// Writes the picture of a text; an empty one is no trace, so it is read as a scenario.
+fn draw_some<O: Stream, E: Stream>(
+    alloc: Global,
+    text: &str,
+    view: &View<'_>,
+    out: &mut O,
+    err: &mut E,
+) -> io::Result<u8>
+    requires few { length view.now.bank.now ≤ 64 }
+    ensures writes { IfOk result (Writes (DrawsSome (map handler_of view.now.bank.now) view.now.drawing text.now) (O.contents out.old) (O.contents out.new) (E.contents err.old) (E.contents err.new)) }
+    ensures early { IfErr result (EndsEarly false (O.has_failed out.new) (E.has_failed err.new)) }
+{
+    if text.is_empty() {
+        draw_given(alloc, text, 1, view, out, err)
+    } else {
+        draw_text(alloc, text, view, out, err)
+    }
+}
+
+// Writes the picture of bytes that are a text.
 fn draw_bytes<O: Stream, E: Stream>(
     alloc: Global,
     bytes: &[u8],
@@ -440,7 +421,7 @@ fn draw_bytes<O: Stream, E: Stream>(
     ensures early { IfErr result (EndsEarly false (O.has_failed out.new) (E.has_failed err.new)) }
 {
     match std::str::from_utf8(bytes) {
-        Ok(text) => draw_text(alloc, text, view, out, err),
+        Ok(text) => draw_some(alloc, text, view, out, err),
         Err(_) => tell_undrawn(err, "the text is no UTF-8"),
     }
 }

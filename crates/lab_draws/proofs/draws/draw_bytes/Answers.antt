@@ -8,7 +8,7 @@ use Rattle.lab_draws.proofs.draws.draw_bytes.Goals as goal
 pub returns-in-Ok-clause-writes : goal.returns-in-Ok-clause-writes
 returns-in-Ok-clause-writes g c =
     let bank : List Handler = map handler_of c.args.view.now.bank.now in
-    of_text _ bank c.args.view.now.drawing c.args.bytes.now c.in-Ok.text.now _ _ _ _ c.draw_text.result c.in-Ok.ensures.cases.0 (is_utf8-true c.args.bytes.now c.in-Ok.ensures.cases.1) c.draw_text.ensures.writes
+    of_text _ bank c.args.view.now.drawing c.args.bytes.now c.in-Ok.text.now _ _ _ _ c.draw_some.result c.in-Ok.ensures.cases.0 (is_utf8-true c.args.bytes.now c.in-Ok.ensures.cases.1) c.draw_some.ensures.writes
 
 pub returns-in-Err-clause-writes : goal.returns-in-Err-clause-writes
 returns-in-Err-clause-writes g c =

@@ -1,7 +1,7 @@
 use Rattle.std.proofs.Common.{◌∙◌, ℕ, List, OnOk, subst}
 use Rattle.std.specs.Io.KnownBytes.{Appends}
 use Rattle.lab_draws.proofs.DrawLemmas.{table_is}
-use Rattle.lab_draws.proofs.draws.draw_table.Goals as goal
+use Rattle.lab_draws.proofs.draw_forms.draw_table.Goals as goal
 
 pub returns-in-Ok-clause-text : goal.returns-in-Ok-clause-text
 returns-in-Ok-clause-text g c =
