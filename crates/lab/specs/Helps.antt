@@ -1,12 +1,15 @@
 -- What `lab help` tells.
-use Rattle.std.specs.Prelude.{◌≡◌, ℕ, List, ◌++◌, codes, Bool, true, false, Option, Some, None, is_some}
+use Rattle.std.specs.Prelude.{◌≡◌, ℕ, List, ◌++◌, codes, map, Bool, true, false, Option, Some, None, is_some}
+use Rattle.evl_base.specs.Calls.{name_of, words}
 use Rattle.evl_scenario.specs.Steps.{word_of}
+use Rattle.lab_faults.specs.Wants.{meant_or_near_text}
 use Rattle.lab_json.specs.Calls.{call_named, calls_json}
 use Rattle.lab_live.specs.Helps.{call_help, forms_text}
 use Rattle.lab_streams.specs.Outputs.{Output, prints, refuses}
 
+-- with the call that may be meant
 abbrev pub no_call_text : List ℕ → List ℕ
-no_call_text word = codes "lab: there is no call " ++ (word ++ codes "; ./lab help tells all\n")
+no_call_text word = codes "lab: there is no call " ++ (word ++ (meant_or_near_text word (map name_of words) ++ codes " (./lab help tells all)\n"))
 
 -- of a word that is a call's, or of another one
 abbrev pub HelpsWith : Bool → List ℕ → Output → Type 0

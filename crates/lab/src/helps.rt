@@ -1,17 +1,21 @@
 //! `lab help`: what calls look like.
-ghost use Rattle.std.specs.Prelude.{◌≡◌, [], Some, false, is_some, option_map, IfOk, OnOk, IfErr};
+ghost use Rattle.std.specs.Prelude.{◌≡◌, [], Some, false, is_some, map, option_map, string_bytes, IfOk, OnOk, IfErr};
 ghost use Rattle.std.specs.Io.KnownBytes.{Appends};
+ghost use Rattle.evl_base.specs.Calls.{name_of, words};
 ghost use Rattle.evl_scenario.specs.Steps.{word_of};
+ghost use Rattle.lab_faults.specs.Wants.{meant_or_near_text};
 ghost use Rattle.lab_live.specs.Helps.{call_help, forms_text};
 ghost use Rattle.lab.specs.Helps.{Helps, HelpsJson, no_call_text};
 ghost use Rattle.lab_json.specs.Calls.{call_named, calls_json};
 ghost use Rattle.lab_streams.specs.Outputs.{Writes};
 ghost use Rattle.lab_streams.specs.Streams.{EndsEarly};
 
+use evl_base::STEP_WORDS;
+use lab_faults::meant_or_near;
 use lab_json::write_calls;
 use lab_live::{write_call_of, write_forms};
 use lab_streams::{REFUSED, Stream};
-use std::alloc::Global;
+use std::alloc::{AllocError, Global};
 use std::io;
 
 // Prints a form of each call.
@@ -39,13 +43,32 @@ fn print_call<O: Stream>(alloc: Global, word: &str, out: &mut O) -> io::Result<b
     Ok(is_call)
 }
 
-// Tells that no call has a word.
-fn tell_no_call<E: Stream>(err: &mut E, word: &str) -> io::Result<u8>
+// The words of all calls.
+fn call_words() -> &'static [&'static str]
+    ensures { map (λ word. word.now) result.now ≡ map name_of words }
+{
+    &STEP_WORDS
+}
+
+// What is said of the call that is meant by a word, or of the nearest, or nothing.
+fn meant_call(alloc: Global, word: &str) -> Result<String, AllocError>
+    ensures { IfOk result (λ hint. string_bytes hint ≡ meant_or_near_text word.now (map name_of words)) }
+{
+    meant_or_near(alloc, word, call_words())
+}
+
+// Tells that no call has a word, and which may be meant.
+fn tell_no_call<E: Stream>(alloc: Global, err: &mut E, word: &str) -> io::Result<u8>
     ensures status { IfOk result (λ status. status ≡ 3) }
     ensures line { OnOk result (Appends (E.contents err.old) (E.contents err.new) (no_call_text word.now)) }
     ensures early { IfErr result (EndsEarly false false (E.has_failed err.new)) }
 {
-    writeln!(err, "lab: there is no call {word}; ./lab help tells all")?;
+    let hint = meant_call(alloc, word)?;
+    let hint = hint.as_str();
+    writeln!(
+        err,
+        "lab: there is no call {word}{hint} (./lab help tells all)"
+    )?;
     Ok(REFUSED)
 }
 
@@ -62,7 +85,7 @@ fn help_with<O: Stream, E: Stream>(
     if print_call(alloc, call, out)? {
         return Ok(0);
     }
-    tell_no_call(err, call)
+    tell_no_call(alloc, err, call)
 }
 
 // Prints a line of JSON for each call.
@@ -103,7 +126,7 @@ fn help_with_json<O: Stream, E: Stream>(
     if print_call_json(alloc, call, out)? {
         return Ok(0);
     }
-    tell_no_call(err, call)
+    tell_no_call(alloc, err, call)
 }
 
 /// Prints a line of JSON for each call, or for one, and answers the status: 3 where there is no such call.
