@@ -12,6 +12,8 @@ HOLDERS = 0xFFFF
 COUNTS = re.compile(r"# (\d+) orders?, (\d+) outcomes?, (\d+) moments?")
 OUTCOME = re.compile(r"# outcome \d+: (\d+) orders?")
 TURN = re.compile(r"T(\d+) (\w+)")
+STEP = re.compile(r"# T(\d+) step (\d+): (.*)")
+PART = re.compile(r"(.+?) in (\d+) orders?(?:, |$)")
 
 
 class Text:
@@ -149,6 +151,29 @@ def random_text(dice):
     return Text(staxes, mutexes, callers)
 
 
+def answers_of(text, wanted):
+    """In how many orders each call has each answer, or isn't made, by what is told of the outcomes."""
+    counts = collections.Counter()
+    for told, count in wanted.items():
+        for who, (_, calls) in enumerate(text.callers):
+            line = re.search(rf"(?m)^# T{who}( -> .*)$", told)
+            answers = line.group(1).split(" -> ")[1:] if line else []
+            for n in range(len(calls)):
+                counts[who, n + 1, answers[n] if n < len(answers) else "not made"] += count
+    return counts
+
+
+def other_answers(command, text, wanted):
+    """Where `--answers` differs from that, as lines."""
+    done = subprocess.run(command + ["--answers"], input=text.written(), capture_output=True, text=True, check=False)
+    found = collections.Counter()
+    for line in done.stdout.splitlines()[1:]:
+        who, step, parts = STEP.fullmatch(line).groups()
+        for answer, count in PART.findall(parts):
+            found[int(who), int(step), answer] += int(count)
+    return [] if found == answers_of(text, wanted) else [f"other answers of calls:\n{done.stdout}"]
+
+
 def compare(command, text):
     """Where the report of a text differs from what is counted here, as lines."""
     done = subprocess.run(command, input=text.written(), capture_output=True, text=True, check=False)
@@ -164,4 +189,5 @@ def compare(command, text):
         found[told] = int(OUTCOME.match(lines[0]).group(1))
         if led(text, TURN.findall(lines[-1])) != told:
             faults.append(f"{lines[-1]} doesn't lead to\n{told}")
+    faults += other_answers(command, text, wanted)
     return faults + [f"{found.get(told)} orders, and not {wanted[told]}, lead to\n{told}" for told in {**wanted, **found} if found.get(told) != wanted.get(told)]

@@ -3,6 +3,12 @@ use Rattle.std.proofs.Common.{◌≡◌, ℕ, ◌++◌, Bool, true, false, List,
 use Rattle.std.specs.Prelude.{MatchBool}
 use Rattle.lab_scenario_orders.specs.Verdicts.{is_count_against}
 use Rattle.lab_scenario_orders.specs.declared.asks.Ask.{Ask}
+use Rattle.lab_orders.specs.Machines.{orders}
+use Rattle.lab_orders.specs.Tallies.{told_weight}
+use Rattle.lab_orders.proofs.Totals.{total_of_ones}
+use Rattle.lab_step_orders.specs.Outcomes.{AreOutcomes}
+use Rattle.lab_step_orders.specs.Seen.{first_seen, machine}
+use Rattle.lab_step_orders.specs.declared.crews.Crew.{Crew}
 use Rattle.lab_step_orders.specs.declared.outcomes.StepOutcomes.{StepOutcomes}
 use Rattle.lab_streams.specs.Endings.{line_about}
 use Rattle.lab_asks.specs.StepOrders.{line_words, wanted_text}
@@ -14,6 +20,10 @@ is_first false A B e a = cc
 pub is_second : (b : Bool) (A B : Type 0) → b ≡ false → B → MatchBool b A B
 is_second true A B e b = cc
 is_second false A B e b = b
+
+-- the outcomes have as many orders together as were counted
+pub all_are_counted : (c : Crew) (most : ℕ) (found : StepOutcomes) → AreOutcomes c most found → told_weight (λ told. 1) found.all.items ≡ found.count
+all_are_counted c most found are = are.counted (λ told. 1) ∙ (total_of_ones (orders (machine c) (first_seen c) found.steps) ∙ sym are.count)
 
 -- a number and words behind it, in a line
 pub step_line : (name words said : List ℕ) (number : ℕ) → said ≡ words

@@ -1,5 +1,5 @@
 -- What `lab orders` tells of the orders of callers' atomic steps.
-use Rattle.std.specs.Prelude.{◌≡◌, ◌⊎◌, ◌+◌, ◌-◌, ◌^◌, min, ℕ, Bool, ◌||◌, MatchBool, if◌then◌else◌, length, nat_lt, List, ◌++◌, codes, decimal, position, slice_get, string_bytes, Option, Some, None, IsSomeAnd, is_some, option_and_then, Result, Ok, Err}
+use Rattle.std.specs.Prelude.{◌≡◌, ◌⊎◌, ◌+◌, ◌-◌, ◌^◌, min, ℕ, Bool, ◌||◌, MatchBool, if◌then◌else◌, length, nat_lt, List, [], ◌∷◌, ◌++◌, codes, decimal, position, slice_get, string_bytes, Option, Some, None, IsSomeAnd, is_some, option_and_then, Result, Ok, Err}
 use Rattle.toml.specs.Parse.{parse_document}
 use Rattle.lab_orders.specs.declared.levels.OrdersError.TheVariants.{Count}
 use Rattle.lab_orders.specs.declared.tallies.Tally.{Tally}
@@ -11,8 +11,10 @@ use Rattle.lab_scenario_orders.specs.declared.asks.Ask.{Ask}
 use Rattle.lab_scenario_orders.specs.declared.asks.AskFault.{AskFault}
 use Rattle.lab_scenario_orders.specs.declared.asks.Never.{Never}
 use Rattle.lab_step_orders.specs.Outcomes.{AreOutcomes, CanNotTell}
-use Rattle.lab_step_orders.specs.Reports.{report_text}
+use Rattle.lab_answers.specs.Answers.{answers_text}
+use Rattle.lab_step_orders.specs.Reports.{counts_text, report_text}
 use Rattle.lab_step_orders.specs.declared.crews.Crew.{Crew}
+use Rattle.lab_step_orders.specs.declared.crews.CrewCaller.{CrewCaller}
 use Rattle.lab_step_orders.specs.declared.outcomes.StepOutcomes.{StepOutcomes}
 use Rattle.lab_step_pictures.specs.Lines.{order_lines}
 use Rattle.lab_step_texts.specs.Answers.{first_impossible}
@@ -43,6 +45,15 @@ report_of crew found = report_text crew found
 
 unfoldable pub lines_of : Crew → List ℕ → List ℕ
 lines_of crew order = order_lines crew order
+
+-- the answers that came to each call of these callers, the first of whom has this number
+abbrev pub callers_answers : List Tally → ℕ → List CrewCaller → List ℕ
+callers_answers outcomes number [] = []
+callers_answers outcomes number (caller ∷ rest) = answers_text outcomes number (length caller.calls.items) ++ callers_answers outcomes (number + 1) rest
+
+-- behind the report's counts
+unfoldable pub answers_of : Crew → StepOutcomes → List ℕ
+answers_of crew found = counts_text found ++ callers_answers found.all.items 0 crew.callers.items
 
 -- ---- what came of what is asked
 
@@ -108,9 +119,10 @@ abbrev pub state_told : List ℕ → ℕ → Crew → Ask → StepOutcomes → O
 state_told name number crew asks found None = refuses 2 (line_about name (codes "no order leads to state " ++ decimal number))
 state_told name number crew asks found (Some order) = verdict (lines_of crew order) name asks found
 
--- the report, or one order alone
+-- the report, the answers, or one order alone
 abbrev pub outcomes_told : StepView → List ℕ → Crew → Ask → StepOutcomes → Output
 outcomes_told view.Report name crew asks found = verdict (report_of crew found) name asks found
+outcomes_told view.Answers name crew asks found = verdict (answers_of crew found) name asks found
 outcomes_told (view.Outcome number) name crew asks found = one_told name number crew asks found (slice_get found.all.items (number - 1))
 outcomes_told (view.State number) name crew asks found = state_told name number crew asks found (order_at found.firsts.items number)
 
@@ -125,11 +137,11 @@ abbrev pub told_for : Shown → Result StepView (List ℕ)
 told_for Report = Ok view.Report
 told_for (Outcome number) = Ok (view.Outcome number)
 told_for (State number) = Ok (view.State number)
+told_for Answers = Ok view.Answers
 told_for Json = Err (codes "--json is for orders of whole calls")
 told_for Alone = Err (codes "--ask is for orders of whole calls")
 told_for First = Err (codes "--first is for orders of whole calls")
 told_for (Order text) = Err (codes "--order is for orders of whole calls")
-told_for Answers = Err (codes "--answers is for orders of whole calls")
 
 abbrev pub TellsGone : ℕ → List ℕ → Crew → Ask → Result StepView (List ℕ) → Output → Type 0
 TellsGone most name crew asks (Ok one) output = TellsFound most one name crew asks output

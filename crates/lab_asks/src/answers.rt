@@ -17,8 +17,8 @@ use lab_streams::{Asked, Stream};
 use std::alloc::{AllocError, Global};
 use std::io;
 
-// A number of orders is one that a count tells.
-fn know_count(count: u128)
+/// A number of orders is one that a count tells.
+pub(crate) fn know_count(count: u128)
     ensures { count < count_limit }
 {}
 

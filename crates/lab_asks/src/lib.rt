@@ -8,6 +8,7 @@ mod numbered;
 mod one_order;
 mod order_faults;
 mod orders;
+mod step_answers;
 mod step_found;
 mod step_orders;
 mod verdicts;

@@ -1,10 +1,12 @@
 //! What is printed of the orders of callers' atomic steps.
 ghost use Rattle.std.specs.Prelude.{◌≡◌, option_map, string_bytes, IfErr, IfOk, false};
+ghost use Rattle.lab_orders.specs.Tallies.{told_weight};
 ghost use Rattle.lab_streams.specs.Outputs.{Writes};
 ghost use Rattle.lab_streams.specs.Streams.{EndsEarly};
 ghost use Rattle.lab_asks.specs.StepOrders.{lines_of, one_told, outcomes_told, report_of, state_told, verdict};
 
 use crate::numbered::{order_at, outcome_at, tell_no_outcome, tell_no_state};
+use crate::step_answers::answers_of;
 use crate::step_orders::tell_printed;
 use lab_orders::Tally;
 use lab_scenario_orders::Ask;
@@ -22,6 +24,8 @@ pub(crate) enum StepView {
     Outcome(u32),
     /// The same of the first order that leads to a moment as the question with this number looks for, from 1.
     State(u32),
+    /// Which answers came to each call.
+    Answers,
 }
 
 // The report.
@@ -54,7 +58,27 @@ fn tell_report<O: Stream, E: Stream>(
     ensures early { IfErr result (EndsEarly false (O.has_failed out.new) (E.has_failed err.new)) }
 {
     match report_of(alloc, crew, found) {
-        Ok(report) => tell_printed(report.as_str(), name, ask, found, out, err),
+        Ok(report) => tell_printed(report.as_bytes(), name, ask, found, out, err),
+        Err(error) => Err(error.into()),
+    }
+}
+
+// Prints the answers of all calls, and answers the status.
+fn tell_answers<O: Stream, E: Stream>(
+    alloc: Global,
+    name: &str,
+    crew: &Crew,
+    ask: &Ask,
+    found: &StepOutcomes,
+    out: &mut O,
+    err: &mut E,
+) -> io::Result<u8>
+    requires { told_weight (λ told. 1) found.now.all.items ≡ found.now.count }
+    ensures writes { IfOk result (Writes (λ output. output ≡ outcomes_told StepView.Answers name.now crew.now ask.now found.now) (O.contents out.old) (O.contents out.new) (E.contents err.old) (E.contents err.new)) }
+    ensures early { IfErr result (EndsEarly false (O.has_failed out.new) (E.has_failed err.new)) }
+{
+    match answers_of(alloc, crew, found) {
+        Ok(text) => tell_printed(text.as_slice(), name, ask, found, out, err),
         Err(error) => Err(error.into()),
     }
 }
@@ -74,7 +98,7 @@ fn tell_lines<O: Stream, E: Stream>(
     ensures early { IfErr result (EndsEarly false (O.has_failed out.new) (E.has_failed err.new)) }
 {
     match lines_of(alloc, crew, order) {
-        Ok(text) => tell_printed(text.as_str(), name, ask, found, out, err),
+        Ok(text) => tell_printed(text.as_bytes(), name, ask, found, out, err),
         Err(error) => Err(error.into()),
     }
 }
@@ -135,11 +159,13 @@ pub(crate) fn tell_found<O: Stream, E: Stream>(
     out: &mut O,
     err: &mut E,
 ) -> io::Result<u8>
+    requires { told_weight (λ told. 1) found.now.all.items ≡ found.now.count }
     ensures writes { IfOk result (Writes (λ output. output ≡ outcomes_told view name.now crew.now ask.now found.now) (O.contents out.old) (O.contents out.new) (E.contents err.old) (E.contents err.new)) }
     ensures early { IfErr result (EndsEarly false (O.has_failed out.new) (E.has_failed err.new)) }
 {
     match view {
         StepView::Report => tell_report(alloc, name, crew, ask, found, out, err),
+        StepView::Answers => tell_answers(alloc, name, crew, ask, found, out, err),
         StepView::Outcome(number) => {
             let outcome = outcome_at(found.all.as_slice(), number);
             tell_one(alloc, name, number, crew, ask, found, outcome, out, err)

@@ -113,7 +113,7 @@ fn against_in(ask: &Ask, found: &StepOutcomes) -> Option<usize>
 
 /// Prints this, and tells what came of what is asked; answers the status.
 pub(crate) fn tell_printed<O: Stream, E: Stream>(
-    printed: &str,
+    printed: &[u8],
     name: &str,
     ask: &Ask,
     found: &StepOutcomes,
@@ -123,7 +123,7 @@ pub(crate) fn tell_printed<O: Stream, E: Stream>(
     ensures writes { IfOk result (Writes (λ output. output ≡ verdict printed.now name.now ask.now found.now) (O.contents out.old) (O.contents out.new) (E.contents err.old) (E.contents err.new)) }
     ensures early { IfErr result (EndsEarly false (O.has_failed out.new) (E.has_failed err.new)) }
 {
-    out.write_all(printed.as_bytes())?;
+    out.write_all(printed)?;
     tell_against(err, name, ask, found, against_in(ask, found))
 }
 
@@ -159,11 +159,11 @@ fn told_for(shown: Shown<'_>) -> Result<StepView, &'static str>
         Shown::Report => Ok(StepView::Report),
         Shown::Outcome(number) => Ok(StepView::Outcome(number)),
         Shown::State(number) => Ok(StepView::State(number)),
+        Shown::Answers => Ok(StepView::Answers),
         Shown::Json => Err("--json is for orders of whole calls"),
         Shown::Alone => Err("--ask is for orders of whole calls"),
         Shown::First => Err("--first is for orders of whole calls"),
         Shown::Order(_) => Err("--order is for orders of whole calls"),
-        Shown::Answers => Err("--answers is for orders of whole calls"),
     }
 }
 

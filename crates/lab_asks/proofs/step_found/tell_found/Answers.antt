@@ -11,6 +11,11 @@ returns-in-Report-clause-writes g c =
     let told = outcomes_told view.Report c.args.name.now c.args.crew.now c.args.ask.now c.args.found.now in
     rw c.in-Report.is (written_as _ (λ output. output ≡ told) _ _ _ _ (λ output. output ≡ told) c.tell_report.result (λ output h. h) c.tell_report.ensures.writes)
 
+pub returns-in-Answers-clause-writes : goal.returns-in-Answers-clause-writes
+returns-in-Answers-clause-writes g c =
+    let told = outcomes_told view.Answers c.args.name.now c.args.crew.now c.args.ask.now c.args.found.now in
+    rw c.in-Answers.is (written_as _ (λ output. output ≡ told) _ _ _ _ (λ output. output ≡ told) c.tell_answers.result (λ output h. h) c.tell_answers.ensures.writes)
+
 pub returns-in-Outcome-clause-writes : goal.returns-in-Outcome-clause-writes
 returns-in-Outcome-clause-writes g c =
     let found = c.args.found.now in

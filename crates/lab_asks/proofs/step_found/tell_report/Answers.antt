@@ -9,6 +9,6 @@ returns-in-Ok-clause-writes g c =
     let name = c.args.name.now in
     let ask = c.args.ask.now in
     let found = c.args.found.now in
-    let is = ap (λ (text : List ℕ). verdict text name ask found) (c.as_str.ensures.value ∙ c.in-Ok.ensures) in
-    written_as _ (λ output. output ≡ outcomes_told view.Report name c.args.crew.now ask found) _ _ _ _ (λ output. output ≡ verdict c.as_str.result.now name ask found) c.tell_printed.result (λ output h. h ∙ is)
+    let is = ap (λ (text : List ℕ). verdict text name ask found) (c.as_bytes.ensures.value ∙ c.in-Ok.ensures) in
+    written_as _ (λ output. output ≡ outcomes_told view.Report name c.args.crew.now ask found) _ _ _ _ (λ output. output ≡ verdict c.as_bytes.result.now name ask found) c.tell_printed.result (λ output h. h ∙ is)
     c.tell_printed.ensures.writes

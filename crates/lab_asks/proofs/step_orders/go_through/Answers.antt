@@ -4,8 +4,12 @@ use Rattle.lab_orders.specs.declared.levels.OrdersError.{OrdersError}
 use Rattle.lab_step_orders.specs.Outcomes.{CanNotTell}
 use Rattle.lab_streams.specs.Endings.{line_about}
 use Rattle.lab_asks.specs.StepOrders.{TellsFound, outcomes_told}
+use Rattle.lab_asks.proofs.StepOrderLemmas.{all_are_counted}
 use Rattle.lab_streams.proofs.OutputLemmas.{told, written_as}
 use Rattle.lab_asks.proofs.step_orders.go_through.Goals as goal
+
+pub tell_found-requires : goal.tell_found-requires
+tell_found-requires g c = all_are_counted c.args.crew.now c.args.asked.now.most c.in-Ok.found c.in-Ok.ensures.outcomes
 
 pub returns-in-Ok-clause-writes : goal.returns-in-Ok-clause-writes
 returns-in-Ok-clause-writes g c =

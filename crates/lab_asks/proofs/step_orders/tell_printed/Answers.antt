@@ -12,4 +12,4 @@ returns-clause-writes g c =
     let found = c.args.found.now in
     let output : Option ℕ → Output = λ place. record { printed = printed; said = asked_text name ask found place; status = asked_status ask found place } in
     written_err _ (λ output. output ≡ verdict printed name ask found) _ _ _ _ printed (asked_text name ask found c.against_in.result) (asked_status ask found c.against_in.result)
-    c.tell_against.result (ap output c.against_in.ensures) (rw c.as_bytes.ensures.value at c.in_ok-write_all.ensures.bytes) c.tell_against.ensures.line c.tell_against.ensures.status
+    c.tell_against.result (ap output c.against_in.ensures) c.in_ok-write_all.ensures.bytes c.tell_against.ensures.line c.tell_against.ensures.status
