@@ -239,6 +239,7 @@ fn answer_other(
         b"scenario" => write_own_scenario(alloc, told, session),
         b"save" => write_own_scenario(alloc, told, session),
         b"quit" => told.push_str("Ctrl-D ends\n"),
+        b"exit" => told.push_str("Ctrl-D ends\n"),
         b"draw" => told.push_str("! 5: a file is wanted, as draw picture.svg\n"),
         [b'?', b' ', word @ ..] => write_help_of(told, text_of(word)),
         _ => answer_unread(alloc, text, told),

@@ -203,10 +203,11 @@ fn help_tells_what_keys_take(rt: HostRuntime) {
 }
 
 // What beginners type, and what they are answered.
-const BEGINNERS: [(&str, &str); 12] = [
+const BEGINNERS: [(&str, &str); 13] = [
     ("undo", "undone: T0 put sem=0\n"),
     ("undo", "! 1: nothing was asked so far\n"),
     ("quit", "Ctrl-D ends\n"),
+    ("exit", "Ctrl-D ends\n"),
     ("draw", "! 5: a file is wanted, as draw picture.svg\n"),
     (
         "lock",
