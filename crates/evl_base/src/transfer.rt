@@ -1,5 +1,5 @@
 //! The bytes of one transfer in a box of their own, and boxes that are kept for transfers to come.
-ghost use Rattle.std.specs.Prelude.{◌≡◌, ◌≤◌, ◌<◌, ◌+◌, length, max, [], Err, OnOk, OnErr, IfOk, IfErr};
+ghost use Rattle.std.specs.Prelude.{◌≡◌, ◌≤◌, ◌<◌, ◌+◌, length, max, [], Err, OnOk, OnErr, IfOk, IfErr, IfNone};
 
 use crate::refusal::Refusal;
 use crate::way::Bytes;
@@ -68,6 +68,7 @@ impl Transfer {
     }
 
     /// These bytes, at most 256, take the place of the ones that were there; the box stays.
+    #[inline(always)]
     pub fn set(&mut self, bytes: &[u8])
         requires { length bytes.now ≤ 256 }
         ensures { self.new.items ≡ bytes.now }
@@ -116,6 +117,34 @@ impl<A: Allocator> Spares<A> {
             self.boxes.push(made).map_err(|_| Refusal::NoMemory)?;
         }
         Ok(())
+    }
+
+    /// Two boxes with whatever bytes: of those that were kept, where there are two, else new ones; none where one was
+    /// refused, and those that were kept stay.
+    #[inline(always)]
+    pub fn pair(&mut self) -> Option<(Transfer, Transfer)>
+        ensures spent { self.old ≤ self.new + 2 }
+        ensures kept { IfNone result (self.new ≡ self.old) }
+    {
+        if self.boxes.len() < 2 {
+            return self.new_pair();
+        }
+        match (self.boxes.pop(), self.boxes.pop()) {
+            (Some(first), Some(second)) => Some((first, second)),
+            _ => None,
+        }
+    }
+
+    // Two boxes more; none where one was refused.
+    #[inline(always)]
+    fn new_pair(&self) -> Option<(Transfer, Transfer)> {
+        let Ok(first) = Transfer::empty(self.alloc) else {
+            return None;
+        };
+        let Ok(second) = Transfer::empty(self.alloc) else {
+            return None;
+        };
+        Some((first, second))
     }
 
     /// A box with these bytes, one of those that were kept.

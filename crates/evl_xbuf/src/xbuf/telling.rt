@@ -1,5 +1,5 @@
 //! The calls on a cross-buffer with the services told into a list of the caller's, so that no such list is moved.
-ghost use Rattle.std.specs.Prelude.{◌≡◌, ◌<◌, false, [], None, Some, IfErr, if◌then◌else◌};
+ghost use Rattle.std.specs.Prelude.{◌≡◌, ◌<◌, ◌≤◌, ◌+◌, true, false, [], None, Some, Ok, IfErr, IfNone, IfSome, if◌then◌else◌};
 ghost use Rattle.std.specs.Option.{option_map};
 ghost use Rattle.evl_base.specs.Limits.{thread_limit};
 ghost use Rattle.evl_sync.specs.Queues.{stands_in};
@@ -8,7 +8,7 @@ ghost use Rattle.evl_xbuf.specs.Xbufs.{begin_read, begin_write, drop_waiter, rea
 
 use super::XbufOf;
 use crate::services::Services;
-use evl_base::{Bytes, Refusal, Stage, ThreadId, Way};
+use evl_base::{Bytes, Refusal, Spares, Stage, ThreadId, Transfer, Way};
 use std::alloc::Allocator;
 
 // The most bytes of one transfer.
@@ -35,6 +35,46 @@ impl<A: Allocator> XbufOf<A> {
         match way {
             Way::In => self.inbound.try_write(bytes, told),
             Way::Out => self.outbound.try_write(bytes, told),
+        }
+    }
+
+    /// Writes all of the bytes, as `try_write` does, where that is accepted and nobody waits, and says whether it did;
+    /// nothing changes else. (Xenomai 4: EVL cross-buffer; this profile)
+    #[inline(always)]
+    pub fn write_unserved(&mut self, stage: Stage, way: Way, bytes: &[u8]) -> bool
+        ensures step { result ≡ true → try_write stage way bytes.now self.old ≡ Ok ([], self.new) }
+        ensures kept { result ≡ false → self.new ≡ self.old }
+    {
+        if !writes(stage, way) {
+            return false;
+        }
+        match way {
+            Way::In => self.inbound.write_unserved(bytes),
+            Way::Out => self.outbound.write_unserved(bytes),
+        }
+    }
+
+    /// Reads as `try_read` does, into two boxes of `spares`, where that is accepted, nobody waits and the bytes lie in one
+    /// piece; none, and nothing changes, else or where a box was refused. (Xenomai 4: EVL cross-buffer; this profile)
+    #[inline(always)]
+    pub fn read_unserved<B: Allocator>(
+        &mut self,
+        stage: Stage,
+        way: Way,
+        len: u16,
+        spares: &mut Spares<B>,
+    ) -> Option<(Transfer, Transfer)>
+        ensures step { IfSome result (λ two. try_read stage way len self.old ≡ Ok ((two.0.items, []), self.new)) }
+        ensures twice { IfSome result (λ two. two.1.items ≡ two.0.items) }
+        ensures spent { spares.old ≤ spares.new + 2 }
+        ensures kept { IfNone result ((self.new ≡ self.old) × (spares.new ≡ spares.old)) }
+    {
+        if len > MAX_TRANSFER || !reads(stage, way) {
+            return None;
+        }
+        match way {
+            Way::In => self.inbound.read_unserved(len, spares),
+            Way::Out => self.outbound.read_unserved(len, spares),
         }
     }
 
