@@ -19,16 +19,17 @@ ghost use Rattle.evl_kernel.specs.state.Places.{AreInOnePlace};
 ghost use Rattle.evl_kernel.specs.state.KernelViews.{AddsEntry, IsOpened, IsKernelAnswer, makes_entry};
 
 mod likeness;
+mod quick;
 mod readers;
 mod room;
 
 use crate::allocators::another;
-use crate::kernel::room::{fence_after, find_room, is_within, make_room};
+use crate::kernel::quick::writes_quickly;
+use crate::kernel::room::{fence_after, find_room, make_room};
 use crate::records::Records;
 use crate::served_lists::ServedLists;
 use evl_base::{
-    Board, Call, Entry, LineNo, MutexId, Play, Refusal, Reply, SemId, Spares, Stage, ThreadId,
-    TimerId,
+    Board, Call, Entry, LineNo, MutexId, Play, Refusal, Reply, Spares, Stage, ThreadId, TimerId,
 };
 use evl_clock::TimerState;
 use evl_pipeline::{Callback, Handler};
@@ -202,6 +203,40 @@ impl<C: Handler, A: Allocator> KernelOf<C, A> {
         if self.answers_quickly(caller, &call) {
             return Ok(Reply::Done);
         }
+        if let Some(bytes) = self.reads_quickly(caller, &call) {
+            return Ok(Reply::Bytes(bytes));
+        }
+        let fence = self.fence;
+        if !writes_quickly(&mut self.records, &self.history, fence, caller, &call) {
+            return self.apply_and_settle(caller, call);
+        }
+        self.history.push_reserved(Entry {
+            caller,
+            call,
+            reply: Ok(Reply::Done),
+            plays: 0,
+        });
+        Ok(Reply::Done)
+    }
+
+    // The same by the way that every call can take.
+    #[inline(always)]
+    fn apply_and_settle(&mut self, caller: ThreadId, call: Call) -> Result<Reply, Refusal>
+        requires by_plan { AnswersByPlan C.declared C.plan self.old.callbacks }
+        ensures entry { IsTrue (makes_entry result) → AddsEntry self.old.history caller.0 call result self.new.history }
+        ensures none { IsFalse (makes_entry result) → self.new.history ≡ self.old.history }
+        ensures full { (result ≡ Err Refusal.HistoryFull) ↔ (length self.old.history.entries ≡ self.old.limit) }
+        ensures memory { result ≡ Err Refusal.NoMemory → self.old.room ≡ 0 }
+        ensures answers { IsKernelAnswer result }
+        ensures limit { self.new.limit ≡ self.old.limit }
+        ensures room { self.old.room ≤ self.new.room + 1 }
+        ensures legal { IsLegal self.new.history }
+        ensures by_plan { AnswersByPlan C.declared C.plan self.new.callbacks }
+        ensures brings { BringsNone self.old.callbacks self.new.callbacks }
+        ensures handlers { handlers_in self.new.callbacks.bank ≡ handlers_in self.old.callbacks.bank }
+        ensures called { AddsByCalls C.gives self.old.callbacks self.old.history caller.0 call self.new.history }
+        ensures places { AreInOnePlace self.new.callbacks }
+    {
         find_room(
             &mut self.history,
             &mut self.plays,
@@ -239,84 +274,6 @@ impl<C: Handler, A: Allocator> KernelOf<C, A> {
                 Ok(given)
             }
         }
-    }
-
-    // Answers a call at which nobody is served and nothing is played, where that takes one look and one step, and says
-    // whether it did; nothing changes else.
-    #[inline(always)]
-    fn answers_quickly(&mut self, caller: ThreadId, call: &Call) -> bool
-        ensures entry { result ≡ true → AddsEntry self.old.history caller.0 call.now (Ok Reply.Done) self.new.history }
-        ensures plays { self.new.history.plays ≡ self.old.history.plays }
-        ensures within { result ≡ true → length self.old.history.entries < self.old.limit }
-        ensures kept { result ≡ false → self.new ≡ self.old }
-        ensures callbacks { self.new.callbacks ≡ self.old.callbacks }
-        ensures limit { self.new.limit ≡ self.old.limit }
-        ensures room { self.old.room ≤ self.new.room + 1 }
-        ensures legal { IsLegal self.new.history }
-        ensures places { AreInOnePlace self.new.callbacks }
-    {
-        let _ = &self.board;
-        match call {
-            Call::Put { sem } => self.put_quickly(caller, *sem),
-            Call::TryGet { sem } => self.get_quickly(caller, *sem),
-            _ => false,
-        }
-    }
-
-    // Answers a put at which nobody is served and nothing is played, and says whether it did; nothing changes else.
-    #[inline(always)]
-    fn put_quickly(&mut self, caller: ThreadId, sem: SemId) -> bool
-        ensures entry { result ≡ true → AddsEntry self.old.history caller.0 (Call.Put sem) (Ok Reply.Done) self.new.history }
-        ensures plays { self.new.history.plays ≡ self.old.history.plays }
-        ensures within { result ≡ true → length self.old.history.entries < self.old.limit }
-        ensures kept { result ≡ false → self.new ≡ self.old }
-        ensures callbacks { self.new.callbacks ≡ self.old.callbacks }
-        ensures limit { self.new.limit ≡ self.old.limit }
-        ensures room { self.old.room ≤ self.new.room + 1 }
-        ensures legal { IsLegal self.new.history }
-        ensures places { AreInOnePlace self.new.callbacks }
-    {
-        if !is_within(&self.history, self.fence) {
-            return false;
-        }
-        if !self.records.put_quickly(caller, sem) {
-            return false;
-        }
-        self.history.push_reserved(Entry {
-            caller,
-            call: Call::Put { sem },
-            reply: Ok(Reply::Done),
-            plays: 0,
-        });
-        true
-    }
-
-    // Answers a get at which nothing is played, and says whether it did; nothing changes else.
-    #[inline(always)]
-    fn get_quickly(&mut self, caller: ThreadId, sem: SemId) -> bool
-        ensures entry { result ≡ true → AddsEntry self.old.history caller.0 (Call.TryGet sem) (Ok Reply.Done) self.new.history }
-        ensures plays { self.new.history.plays ≡ self.old.history.plays }
-        ensures within { result ≡ true → length self.old.history.entries < self.old.limit }
-        ensures kept { result ≡ false → self.new ≡ self.old }
-        ensures callbacks { self.new.callbacks ≡ self.old.callbacks }
-        ensures limit { self.new.limit ≡ self.old.limit }
-        ensures room { self.old.room ≤ self.new.room + 1 }
-        ensures legal { IsLegal self.new.history }
-        ensures places { AreInOnePlace self.new.callbacks }
-    {
-        if !is_within(&self.history, self.fence) {
-            return false;
-        }
-        if !self.records.get_quickly(caller, sem) {
-            return false;
-        }
-        self.history.push_reserved(Entry {
-            caller,
-            call: Call::TryGet { sem },
-            reply: Ok(Reply::Done),
-            plays: 0,
-        });
-        true
     }
 }
 

@@ -39,6 +39,9 @@ module _ {C : Type 0} where
   pub handlers-stand : (r s : RecordsView C) → whereabouts s ≡ whereabouts r → handlers_in s.bank ≡ handlers_in r.bank
   handlers-stand r s stands = ap (λ (w : Whereabouts C). handlers_in w.bank) stands
 
+  pub answers-stand : (declared : C → ℕ) (plan : C → Plan) (r s : RecordsView C) → whereabouts s ≡ whereabouts r → AnswersByPlan declared plan (whereabouts r) → AnswersByPlan declared plan (whereabouts s)
+  answers-stand declared plan r s stands answers = subst (λ (w : Whereabouts C). AnswersByPlan declared plan w) (sym stands) answers
+
   pub keeps-none : (r : RecordsView C) → KeepsCallbacks r r
   keeps-none r = record { brings = λ number callback stands. stands; handlers_are = refl }
 

@@ -1,12 +1,12 @@
 //! The steps of cross-buffers.
-ghost use Rattle.std.specs.Prelude.{◌≡◌, [], Ok, Err, IfErr, IfOk, map};
+ghost use Rattle.std.specs.Prelude.{◌≡◌, ◌≤◌, ◌+◌, [], true, false, Ok, Err, IfErr, IfNone, IfOk, IfSome, map};
 ghost use Rattle.evl_kernel.specs.calls.CrossBuffers as through;
 ghost use Rattle.evl_kernel.specs.calls.CrossBuffers.{bytes_told, service_told};
 ghost use Rattle.evl_kernel.specs.calls.Elements.{element, on_xbuf, wakes};
 ghost use Rattle.evl_kernel.specs.state.ElementsViews.{owners_of};
 
 use super::Elements;
-use evl_base::{Bytes, Refusal, Reply, Stage, Way, XbufId};
+use evl_base::{Bytes, Refusal, Reply, Spares, Stage, Transfer, Way, XbufId};
 use evl_xbuf::Services;
 use std::alloc::Allocator;
 
@@ -34,6 +34,50 @@ impl<A: Allocator> Elements<A> {
             return Err(Refusal::Unknown);
         }
         self.xbufs[place].try_write_telling(stage, way, bytes, told)
+    }
+
+    /// Writes all of the bytes from a stage, where that is accepted and nobody waits, and says whether it did; nothing
+    /// changes else.
+    #[inline(always)]
+    pub(crate) fn write_unserved(
+        &mut self,
+        stage: Stage,
+        xbuf: XbufId,
+        way: Way,
+        bytes: &[u8],
+    ) -> bool
+        ensures step { result ≡ true → element self.old.elements (on_xbuf xbuf.0 (through.write stage way bytes.now)) ≡ Ok (Reply.Done, self.new.elements) }
+        ensures nobody { result ≡ true → wakes self.old.elements (on_xbuf xbuf.0 (through.write stage way bytes.now)) ≡ [] }
+        ensures owners { owners_of self.new ≡ owners_of self.old }
+        ensures kept { result ≡ false → self.new ≡ self.old }
+    {
+        let place = usize::from(xbuf.0);
+        place < self.xbufs.len() && self.xbufs[place].write_unserved(stage, way, bytes)
+    }
+
+    /// Reads so many bytes from a stage, or as many as are there, into two boxes of `spares`, where that is accepted,
+    /// nobody waits and the bytes lie in one piece; none, and nothing changes, else or where a box was refused.
+    #[inline(always)]
+    pub(crate) fn read_unserved(
+        &mut self,
+        stage: Stage,
+        xbuf: XbufId,
+        way: Way,
+        len: u16,
+        spares: &mut Spares<A>,
+    ) -> Option<(Transfer, Transfer)>
+        ensures step { IfSome result (λ two. element self.old.elements (on_xbuf xbuf.0 (through.read stage way len)) ≡ Ok (bytes_told two.0.items, self.new.elements)) }
+        ensures twice { IfSome result (λ two. two.1.items ≡ two.0.items) }
+        ensures nobody { IfSome result (λ _. wakes self.old.elements (on_xbuf xbuf.0 (through.read stage way len)) ≡ []) }
+        ensures owners { owners_of self.new ≡ owners_of self.old }
+        ensures spent { spares.old ≤ spares.new + 2 }
+        ensures kept { IfNone result ((self.new ≡ self.old) × (spares.new ≡ spares.old)) }
+    {
+        let place = usize::from(xbuf.0);
+        if place >= self.xbufs.len() {
+            return None;
+        }
+        self.xbufs[place].read_unserved(stage, way, len, spares)
     }
 
     /// Reads so many bytes from a stage, or as many as are there, in the place of those that `got` had, and tells whom

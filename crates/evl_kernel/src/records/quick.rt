@@ -1,12 +1,12 @@
 //! Quick ways: the whole of a call where it takes one step and nothing is played behind it, and else nothing.
-ghost use Rattle.std.specs.Prelude.{◌≡◌, ◌<◌, ◌&&◌, [], None, Ok, is_none, true, false};
+ghost use Rattle.std.specs.Prelude.{◌≡◌, ◌<◌, ◌≤◌, ◌+◌, ◌&&◌, [], None, IfNone, IfSome, Ok, is_none, true, false};
 ghost use Rattle.evl_kernel.specs.histories.Histories.{Step};
 ghost use Rattle.evl_kernel.specs.state.Records.{state_of, whereabouts};
 ghost use Rattle.evl_kernel.specs.waiting.Waits.{wait_at};
 ghost use Rattle.evl_pipeline.specs.NumberSet.{least};
 
 use super::Records;
-use evl_base::{Call, Reply, SemId, ThreadId};
+use evl_base::{Call, Reply, SemId, Spares, ThreadId, Transfer, Way, XbufId};
 use evl_pipeline::Handler;
 use std::alloc::Allocator;
 
@@ -42,6 +42,57 @@ impl<C: Handler, A: Allocator> Records<C, A> {
             return false;
         };
         true
+    }
+
+    /// Answers a write where it is accepted, nobody waits for the cross-buffer and nothing pends, and says whether it
+    /// did; nothing changes else.
+    #[inline(always)]
+    pub(crate) fn write_quickly(
+        &mut self,
+        caller: ThreadId,
+        xbuf: XbufId,
+        way: Way,
+        bytes: &Transfer,
+    ) -> bool
+        ensures done { result ≡ true → Step (state_of self.old) caller.0 (Call.Write xbuf way bytes.now) (Ok Reply.Done) [] (state_of self.new) }
+        ensures kept { result ≡ false → self.new ≡ self.old }
+        ensures stands { whereabouts self.new ≡ whereabouts self.old }
+    {
+        if !self.is_free(caller) {
+            return false;
+        }
+        let stage = self.sched.stage(caller);
+        if !self
+            .elements
+            .write_unserved(stage, xbuf, way, bytes.as_slice())
+        {
+            return false;
+        }
+        true
+    }
+
+    /// Answers a read, in two boxes of `spares`, where it is accepted, nobody waits for the cross-buffer, the bytes lie
+    /// in one piece and nothing pends; none, and nothing changes, else or where a box was refused.
+    #[inline(always)]
+    pub(crate) fn read_quickly(
+        &mut self,
+        caller: ThreadId,
+        xbuf: XbufId,
+        way: Way,
+        len: u16,
+        spares: &mut Spares<A>,
+    ) -> Option<(Transfer, Transfer)>
+        ensures done { IfSome result (λ two. Step (state_of self.old) caller.0 (Call.Read xbuf way len) (Ok (Reply.Bytes two.0)) [] (state_of self.new)) }
+        ensures twice { IfSome result (λ two. two.1 ≡ two.0) }
+        ensures spent { spares.old ≤ spares.new + 2 }
+        ensures kept { IfNone result ((self.new ≡ self.old) × (spares.new ≡ spares.old)) }
+        ensures stands { whereabouts self.new ≡ whereabouts self.old }
+    {
+        if !self.is_free(caller) {
+            return None;
+        }
+        let stage = self.sched.stage(caller);
+        self.elements.read_unserved(stage, xbuf, way, len, spares)
     }
 }
 

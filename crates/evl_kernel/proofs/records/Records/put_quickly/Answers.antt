@@ -20,5 +20,5 @@ returns-clause-done g c =
     let there = rw (← c.self.view_is) at (c.is_free.ensures.there c.if-not-is_free.false) in
     let idle = rw (← c.self.view_is) at (c.is_free.ensures.idle c.if-not-is_free.false) in
     let calm = rw (← c.self.view_is) at (c.is_free.ensures.calm c.if-not-is_free.false) in
-    rw (← c.self.view_is) (λ _. quick_step g.C.Handler.declared g.C.Handler.plan (records_view c.self.inside) c.self.invariant c.args.caller.0 (on_sem c.args.sem.0 semaphore.put) (asks_put c.args.sem.0) c.raise_count.new.self (c.raise_count.ensures.step c.if-not-raise_count.false) (c.raise_count.ensures.nobody c.if-not-raise_count.false)
+    rw (← c.self.view_is) (λ _. quick_step g.C.Handler.declared g.C.Handler.plan (records_view c.self.inside) c.self.invariant c.args.caller.0 (on_sem c.args.sem.0 semaphore.put) (asks_put c.args.sem.0) Done c.raise_count.new.self (c.raise_count.ensures.step c.if-not-raise_count.false) (c.raise_count.ensures.nobody c.if-not-raise_count.false)
     (Put c.args.sem) refl (passed_general (state_of (records_view c.self.inside)) c.args.caller.0 (Put c.args.sem) refl there idle) calm)
