@@ -8,6 +8,7 @@ pub mod RefusalLaws
 pub mod WalkLaws
 pub mod LendingLaws
 pub mod LoweringLaws
+pub mod CountLaws
 pub mod RaiseLaws
 pub mod HandingLaws
 pub mod ListLaws

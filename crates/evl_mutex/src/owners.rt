@@ -1,19 +1,19 @@
 //! The recorded owners of all mutexes, and the effective ranks of all threads.
-ghost use Rattle.std.specs.Prelude.{◌≡◌, List, ◌<◌, ◌^◌, ℕ, Bool, Option, Some, None, Ok, Err, Result, length, map, slice_get, nat_lt, is_ok, is_some, option_map, replicate, IfOk, IfErr, if◌then◌else◌};
+ghost use Rattle.std.specs.Prelude.{◌≡◌, List, ◌<◌, ◌^◌, ℕ, Bool, Option, Some, None, Ok, Err, Result, length, slice_get, nat_lt, is_ok, is_some, option_map, replicate, IfOk, IfErr, if◌then◌else◌};
 ghost use Rattle.std.specs.List.{list_any};
 ghost use Rattle.std.specs.Option.{option_map_or};
 ghost use Rattle.evl_base.specs.declared.refusal.Refusal.{Refusal};
 ghost use Rattle.evl_mutex.specs.Changes.{ChangesAreNoted};
-ghost use Rattle.evl_mutex.specs.Mutexes.{raised_mutex, lowered_mutex, opened_mutex, is_owned_by, is_waited_for_by, drop_waiter};
+ghost use Rattle.evl_mutex.specs.Mutexes.{raised_mutex, lowered_mutex, is_owned_by, is_waited_for_by, drop_waiter};
 ghost use Rattle.evl_mutex.specs.Owners.{IsClaim, IsRelease, IsRingFree, IsSound, base_of, mutex_changed, claim_answer, claim_refusal, waiter_dropped, fresh, is_thread, lower_refusal, next_of, owner_of, raise_refusal, rank_of, ranks_of, unless_refused, with_base};
 ghost use Rattle.evl_mutex.specs.Ranks.{IsEffective};
-ghost use Rattle.evl_mutex.specs.Views.{HaveRoom, ahead_in, mutexes_of, numbers_of};
+ghost use Rattle.evl_mutex.specs.Views.{ahead_in, mutexes_of, numbers_of};
 
 mod likeness;
 mod queues;
 
 use crate::changes::{RankChanges, Unnoted};
-use crate::mutex_record::MutexRecord;
+use crate::mutex_record::{MutexRecord, opened};
 use crate::waiter::Waiter;
 use crate::{mending, notes, ranks, walks};
 use evl_base::{MutexId, MutexKind, Refusal, ThreadId};
@@ -29,6 +29,8 @@ pub struct OwnersOf<A: Allocator> {
     mutexes: Vec<MutexRecord<A>, A>,
     // whom each thread waits for
     ahead: Vec<Option<u16>, A>,
+    // how many wait for each thread
+    lenders: Vec<u16, A>,
     // what each thread lends to whom it waits for
     lent: Vec<u16, A>,
     // the greatest ceiling that is recorded for each thread
@@ -43,7 +45,7 @@ impl<A: Allocator> Model for OwnersOf<A> {
 
     ghost view = { λ o. record { base = o.base.items; mutexes = mutexes_of o.mutexes.items } };
 
-    ghost invariant = { λ o. IsWhole o.base.items o.mutexes.items o.ahead.items o.lent.items o.ceilings.items };
+    ghost invariant = { λ o. IsWhole o.base.items o.mutexes.items o.ahead.items o.lenders.items o.lent.items o.ceilings.items };
 }
 
 impl<A: Allocator + Clone> OwnersOf<A> {
@@ -62,12 +64,14 @@ impl<A: Allocator + Clone> OwnersOf<A> {
         let base = zeros(alloc.clone()?, threads as usize)?;
         let mutexes = opened(alloc.clone()?, kinds, threads as usize)?;
         let ahead = notes::nobody(alloc.clone()?, threads as usize)?;
+        let lenders = zeros(alloc.clone()?, threads as usize)?;
         let lent = zeros(alloc.clone()?, threads as usize)?;
         let ceilings = zeros(alloc, threads as usize)?;
         Ok(OwnersOf {
             base,
             mutexes,
             ahead,
+            lenders,
             lent,
             ceilings,
         })
@@ -153,6 +157,7 @@ impl<A: Allocator> OwnersOf<A> {
         mending::mend(
             &self.base,
             &self.ahead,
+            &self.lenders,
             &mut self.lent,
             changes,
             Some(thread.0),
@@ -167,8 +172,15 @@ impl<A: Allocator> OwnersOf<A> {
     {
         let owner = notes::ahead_of(&self.ahead, thread.0);
         walks::drop_waiter(&mut self.mutexes, thread.0);
-        notes::forget(&mut self.ahead, Some(thread.0));
-        mending::mend(&self.base, &self.ahead, &mut self.lent, &mut Unnoted, owner);
+        notes::forget(&mut self.ahead, &mut self.lenders, Some(thread.0));
+        mending::mend(
+            &self.base,
+            &self.ahead,
+            &self.lenders,
+            &mut self.lent,
+            &mut Unnoted,
+            owner,
+        );
     }
 
     /// Lets a thread wait for this one mutex no more, if it does; where there is no such mutex nothing changes. Where
@@ -194,10 +206,11 @@ impl<A: Allocator> OwnersOf<A> {
         if place < self.mutexes.len() {
             let owner = notes::ahead_of(&self.ahead, thread.0);
             let gone = self.mutexes[place].drop_waiter(thread.0);
-            notes::forget(&mut self.ahead, gone);
+            notes::forget(&mut self.ahead, &mut self.lenders, gone);
             mending::mend(
                 &self.base,
                 &self.ahead,
+                &self.lenders,
                 &mut self.lent,
                 changes,
                 gone.and(owner),
@@ -246,7 +259,7 @@ impl<A: Allocator> OwnersOf<A> {
             return Err(refusal);
         }
         let threads = self.base.len();
-        if walks::reaches(&self.ahead, threads, owner.0, waiter.0) {
+        if walks::is_reached(&self.ahead, &self.lenders, threads, owner.0, waiter.0) {
             return Err(Refusal::Deadlock);
         }
         let rank = ranks::rank_of(&self.lent, &self.ceilings, waiter.0);
@@ -255,7 +268,7 @@ impl<A: Allocator> OwnersOf<A> {
             rank,
         };
         self.mutexes[mutex.0 as usize].claim(waiting, owner.0);
-        notes::note(&mut self.ahead, waiter.0, Some(owner.0));
+        notes::note(&mut self.ahead, &mut self.lenders, waiter.0, Some(owner.0));
         mending::lend(&self.ahead, &mut self.lent, changes, waiter.0, owner.0);
         ranks::mend_ceiling(
             &self.mutexes,
@@ -300,14 +313,27 @@ impl<A: Allocator> OwnersOf<A> {
         }
         let before = self.mutexes[place].owner;
         let (next, more) = self.mutexes[place].hand_on();
-        notes::forget(&mut self.ahead, next);
-        notes::note_behind(&mut self.ahead, &self.mutexes[place].waiters, next);
+        notes::forget(&mut self.ahead, &mut self.lenders, next);
+        notes::note_behind(
+            &mut self.ahead,
+            &mut self.lenders,
+            &self.mutexes[place].waiters,
+            next,
+        );
         // who is handed a mutex for which nobody waits any more lends as before
         let served = if more { next } else { None };
-        mending::settle(&self.base, &self.ahead, &mut self.lent, changes, served);
+        mending::settle(
+            &self.base,
+            &self.ahead,
+            &self.lenders,
+            &mut self.lent,
+            changes,
+            served,
+        );
         mending::mend(
             &self.base,
             &self.ahead,
+            &self.lenders,
             &mut self.lent,
             changes,
             next.and(before),
@@ -387,22 +413,6 @@ fn zeros<A: Allocator>(alloc: A, threads: usize) -> Result<Vec<u16, A>, AllocErr
     ensures zeros { IfOk result (λ base. base.items ≡ replicate threads 0) }
 {
     Vec::from_elem(alloc, 0, threads)
-}
-
-// A mutex of each kind, with room for so many waiters.
-fn opened<A: Allocator + Clone>(
-    alloc: A,
-    kinds: &[MutexKind],
-    room: usize,
-) -> Result<Vec<MutexRecord<A>, A>, AllocError>
-    ensures opened { IfOk result (λ ms. mutexes_of ms.items ≡ map opened_mutex kinds.now) }
-    ensures room { IfOk result (λ ms. HaveRoom room ms.items) }
-{
-    let mut mutexes = Vec::with_capacity(alloc.clone()?, kinds.len())?;
-    for kind in kinds {
-        mutexes.push(MutexRecord::new(alloc.clone()?, *kind, room)?)?;
-    }
-    Ok(mutexes)
 }
 
 // What refuses a claim, but for a ring.

@@ -5,12 +5,13 @@ use Rattle.evl_mutex.specs.Mutexes.{is_waited_for_by}
 use Rattle.evl_mutex.specs.Owners.{Owners}
 use Rattle.evl_mutex.specs.Ranks.{ceiling_for}
 use Rattle.evl_mutex.specs.Lending.{IsRight}
-use Rattle.evl_mutex.specs.Views.{ahead_in, mutex_of, mutexes_of, unnoted, IsKept}
+use Rattle.evl_mutex.specs.Views.{ahead_in, mutex_of, mutexes_of, unnoted, AreCounted, IsKept}
 use Rattle.evl_mutex.proofs.MutexLaws.{drop-owner}
 use Rattle.evl_mutex.proofs.SoundLaws.{sound-left}
 use Rattle.evl_mutex.proofs.NotedLaws.{count-unnoted}
 use Rattle.evl_mutex.proofs.CallLaws.{leave-noted, there, seen-changed, kept-changed}
 use Rattle.evl_mutex.proofs.CeilingLaws.{ceiling-left}
+use Rattle.evl_mutex.proofs.CountLaws.{counted-by}
 use Rattle.evl_mutex.proofs.StoredLaws.{and-is, orderly-by, owner-at, right-unnoted, written-same, written-there}
 use Rattle.evl_mutex.proofs.ChangeLaws.{noted-none, ranks-noted}
 use Rattle.evl_mutex.proofs.owners.OwnersOf.leave_noting.Goals as goal
@@ -38,11 +39,14 @@ invariant_of-self g c =
     let start : c.and.result ≡ option_and (if waits then Some thread else None) (ahead_in ahead thread) =
     c.and.ensures ∙ ap (λ p. option_and p c.ahead_of-owner.result) c.drop_waiter-gone.ensures.gone ∙ ap (option_and (if waits then Some thread else None)) c.ahead_of-owner.ensures.owner in
     let P : List (Option ℕ) → Type 0 = λ l. (t : ℕ) → (c.and.result ≡ Some t → ⊥) → IsRight (slice_index s.base.items) (ahead_in l) (slice_index s.lent.items) t in
+    let counted : AreCounted (length s.base.items) c.forget.new.ahead.items c.forget.new.lenders.items = c.forget.ensures.counted (length s.base.items) (omega (arith, is.few, is.all)) c.self.invariant.counted in
     record {
       kept = kept;
+      counted = counted;
       stored = written-same s.base.items s.mutexes.items n old new c.index_mut.ensures.value inside kind ahead s.lent.items s.ceilings.items was owner_there
           c.forget.new.ahead.items c.mend.new.lent.items (c.mend.ensures.length ∙ was.lent_all)
-          (c.mend.ensures.mended (orderly-by s.base.items (mutexes_of (slice_set s.mutexes.items n new)) c.forget.new.ahead.items kept.sound kept.noted now (length s.lent.items) was.lent_all)
+          (c.mend.ensures.mended (counted-by (length s.base.items) (length s.lent.items) c.forget.new.ahead.items c.forget.new.lenders.items was.lent_all counted)
+          (orderly-by s.base.items (mutexes_of (slice_set s.mutexes.items n new)) c.forget.new.ahead.items kept.sound kept.noted now (length s.lent.items) was.lent_all)
           (λ t e. (orderly-by s.base.items o.mutexes ahead is.sound is.noted was.there (length s.lent.items) was.lent_all).owners thread t (and-is t (if waits then Some thread else None) (ahead_in ahead thread) (sym start ∙ e)))
           (subst P (sym noted) (λ t away. right-unnoted (slice_index s.base.items) (slice_index s.lent.items) ahead thread waits was.lent_right t (λ e. away (start ∙ e)))))
           (λ t. ap (ceiling_for t) dropped ∙ ceiling-left t thread (mutex_of old));
