@@ -97,6 +97,17 @@ impl<A: Allocator> Order<A> {
         let stamp = stamp_in(&self.stamps, thread);
         stand_at(&mut self.queues, thread, stamp, rank);
     }
+
+    /// The same of a thread that has another rank than before, so it isn't asked whether it stands there already.
+    #[inline(always)]
+    pub fn restand(&mut self, thread: u16, rank: Option<u16>)
+        ensures ready { self.new.ready ≡ self.old.ready }
+        ensures ranks { (t : ℕ) → rank_in self.new.places t ≡ (if t == thread then (if list_any (λ u. u == thread) self.old.ready then rank else None) else rank_in self.old.places t) }
+        ensures many { length self.new.places ≡ length self.old.places }
+    {
+        let stamp = stamp_in(&self.stamps, thread);
+        move_to(&mut self.queues, thread, place_by(stamp, rank));
+    }
 }
 
 // The stamp of a thread, if it is ready.
@@ -277,6 +288,7 @@ fn come_behind<A: Allocator>(queues: &mut Contenders<A>, thread: u16, place: Pla
 }
 
 // A thread leaves its place and gets this one, if there is one.
+#[inline(always)]
 fn move_to<A: Allocator>(queues: &mut Contenders<A>, thread: u16, place: Option<Place>)
     requires { is_some place ≡ true → thread < length queues.old }
     ensures moved { queues.new ≡ slice_set queues.old thread place }

@@ -89,6 +89,41 @@ fn stand_ready<A: Allocator>(
     order.stand(thread, search::rank_to_run(seats, groups, given, thread));
 }
 
+/// The same of a thread that was given another rank.
+#[inline(always)]
+pub fn restand<A: Allocator>(
+    seats: &Vec<Option<Seat>, A>,
+    groups: &Vec<Group, A>,
+    given: &Vec<Option<u16>, A>,
+    order: &mut Order<A>,
+    thread: u16,
+)
+    ensures ready { order.new.ready ≡ order.old.ready }
+    ensures ranks { (t : ℕ) → rank_in order.new.places t ≡ (if t == thread then wanted_rank (record { sched = record { seats = seats.now.items; ready = order.old.ready; groups = groups.now.items }; given = given.now.items }) thread else rank_in order.old.places t) }
+    ensures many { length order.new.places ≡ length order.old.places }
+{
+    if !order.is_ready(thread) {
+        return;
+    }
+    restand_ready(seats, groups, given, order, thread);
+}
+
+// The same of a thread that is ready.
+#[inline(never)]
+fn restand_ready<A: Allocator>(
+    seats: &Vec<Option<Seat>, A>,
+    groups: &Vec<Group, A>,
+    given: &Vec<Option<u16>, A>,
+    order: &mut Order<A>,
+    thread: u16,
+)
+    ensures ready { order.new.ready ≡ order.old.ready }
+    ensures ranks { (t : ℕ) → rank_in order.new.places t ≡ (if t == thread then wanted_rank (record { sched = record { seats = seats.now.items; ready = order.old.ready; groups = groups.now.items }; given = given.now.items }) thread else rank_in order.old.places t) }
+    ensures many { length order.new.places ≡ length order.old.places }
+{
+    order.restand(thread, search::rank_to_run(seats, groups, given, thread));
+}
+
 /// Each thread whose policy names a group stands by the groups' budgets; all others do already. These threads are among
 /// the members; the second set is room for them.
 pub fn stand_grouped<A: Allocator>(

@@ -309,7 +309,7 @@ impl<A: Allocator> SchedOf<A> {
     {
         if (thread.0 as usize) < self.given.len() {
             self.given[thread.0 as usize] = Some(rank);
-            ready::stand(
+            ready::restand(
                 &self.seats,
                 &self.groups,
                 &self.given,
