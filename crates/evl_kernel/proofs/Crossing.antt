@@ -1,5 +1,4 @@
 -- A kernel may go to another host thread, as its callbacks and its allocator may.
-use denote.Builtin.{u32}
 use denote.RattleType.{RattleType}
 use denote.Struct.Declared.{shape}
 use denote.Struct.Struct.{Struct}
@@ -70,26 +69,23 @@ module _ (C A : RattleType) (g : Ghosts A.Denot) where
       let sems = sems_send a f in let flags = flags_send a f in let xbufs = xbufs_send a f in let owners = owners_send A g a f in
       search (view_send, crosses, sendable) depth 20
 
-  words_send : IsSend A → Frees g g.dealloc_token → IsSend (Vec.the_row u32 A g)
-  words_send a f = search (crosses, sendable) depth 20
-
-  changes_send : IsSend A → Frees g g.dealloc_token → IsSend (ChangedThreads.the_row A g)
-  changes_send a f =
-      let word : IsSend Word.the_row = search (declared_send, crosses, sendable) depth 20 in let words = words_send a f in
-      search (view_send, declared_send, crosses, sendable) depth 40 fits 20000
-
   waits_send : IsSend A → Frees g g.dealloc_token → IsSend (Vec.the_row WaitPlace.the_row A g)
   waits_send a f =
       let wait : IsSend Wait.the_row = search (transfer_send, declared_send, crosses, sendable) depth 40 fits 20000 in
       let place : IsSend WaitPlace.the_row = search (transfer_send, view_send, declared_send, crosses, sendable) depth 20 fits 20000 in
       search (crosses, sendable) depth 20
 
+changes_send : IsSend ChangedThreads.the_row
+changes_send =
+    let word : IsSend Word.the_row = search (declared_send, crosses, sendable) depth 20 in
+    search (view_send, declared_send, crosses, sendable) depth 40 fits 20000
+
 module _ (C A : RattleType) (g : Ghosts A.Denot) where
   records_send : IsSend C → IsSend A → Frees g g.dealloc_token → IsSend (Records.the_row C A g)
   records_send s a f =
       let places = places_send C A g s a f in let lines = pipeline_send (Numbered.the_row C) A g (numbered_send C A g s) a f in
       let clock = clock_send (Numbered.the_row C) A g (numbered_send C A g s) a f in let sched = sched_send A g a f in let elements = elements_send C A g a f in
-      let changes = changes_send C A g a f in let waits = waits_send C A g a f in
+      let changes = changes_send in let waits = waits_send C A g a f in
       view_send _ _ _ _ _ (declared_send (Inside.the_type C A g) (search sendable, (elements, (changes, (places, (lines, (clock, (sched, (waits, tt)))))))))
 
   pub kernel_send : IsSend C → IsSend A → Frees g g.dealloc_token → IsSend (KernelOf.the_row C A g)

@@ -1,65 +1,89 @@
 //! The threads whose effective rank may be another one than the scheduler was given.
-ghost use Rattle.std.specs.Prelude.{◌≡◌, IfErr, option_map};
-ghost use Rattle.evl_base.specs.declared.refusal.Refusal.{Refusal};
+ghost use Rattle.std.specs.Prelude.{◌≡◌, ◌<◌, length, slice_set, IfSome};
 ghost use Rattle.evl_bitmap.specs.NumberSet.{least};
-ghost use Rattle.evl_kernel.specs.state.ChangedThreads.{without_least};
+ghost use Rattle.evl_kernel.specs.state.ChangedThreads.{of_word, without_least};
 
-use evl_base::{MAX_THREADS, Refusal, ThreadId};
-use evl_bitmap::{Bitmap, Level, Word};
+use evl_base::{MAX_THREADS, ThreadId};
+use evl_bitmap::{Level, Word};
 use evl_mutex::RankChanges;
-use std::alloc::Allocator;
 use std::marker::Model;
 
-// How many words of 32 bits there are, with a bit for each thread.
-const WORDS: u16 = (MAX_THREADS / 32) as u16;
+/// How many words there are, each of 32 threads.
+pub(crate) const WORDS: u16 = (MAX_THREADS / 32) as u16;
 
-/// The threads whose effective rank may be another one than the scheduler was given. To a contract it is a set of
-/// numbers. Only `new` takes memory.
+/// The threads whose effective rank may be another one than the scheduler was given, a bit for each. To a contract it
+/// is for each word the set of their places in it.
 #[derive(Drop)]
-pub(crate) struct ChangedThreads<A: Allocator> {
-    threads: Bitmap<Word, A>,
+pub(crate) struct ChangedThreads {
+    words: [Word; 8],
 }
 
-impl<A: Allocator> Model for ChangedThreads<A> {
-    ghost use Rattle.std.specs.Prelude.{◌≡◌};
-    ghost use Rattle.evl_base.specs.Limits.{thread_limit};
+impl Model for ChangedThreads {
+    ghost use Rattle.std.specs.Prelude.{◌≡◌, List, length, map};
     ghost use Rattle.evl_bitmap.specs.NumberSet.{NumberSet};
 
-    ghost Value = { NumberSet };
+    ghost Value = { List NumberSet };
 
-    ghost view = { λ c. c.threads.members };
+    ghost view = { λ c. map (λ word. ⟦<Word as Level>⟧.members word) c.words };
 
-    ghost invariant = { λ c. c.threads.limit ≡ thread_limit };
+    ghost invariant = { λ c. length c.words ≡ 8 };
 }
 
-impl<A: Allocator> ChangedThreads<A> {
-    /// No thread is noted. `NoMemory` where the room was refused.
-    pub(crate) fn new(alloc: A) -> Result<ChangedThreads<A>, Refusal>
-        ensures refusal { IfErr result (λ e. e ≡ Refusal.NoMemory) }
-    {
-        let threads = Bitmap::new(alloc, WORDS, Word::new()).map_err(|_| Refusal::NoMemory)?;
-        Ok(ChangedThreads { threads })
+impl ChangedThreads {
+    /// No thread is noted.
+    pub(crate) fn new() -> ChangedThreads {
+        ChangedThreads {
+            words: [Word::new(); 8],
+        }
     }
 
-    /// Takes the least thread out, if one is noted.
-    pub(crate) fn take(&mut self) -> Option<ThreadId>
-        ensures taken { option_map (λ thread. thread.0) result ≡ least self.old }
-        ensures left { self.new ≡ without_least self.old }
+    /// Takes the least thread of a word out, if one is noted there: its place in the word.
+    #[inline(always)]
+    pub(crate) fn take(&mut self, word: u16) -> Option<u16>
+        requires there { word < 8 }
+        ensures taken { result ≡ least (of_word self.old word) }
+        ensures range { IfSome result (λ place. place < 32) }
+        ensures left { self.new ≡ slice_set self.old word (without_least (of_word self.old word)) }
     {
-        let thread = self.threads.least()?;
-        self.threads.remove(thread);
-        Some(ThreadId(thread))
+        let mut noted = self.places(word);
+        let place = noted.least()?;
+        noted.remove(place);
+        self.set_places(word, noted);
+        Some(place)
+    }
+
+    // The threads of a word that are noted.
+    #[inline(always)]
+    fn places(&self, word: u16) -> Word
+        requires there { word < 8 }
+        ensures places { ⟦<Word as Level>⟧.members result ≡ of_word self.now word }
+        ensures within { word < length self.now }
+    {
+        self.words[word as usize]
+    }
+
+    // Notes these threads of a word, and no others of it.
+    #[inline(always)]
+    fn set_places(&mut self, word: u16, places: Word)
+        requires there { word < 8 }
+        ensures set { self.new ≡ slice_set self.old word (⟦<Word as Level>⟧.members places) }
+    {
+        self.words[word as usize] = places;
     }
 }
 
-impl<A: Allocator> RankChanges for ChangedThreads<A> {
+impl RankChanges for ChangedThreads {
     ghost use Rattle.evl_kernel.specs.state.ChangedThreads.{is_noted};
 
     ghost is_noted = { is_noted };
 
+    #[inline(always)]
     fn note(&mut self, thread: ThreadId) {
         if usize::from(thread.0) < MAX_THREADS {
-            self.threads.insert(thread.0);
+            let word = thread.0 / 32;
+            let mut noted = self.places(word);
+            noted.insert(thread.0 % 32);
+            self.set_places(word, noted);
         }
     }
 }

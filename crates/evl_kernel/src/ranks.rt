@@ -1,5 +1,5 @@
 //! Effective ranks, handed on to the scheduler.
-ghost use Rattle.std.specs.Prelude.{◌≡◌, ◌≢◌, ◌≤◌, ◌<◌, ℕ, true, [], length, slice_index};
+ghost use Rattle.std.specs.Prelude.{◌≡◌, ◌≢◌, ◌≤◌, ◌<◌, ℕ, nat_lt, not, true, [], length, slice_index, slice_set};
 ghost use Rattle.evl_base.specs.Limits.{thread_limit};
 ghost use Rattle.evl_kernel.specs.state.ChangedThreads.{AreGivenBut, is_noted};
 ghost use Rattle.evl_kernel.specs.state.ElementsViews.{owners_of};
@@ -8,7 +8,7 @@ ghost use Rattle.evl_mutex.specs.Owners as owners;
 ghost use Rattle.evl_sched.specs.Ranks.{given_to, rank_of};
 ghost use Rattle.evl_sched.specs.Threads.{base_of, is_attached};
 
-use crate::changed_threads::ChangedThreads;
+use crate::changed_threads::{ChangedThreads, WORDS};
 use crate::elements::Elements;
 use evl_base::ThreadId;
 use evl_mutex::RankChanges;
@@ -18,21 +18,42 @@ use std::alloc::Allocator;
 /// Gives each attached thread that is noted its effective rank, where it has another one. None is noted then.
 pub(crate) fn hand_on<A: Allocator>(
     elements: &Elements<A>,
-    changes: &mut ChangedThreads<A>,
+    changes: &mut ChangedThreads,
     sched: &mut SchedOf<A>,
 )
     requires told { AreTold elements.now.base sched.old.sched }
     requires others { AreGivenBut (is_noted changes.old) sched.old (owners_of elements.now) }
     ensures given { AreGiven sched.new (owners_of elements.now) }
     ensures kept { sched.new.sched ≡ sched.old.sched }
-    ensures none { changes.new ≡ [] }
+    ensures none { (thread : ℕ) → is_noted changes.new thread ≡ not (nat_lt thread thread_limit) }
 {
-    while let Some(thread) = changes.take() {
+    for word in 0..WORDS {
+        hand_word(elements, changes, word, sched);
+    }
+}
+
+// Gives each attached thread that is noted in a word its effective rank. None is noted there then.
+#[inline(always)]
+fn hand_word<A: Allocator>(
+    elements: &Elements<A>,
+    changes: &mut ChangedThreads,
+    word: u16,
+    sched: &mut SchedOf<A>,
+)
+    requires there { word < 8 }
+    requires others { AreGivenBut (is_noted changes.old) sched.old (owners_of elements.now) }
+    ensures others { AreGivenBut (is_noted changes.new) sched.new (owners_of elements.now) }
+    ensures kept { sched.new.sched ≡ sched.old.sched }
+    ensures none { changes.new ≡ slice_set changes.old word [] }
+{
+    while let Some(place) = changes.take(word) {
+        let thread = ThreadId(32 * word + place);
         hand_to(sched, thread, elements.effective(thread));
     }
 }
 
 // Gives an attached thread this rank, where it has another one.
+#[inline(always)]
 fn hand_to<A: Allocator>(sched: &mut SchedOf<A>, thread: ThreadId, rank: u16)
     ensures given { is_attached sched.old.sched thread.0 ≡ true → rank_of sched.new thread.0 ≡ rank }
     ensures others { (t : ℕ) → t ≢ thread.0 → given_to sched.new t ≡ given_to sched.old t }
@@ -48,7 +69,7 @@ fn hand_to<A: Allocator>(sched: &mut SchedOf<A>, thread: ThreadId, rank: u16)
 /// The recorded owners are told the base rank of a thread, which has another one, and the ranks are handed on.
 pub(crate) fn base_changed<A: Allocator>(
     elements: &mut Elements<A>,
-    changes: &mut ChangedThreads<A>,
+    changes: &mut ChangedThreads,
     sched: &mut SchedOf<A>,
     thread: ThreadId,
 )

@@ -50,7 +50,7 @@ pub(crate) struct Records<C, A: Allocator> {
     threads: u16,
     elements: Elements<A>,
     // whose effective rank may be another one than the scheduler was given, within a call
-    changes: ChangedThreads<A>,
+    changes: ChangedThreads,
     bank: Vec<BankPlace<C>, A>,
     pipeline: PipelineOf<Numbered<C>, A>,
     clock: ClockOf<Numbered<C>, A>,
@@ -135,11 +135,11 @@ fn parts_over<C: Handler, A: Allocator + Clone>(
 fn scheduling_over<A: Allocator + Clone>(
     alloc: &A,
     board: &Board,
-) -> Result<(ChangedThreads<A>, SchedOf<A>), Refusal>
+) -> Result<(ChangedThreads, SchedOf<A>), Refusal>
     ensures sched { IfOk result (λ made. made.1 ≡ fresh board.now.threads board.now.groups.items) }
     ensures refusal { IfErr result (λ e. e ≡ Refusal.NoMemory) }
 {
-    let changes = ChangedThreads::new(another(alloc)?)?;
+    let changes = ChangedThreads::new();
     let sched = SchedOf::new(another(alloc)?, board.threads, board.groups.as_slice())?;
     Ok((changes, sched))
 }

@@ -21,7 +21,7 @@ use Rattle.evl_kernel.specs.declared.waits.Awaited.{Awaited}
 use Rattle.evl_kernel.specs.declared.waits.Awaited.TheVariants.{Sem, Flags, Writing, Reading, Mutex}
 use Rattle.evl_kernel.specs.declared.waits.Wait.{Wait}
 use Rattle.evl_kernel.specs.declared.waits.Wanted.{Wanted}
-use Rattle.evl_kernel.specs.state.States.{State, Elements, with_clock, with_sched}
+use Rattle.evl_kernel.specs.state.States.{State, Elements, with_clock}
 use Rattle.evl_kernel.specs.calls.Effects.{Answered, if_done, known, lifted, refused_by}
 use Rattle.evl_kernel.specs.calls.Semaphores as sem_step
 use Rattle.evl_kernel.specs.calls.Semaphores.{semaphore, sem_wakes}
@@ -363,9 +363,9 @@ pub claim_rings : (s : State) (thread : ℕ) (wants : Wanted) (until : Option �
     → waiter_refusal s thread wants ≡ None → size_refusal (elements s) wants ≡ None → would_ring s thread wants ≡ true → (beginning s thread wants until).effect ≡ Err Deadlock
 claim_rings s thread wants until has names range may size ring = rw (has, names, range, may, size, ring) refl
 
--- the elements and the ranks change, the wait begins, and its thread is blocked
-pub blocked_as : (s : State) (e : Elements) (thread : ℕ) (on : Awaited) (until : Option ℕ) (q : Sched) (waits : List (Option Wait)) (t : State) → q ≡ s.sched → waits ≡ slice_set s.waits thread (Some (going_on on))
-    → t ≡ posted_if (is_past s.clock.now until) (with_sched (with_clock (record s { elements = e; sched = q; waits = waits }) (with_deadline s.clock thread until)) (unready q thread))
+-- the elements and the ranks change, and the wait of a blocked thread begins
+pub blocked_as : (s : State) (e : Elements) (thread : ℕ) (on : Awaited) (until : Option ℕ) (q : Sched) (waits : List (Option Wait)) (t : State) → q ≡ unready s.sched thread → waits ≡ slice_set s.waits thread (Some (going_on on))
+    → t ≡ posted_if (is_past s.clock.now until) (with_clock (record s { elements = e; sched = q; waits = waits }) (with_deadline s.clock thread until))
     → t ≡ blocked_on (with_elements s e) thread on until
-blocked_as s e thread on until q waits t same set is =
-    is ∙ (λ i. posted_if (is_past s.clock.now until) (with_sched (with_clock (record s { elements = e; sched = same i; waits = set i }) (with_deadline s.clock thread until)) (unready (same i) thread)))
+blocked_as s e thread on until q waits t blocked set is =
+    is ∙ (λ i. posted_if (is_past s.clock.now until) (with_clock (record s { elements = e; sched = blocked i; waits = set i }) (with_deadline s.clock thread until)))

@@ -55,9 +55,11 @@ impl<C, A: Allocator> Records<C, A> {
         if !self.elements.claim(mutex, thread, owner, &mut self.changes) {
             return false;
         }
+        // who waits leaves the ready list first, so that its rank moves nobody there
+        self.sched.block(thread);
         ranks::hand_on(&self.elements, &mut self.changes, &mut self.sched);
         waits::begin(&mut self.waits, thread, Awaited::Mutex(mutex), None);
-        self.suspend(thread, until);
+        self.await_date(thread, until);
         true
     }
 

@@ -197,6 +197,16 @@ impl<C, A: Allocator> Records<C, A> {
         ensures stands { KeepsCallbacks self.old self.new }
     {
         self.sched.block(thread);
+        self.await_date(thread, until);
+    }
+
+    /// A blocked thread has a date as its deadline, or none; a date that isn't after now posts line 0 at once.
+    #[inline(always)]
+    pub(super) fn await_date(&mut self, thread: ThreadId, until: Option<u64>)
+        ensures dated { state_of self.new ≡ posted_if (is_past (state_of self.old).clock.now until)
+            (with_clock (state_of self.old) (with_deadline (state_of self.old).clock thread.0 until)) }
+        ensures stands { KeepsCallbacks self.old self.new }
+    {
         match until {
             None => self.clock.clear_deadline(thread),
             Some(date) => {

@@ -1,35 +1,40 @@
-use Rattle.std.proofs.Common.{◌≡◌, ◌<◌, [], length, Some, sym, ap, ◌∙◌, subst, arith}
-use Rattle.std.specs.Option.{option_map_or}
-use Rattle.evl_bitmap.specs.NumberSet.{NumberSet, least, remove}
-use Rattle.evl_bitmap.proofs.NumberSetLaws.{least-none, length-remove_least}
+use Rattle.std.proofs.Common.{◌≡◌, ◌≢◌, ◌<◌, ◌⊎◌, ◌+◌, ℕ, zero, suc, inl, inr, [], ◌∷◌, List, sym, ap, ◌∙◌, subst, arith, refl, slice_set}
+use Rattle.std.proofs.lemmas.List.{get_or-set_other}
+use Rattle.evl_bitmap.specs.NumberSet.{NumberSet}
+use Rattle.evl_mutex.proofs.LendingLaws.{same_or_not}
 use Rattle.evl_sched.specs.Threads.{Sched}
-use Rattle.evl_kernel.specs.state.ChangedThreads.{AreGivenBut, is_noted}
-use Rattle.evl_kernel.specs.state.ElementsViews.{owners_of}
+use Rattle.evl_kernel.specs.state.ChangedThreads.{is_noted, of_word}
 use Rattle.evl_kernel.specs.state.Records.{AreTold}
-use Rattle.evl_kernel.proofs.state.ChangedLaws.{given-all, given-more}
+use Rattle.evl_kernel.proofs.state.ChangedLaws.{given-all, none-noted}
 use Rattle.evl_kernel.proofs.ranks.hand_on.Goals as goal
 
-pub loop-thread-smaller : goal.loop-thread-smaller
-loop-thread-smaller g c =
-    let set = c.loop-thread.changes in let n = c.in-Some.thread.0 in
-    let first : least set ≡ Some n = sym c.in-Some.ensures.taken in
-    let left : c.take.new.self ≡ remove set n = c.take.ensures.left ∙ ap (λ o. option_map_or (remove set) o set) first in
-    let fewer : length c.take.new.self < length set = omega (arith, ap length left, length-remove_least set n first) in
-    fewer
+emptied : (words : List NumberSet) (w : ℕ) → of_word (slice_set words w []) w ≡ []
+emptied [] w = refl
+emptied (s ∷ ss) zero = refl
+emptied (s ∷ ss) (suc w) = emptied ss w
 
-pub loop-thread-preserved : goal.loop-thread-preserved
-loop-thread-preserved g c =
-    let set = c.loop-thread.changes in let n = c.in-Some.thread.0 in
-    let left : c.take.new.self ≡ remove set n = c.take.ensures.left ∙ ap (λ o. option_map_or (remove set) o set) (sym c.in-Some.ensures.taken) in
+pub loop-word-init : goal.loop-word-init
+loop-word-init g c = record { kept = refl; given = c.requires.others; none = λ w l. absurd (omega (arith, l)) }
+
+pub loop-word-preserved : goal.loop-word-preserved
+loop-word-preserved g c =
+    let words = c.loop-word.changes in let at = c.loop-word.word in
     record {
-      kept = c.hand_to.ensures.kept ∙ c.loop-thread.invariant.kept;
-      given = rw left (given-more set (owners_of c.args.elements.now) c.loop-thread.sched c.hand_to.new.sched n c.loop-thread.invariant.given c.hand_to.ensures.kept
-          (λ attached. c.hand_to.ensures.given attached ∙ c.effective.ensures.rank) c.hand_to.ensures.others);
+      kept = c.hand_word.ensures.kept ∙ c.loop-word.invariant.kept;
+      given = c.hand_word.ensures.others;
+      none = λ w l. ap (λ (all : List NumberSet). of_word all w) c.hand_word.ensures.none ∙ by w l (same_or_not w at);
     }
+  where
+    by : (w : ℕ) → w < c.loop-word.word + 1 → (w ≡ c.loop-word.word) ⊎ (w ≢ c.loop-word.word) → of_word (slice_set c.loop-word.changes c.loop-word.word []) w ≡ []
+    by w l (inl here) = ap (of_word (slice_set c.loop-word.changes c.loop-word.word [])) here ∙ emptied c.loop-word.changes c.loop-word.word
+    by w l (inr ne) = get_or-set_other c.loop-word.changes c.loop-word.word w [] [] ne ∙ c.loop-word.invariant.none w (omega (arith, l, ne))
 
-pub returns-clause-given : goal.returns-clause-given
-returns-clause-given g c =
-    let empty : c.loop-thread.changes ≡ [] = least-none c.loop-thread.changes (sym c.in_default.ensures.taken) in
-    let P : NumberSet → Type 0 = λ set. AreGivenBut (is_noted set) c.loop-thread.sched (owners_of c.args.elements.now) in
-    let Q : Sched → Type 0 = λ s. AreTold c.args.elements.now.base s in
-    given-all c.args.elements.now c.loop-thread.sched (subst P empty c.loop-thread.invariant.given) (subst Q (sym c.loop-thread.invariant.kept) c.requires.told)
+pub returns : goal.returns
+returns g c =
+    let noted = none-noted c.loop-word.changes (λ w l. c.loop-word.invariant.none w (omega (arith, l, c.loop-word-test.false))) in
+    let P : Sched → Type 0 = λ s. AreTold c.args.elements.now.base s in
+    record {
+      given = given-all c.args.elements.now c.loop-word.sched (is_noted c.loop-word.changes) noted c.loop-word.invariant.given (subst P (sym c.loop-word.invariant.kept) c.requires.told);
+      kept = c.loop-word.invariant.kept;
+      none = noted;
+    }
