@@ -146,7 +146,7 @@ export class Firefox extends Browser {
         'datareporting.policy.firstRunURL': '' };
       fs.writeFileSync(path.join(folder, 'user.js'), Object.entries(prefs)
         .map(([name, value]) => `user_pref(${JSON.stringify(name)}, ${JSON.stringify(value)});\n`).join(''));
-      return ['--headless', '--marionette', '--no-remote', '--profile', folder];
+      return ['--headless', '--marionette', '--remote-allow-system-access', '--no-remote', '--profile', folder];
     }, ['ignore', 'ignore', 'ignore']);
     it.socket = await it.reached(port);
     it.last = 0;
@@ -236,6 +236,14 @@ export class Firefox extends Browser {
     const actions = [...text].flatMap(value => [{ type: 'keyDown', value }, { type: 'keyUp', value }]);
     await this.act([{ type: 'key', id: 'keys', actions }]);
     await sleep(40);
+  }
+  /** The look is a setting of the browser's own (0 is dark), which its own scripts alone can change. */
+  async dark(is) {
+    const script = `Services.prefs.setIntPref('layout.css.prefers-color-scheme.content-override', ${is ? 0 : 2});`;
+    await this.send('Marionette:SetContext', { value: 'chrome' });
+    await this.send('WebDriver:ExecuteScript', { script, args: [] });
+    await this.send('Marionette:SetContext', { value: 'content' });
+    await sleep(200);
   }
   async shot(file) {
     const { value } = await this.send('WebDriver:TakeScreenshot', { full: false });

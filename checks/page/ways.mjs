@@ -822,11 +822,10 @@ async function widths(page) {
   await browser.click('#wide');
   await page.shot('projector');
   await browser.click('#wide');
-  if (browser.dark) {
-    await browser.dark(true);
-    await page.shot('dark');
-    await browser.dark(false);
-  }
+  await browser.dark(true);
+  assert.equal(await browser.evaluate(`matchMedia('(prefers-color-scheme: dark)').matches`), true);
+  await page.shot('dark');
+  await browser.dark(false);
 }
 /** The page's own comparison, over all that the repository holds. */
 async function compares(page) {
