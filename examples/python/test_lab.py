@@ -72,6 +72,7 @@ def test_pictures() -> None:
     refused(lambda: evlsim.draw(many, page=3), evlsim.BadQuestion, "the last one is 2")
     neither = "line 1 is no line of a trace, and as a scenario it has a bad board"
     refused(lambda: evlsim.draw("x = 1"), evlsim.BadText, neither)
+    assert evlsim.draw("", "csv").count("\n") == 1
     refused(lambda: evlsim.draw(BOARD + "[[step]]\n"), evlsim.BadText, "it has a bad step 1")
     refused(lambda: evlsim.draw(b"\xff"), evlsim.BadText, "no UTF-8")
     wrong: Any = "png"
@@ -114,8 +115,9 @@ def test_same_as_the_program() -> None:
         with open(path, "rb") as file:
             data = file.read()
         assert [str(it) for it in evlsim.check(data)] == checked_by_the_program(data), path
-        # of callers the library draws what was printed, and the program their text too
-        for form in FORMS if "/callers/" not in path else ():
+        # of callers the library draws what was printed, and the program their text too; an empty text is a trace without
+        # lines for the library, and refused by the program
+        for form in FORMS if data and "/callers/" not in path else ():
             status, out, told = by_the_program(data, "draw", f"--{form}")
             if status == 0:
                 assert evlsim.draw(data, form) == out, path
