@@ -46,7 +46,8 @@ def story_of(title, body):
     for block in re.split(r'(```.*?```)', body, flags=re.S):
         if block.startswith('```'):
             text = html.escape(block.strip('`').strip('\n'), quote=False)
-            parts.append('<pre>' + re.sub(r'^(\d+) T\d.*$', STEP, text, flags=re.M) + '</pre>')
+            text = re.sub(r'^(\d+) T\d.*$', STEP, text, flags=re.M)
+            parts.append('<pre>' + re.sub(r'-&gt; \w+', r'<span class="nb">\g<0></span>', text) + '</pre>')
             continue
         paragraphs = [it.strip() for it in block.split('\n\n')]
         parts += [f'<p>{inline(it)}</p>' for it in paragraphs if it and not it.startswith('![')]
