@@ -325,7 +325,7 @@ async function lines(page) {
   assert.equal(await page.see('offers'), 'finish ');
   await browser.key('Escape');
   await browser.type('sh2');
-  await browser.until(`document.getElementById('faults').textContent.startsWith('fault line 12 there is no call')`);
+  await browser.until(`document.getElementById('faults').textContent.startsWith('fault line 12 there is no call "finsh2"')`);
   await browser.click('.fix');
   await browser.until(`document.getElementById('lines').textContent.includes('11 T1 finish keep=false')`);
   await page.tab('console');

@@ -3,6 +3,7 @@ import { $, now, escaped } from './now.js';
 import { put_text } from './kept.js';
 import { offer, offered } from './complete.js';
 import { Parts } from './parts.js';
+import { place_of_word } from './text.js';
 
 const MOST_FAULTS = 40;
 /** How many letters a row has, and how wide one is. */
@@ -63,12 +64,12 @@ export function show_line(n) {
 }
 /** The box that has what is reported. @param {any} it */
 const box_of = it => it.bank ? 'bank' : 'text';
-/** The word that is nearest in a message, and where the wrong one is. @param {any} it */
+/** The word that is nearest in a message, and where the wrong one is, which may be typed on meanwhile. @param {any} it */
 function fix_of(it) {
   const near = it.says.match(/"([^"]*)".*; did you mean "([^"]*)"\?/);
   if (!near || it.line === undefined) return null;
   const line = $(box_of(it)).value.split('\n')[it.line] || '';
-  const at = line.indexOf(near[1], Math.min(it.column, line.length));
+  const at = place_of_word(line, near[1], Math.min(it.column, line.length));
   return at < 0 ? null : { from: at, to: at + near[1].length, word: near[2] };
 }
 export function show_faults() {

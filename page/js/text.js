@@ -24,6 +24,17 @@ export function bare_of(line) {
   return line;
 }
 
+/**
+ * Where a word stands by itself in a line, from a place on; -1 where it does not, or is a part of a longer one.
+ * @param {string} line @param {string} word @param {number} from
+ */
+export function place_of_word(line, word, from) {
+  const beside = (/** @type {number} */ at) => (line[at - 1] || '') + (line[at + word.length] || '');
+  let at = line.indexOf(word, from);
+  while (at >= 0 && /\w/.test(beside(at))) at = at < line.length ? line.indexOf(word, at + 1) : -1;
+  return at;
+}
+
 const LINES = /^(T\d+(\s|$)|\d+\s+T\d+(\s|$)|(board|limit|setup)(\s+[^=\s]|\s*$))/;
 /** Whether a text is one of lines, as `T0 put sem=0`, by its first line that says something. @param {string} text */
 export function is_lines(text) {

@@ -6,7 +6,7 @@ import test from 'node:test';
 import { read_trace } from '../js/reads.js';
 import { image_of } from '../js/orders.js';
 import { has_words, ask_of, bare_of, first_steps, is_lines, kind_of, lost_line } from '../js/text.js';
-import { actions_of, passes_at, plays_at, steps_of, with_ask } from '../js/text.js';
+import { actions_of, passes_at, place_of_word, plays_at, steps_of, with_ask } from '../js/text.js';
 
 const top = path.join(import.meta.dirname || path.dirname(new URL(import.meta.url).pathname), '../..');
 const folder = name => ['examples', '.'].map(above => path.join(top, above, name)).find(it => fs.existsSync(it)) || '';
@@ -19,6 +19,11 @@ test('the kind of each text of the repository is seen', () => {
     assert.ok(texts(name).length > 0, name);
     for (const [file, text] of texts(name)) assert.equal(kind_of(text), kind, file);
   }
+});
+test('a word that is typed on is no longer the word that was reported', () => {
+  const cases = [['T1 finsh', 'finsh', 3, 3], ['T1 finsh2', 'fins', 3, -1], ['x = 3, lien = "lien"', 'lien', 0, 7],
+    ['as = "a"', 'a', 0, 6], ['put', '', 0, -1], ['', '', 0, 0], ['T0 putt', 'putt', 9, -1]];
+  for (const [line, word, from, at] of cases) assert.equal(place_of_word(line, word, from), at, line);
 });
 test('comments and quotes do not mislead', () => {
   assert.equal(kind_of('# [ask]\n[board]\nthreads = 1\n'), 'play');
