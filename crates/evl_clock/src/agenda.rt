@@ -1,5 +1,5 @@
 //! The dates of timers and deadlines, in the order in which they fall due.
-ghost use Rattle.std.specs.Prelude.{◌≡◌, ◌≤◌, ◌<◌, length, IfSome};
+ghost use Rattle.std.specs.Prelude.{◌≡◌, ◌≤◌, ◌<◌, length, IfSome, Some};
 ghost use Rattle.std.specs.Vec.{vec_capacity};
 ghost use Rattle.evl_clock.specs.Agenda.{IsOrdered, with_date, entry, first_entry, is_before, item_at, without_date, place_of};
 
@@ -69,30 +69,52 @@ pub fn first(entries: &[Entry]) -> Option<Entry>
 }
 
 /// A place has this date, if any. There is room for it.
+#[inline(always)]
 pub fn enter<A: Allocator>(agenda: &mut Vec<Entry, A>, place: u16, date: Option<u64>)
     requires ordered { IsOrdered agenda.old.items }
     requires room { length agenda.old.items < vec_capacity agenda.old }
     ensures entered { agenda.new.items ≡ with_date place date agenda.old.items }
     ensures room { vec_capacity agenda.new ≡ vec_capacity agenda.old }
 {
-    let Some(date) = date else {
-        return;
-    };
+    if let Some(date) = date {
+        enter_at(agenda, place, date);
+    }
+}
+
+// The same of a place that gets a date.
+#[inline(never)]
+fn enter_at<A: Allocator>(agenda: &mut Vec<Entry, A>, place: u16, date: u64)
+    requires ordered { IsOrdered agenda.old.items }
+    requires room { length agenda.old.items < vec_capacity agenda.old }
+    ensures entered { agenda.new.items ≡ with_date place (Some date) agenda.old.items }
+    ensures room { vec_capacity agenda.new ≡ vec_capacity agenda.old }
+{
     let entry = Entry { date, place };
     let at = place_of(agenda, entry);
     let _ = agenda.insert(at, entry);
 }
 
 /// A place has this date no more, if it had any.
+#[inline(always)]
 pub fn leave<A: Allocator>(agenda: &mut Vec<Entry, A>, place: u16, date: Option<u64>)
     requires ordered { IsOrdered agenda.old.items }
     requires stands { IfSome date (λ d. place_of (entry place d) agenda.old.items < length agenda.old.items) }
     ensures left { agenda.new.items ≡ without_date place date agenda.old.items }
     ensures room { vec_capacity agenda.new ≡ vec_capacity agenda.old }
 {
-    let Some(date) = date else {
-        return;
-    };
+    if let Some(date) = date {
+        leave_at(agenda, place, date);
+    }
+}
+
+// The same of a place that has a date.
+#[inline(never)]
+fn leave_at<A: Allocator>(agenda: &mut Vec<Entry, A>, place: u16, date: u64)
+    requires ordered { IsOrdered agenda.old.items }
+    requires stands { place_of (entry place date) agenda.old.items < length agenda.old.items }
+    ensures left { agenda.new.items ≡ without_date place (Some date) agenda.old.items }
+    ensures room { vec_capacity agenda.new ≡ vec_capacity agenda.old }
+{
     let at = place_of(agenda, Entry { date, place });
     let _ = agenda.remove(at);
 }

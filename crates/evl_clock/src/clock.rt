@@ -205,6 +205,7 @@ impl<C, A: Allocator> ClockOf<C, A> {
 
     /// Takes the deadline of a thread's wait away, if it has one. No more is due than before.
     /// (Xenomai 4: EVL timed waits)
+    #[inline(always)]
     pub fn clear_deadline(&mut self, thread: ThreadId)
         ensures state { self.new ≡ with_deadline self.old thread.0 None }
         ensures fewer { due_count self.new ≤ due_count self.old }
@@ -213,6 +214,7 @@ impl<C, A: Allocator> ClockOf<C, A> {
     }
 
     // Writes what the deadline of a thread's wait is.
+    #[inline(always)]
     fn put_deadline(&mut self, thread: ThreadId, until: Option<u64>)
         ensures state { self.new ≡ with_deadline self.old thread.0 until }
     {

@@ -280,6 +280,10 @@ fn come_behind<A: Allocator>(queues: &mut Contenders<A>, thread: u16, place: Pla
     requires { thread < length queues.old }
     ensures stood { queues.new ≡ slice_set queues.old thread (Some place) }
 {
+    if queues.place(thread).is_none() {
+        queues.put(thread, place);
+        return;
+    }
     if queues.turn(thread, place) {
         return;
     }

@@ -11,6 +11,6 @@ returns g c =
     let set = λ (q : List (Option Place)). slice_set q c.args.thread (Some c.args.place) in
     record {
       stood =
-          c.put.ensures.put ∙ (ap set c.take.ensures.taken
+          c.put-2.ensures.put ∙ (ap set c.take.ensures.taken
           ∙ (set-set c.turn.new.self c.args.thread None (Some c.args.place) ∙ ap set (c.turn.ensures.kept c.if-turn.false)));
     }
