@@ -25,7 +25,7 @@ mod room;
 
 use crate::allocators::another;
 use crate::kernel::quick::writes_quickly;
-use crate::kernel::room::{fence_after, find_room, make_room};
+use crate::kernel::room::{find_room, lower_fence, make_room};
 use crate::records::Records;
 use crate::served_lists::ServedLists;
 use evl_base::{
@@ -253,7 +253,7 @@ impl<C: Handler, A: Allocator> KernelOf<C, A> {
             &mut self.lists,
         ) {
             Err(refusal) => {
-                self.fence = fence_after(self.fence, &self.plays, before);
+                lower_fence(&mut self.fence, &self.plays, before);
                 self.history.push_reserved(Entry {
                     caller,
                     call,
@@ -264,7 +264,7 @@ impl<C: Handler, A: Allocator> KernelOf<C, A> {
             }
             Ok(reply) => {
                 let (given, entered) = doubled(reply, &mut self.spares);
-                self.fence = fence_after(self.fence, &self.plays, before);
+                lower_fence(&mut self.fence, &self.plays, before);
                 self.history.push_reserved(Entry {
                     caller,
                     call,

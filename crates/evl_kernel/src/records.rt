@@ -18,6 +18,7 @@ ghost use Rattle.evl_kernel.specs.state.Records.{IsOpened, state_of};
 ghost use Rattle.evl_kernel.specs.calls.MutexEffects.{record_at};
 ghost use Rattle.evl_kernel.specs.waiting.Waits.{has_ended, has_timed_out, is_waiting};
 
+mod beginnings;
 mod elements;
 mod likeness;
 mod line_calls;

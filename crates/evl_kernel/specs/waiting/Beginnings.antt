@@ -1,8 +1,10 @@
 -- The calls that begin a wait.
 use Rattle.std.specs.Option.{option_map_or}
-use Rattle.std.specs.Prelude.{ℕ, ◌==◌, nat_lt, List, not, ◌&&◌, Bool, true, false, ◌∷◌, [], Option, Some, None, is_some, option_and_then, slice_get, if◌then◌else◌}
+use Rattle.std.specs.Prelude.{ℕ, ◌==◌, nat_lt, List, not, ◌&&◌, Bool, true, false, ◌∷◌, [], Option, Some, None, Result, Ok, Err, is_some, option_and_then, slice_get, if◌then◌else◌}
 use Rattle.evl_base.specs.declared.refusal.Refusal.{Refusal}
 use Rattle.evl_base.specs.declared.refusal.Refusal.TheVariants.{Unknown, Range, Invalid, Deadlock}
+use Rattle.evl_base.specs.declared.reply.Reply.{Reply}
+use Rattle.evl_base.specs.declared.reply.Reply.TheVariants.{Begun}
 use Rattle.evl_base.specs.declared.stage.Stage.{Stage}
 use Rattle.evl_base.specs.declared.stage.Stage.TheVariants.{Oob}
 use Rattle.evl_sched.specs.Threads.{is_attached, refused_first, stage_of}
@@ -133,3 +135,8 @@ beginning s thread wanted until =
     let step = begin_step s thread wanted in
     told_unless (begin_refusal s thread wanted)
     (record { touches = touch s (Some thread) step ∷ []; effect = stepping_to (λ x. wait_begun x thread (awaited_by wanted) until (serves (elements s) step)) s step })
+
+-- the answer to a call by which a wait began, unless it was refused
+abbrev pub begun : {A : Type 0} → Result A Refusal → Result Reply Refusal
+begun (Ok _) = Ok Begun
+begun (Err refusal) = Err refusal

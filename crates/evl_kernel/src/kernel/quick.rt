@@ -113,7 +113,7 @@ impl<C: Handler, A: Allocator> KernelOf<C, A> {
     }
 
     // The same of a read alone.
-    #[inline(always)]
+    #[inline(never)]
     fn read_quickly(
         &mut self,
         caller: ThreadId,

@@ -85,20 +85,17 @@ fn move_fence<A: Allocator>(
     }
 }
 
-// The fence behind a call, before which there were so many plays: 0 where the plays of one more may find no room.
+// Lowers the fence behind a call, before which there were so many plays, to 0 where the plays of one more may find no
+// room.
 #[inline(always)]
-pub(super) fn fence_after<A: Allocator>(fence: usize, plays: &Vec<Play, A>, before: usize) -> usize
+pub(super) fn lower_fence<A: Allocator>(fence: &mut usize, plays: &Vec<Play, A>, before: usize)
     requires before { play_limit ≤ vec_capacity plays.now - before }
-    ensures fence { result ≤ fence }
-    ensures room { 0 < result → play_limit ≤ vec_capacity plays.now - vec_len plays.now }
+    ensures fence { fence.new ≤ fence.old }
+    ensures room { 0 < fence.new → play_limit ≤ vec_capacity plays.now - vec_len plays.now }
 {
-    if plays.len() == before {
-        return fence;
+    if plays.len() != before && plays.capacity() - plays.len() < MAX_PLAYS {
+        *fence = 0;
     }
-    if plays.capacity() - plays.len() < MAX_PLAYS {
-        return 0;
-    }
-    fence
 }
 
 // Makes room for the entries, the plays and the bytes of so many calls. `NoMemory` where it was refused.

@@ -25,7 +25,7 @@ use std::alloc::Allocator;
 
 impl<C, A: Allocator> Records<C, A> {
     /// Lowers a count. `Unknown` where there is no such semaphore, `Again` where its count is 0.
-    #[inline(always)]
+    #[inline(never)]
     pub(super) fn try_get(&mut self, sem: SemId) -> Result<Reply, Refusal>
         ensures answer { IsAnswer result }
         ensures served { Has (state_of self.old) (stepping (state_of self.old) (on_sem sem.0 semaphore.get)) result (state_of self.new) }
@@ -58,7 +58,7 @@ impl<C, A: Allocator> Records<C, A> {
 
     /// Takes bits, and tells which. The first that applies: `Unknown` (no such flag group), `Invalid` (a mask without
     /// bits), `Again` (there is nothing to take).
-    #[inline(always)]
+    #[inline(never)]
     pub(super) fn try_take(&mut self, flags: FlagId, kind: Take) -> Result<Reply, Refusal>
         ensures answer { IsAnswer result }
         ensures served { Has (state_of self.old) (stepping (state_of self.old) (on_flags flags.0 (group.take kind))) result (state_of self.new) }
@@ -96,7 +96,7 @@ impl<C, A: Allocator> Records<C, A> {
 
     /// Writes bytes from the thread's stage, and ends the waits of those whom that serves. The first that applies:
     /// `Unknown` (no such cross-buffer), `WrongStage`, `TooBig`, `Again`.
-    #[inline(always)]
+    #[inline(never)]
     pub(super) fn write(
         &mut self,
         thread: ThreadId,
@@ -122,7 +122,7 @@ impl<C, A: Allocator> Records<C, A> {
 
     /// Reads bytes from the thread's stage into a box of `spares`, and ends the waits of those whom that serves. The
     /// first that applies: `Unknown` (no such cross-buffer), `Range`, `WrongStage`, `Again`.
-    #[inline(always)]
+    #[inline(never)]
     pub(super) fn read(
         &mut self,
         thread: ThreadId,

@@ -46,7 +46,7 @@ impl<C: Handler, A: Allocator> Records<C, A> {
 
     /// Answers a write where it is accepted, nobody waits for the cross-buffer and nothing pends, and says whether it
     /// did; nothing changes else.
-    #[inline(always)]
+    #[inline(never)]
     pub(crate) fn write_quickly(
         &mut self,
         caller: ThreadId,

@@ -26,7 +26,7 @@ fn is_timer_allowed(kinds: ActionKinds) -> bool
 
 impl<C, A: Allocator> Records<C, A> {
     /// The date, in nanoseconds.
-    #[inline(always)]
+    #[inline(never)]
     pub(super) fn now(&self) -> Result<Reply, Refusal>
         ensures answer { IsAnswer result }
         ensures served { Has (state_of self.now) (timer_call.now (state_of self.now)) result (state_of self.now) }
@@ -51,7 +51,7 @@ impl<C, A: Allocator> Records<C, A> {
     }
 
     /// How many periods a timer missed since its start. `Unknown` where there is no such timer.
-    #[inline(always)]
+    #[inline(never)]
     pub(super) fn overruns(&self, timer: TimerId) -> Result<Reply, Refusal>
         ensures answer { IsAnswer result }
         ensures served { Has (state_of self.now) (timer_call.overruns (state_of self.now) timer.0) result (state_of self.now) }

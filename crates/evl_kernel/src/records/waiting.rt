@@ -3,7 +3,7 @@ ghost use Rattle.std.specs.Prelude.{ℕ, ◌≡◌, ◌<◌, ◌≤◌, ◌+◌,
 ghost use Rattle.evl_sched.specs.Threads.{unready};
 ghost use Rattle.evl_clock.specs.Clocks.{with_deadline};
 ghost use Rattle.evl_xbuf.specs.Xbufs.{same_stage};
-ghost use Rattle.evl_kernel.specs.waiting.Beginnings.{begin_refusal, beginning, is_named, is_ranked, waiter_refusal};
+ghost use Rattle.evl_kernel.specs.waiting.Beginnings.{begin_refusal, beginning, begun, is_named, is_ranked, waiter_refusal};
 ghost use Rattle.evl_kernel.specs.calls.CrossBuffers.{service_told};
 ghost use Rattle.evl_kernel.specs.calls.Elements.{elements, with_elements};
 ghost use Rattle.evl_kernel.specs.waiting.Endings.{finish, goes_inband, left_by, served_by_leaving};
@@ -38,11 +38,11 @@ impl<C, A: Allocator> Records<C, A> {
         wanted: Wanted,
         until: Option<u64>,
         told: &mut Services,
-    ) -> Result<Reply, Refusal>
+    ) -> Result<(), Refusal>
         requires idle { wait_at (state_of self.old) thread.0 ≡ None }
         requires there { thread.0 < self.old.threads }
-        ensures answer { IsAnswer result }
-        ensures served { Has (state_of self.old) (beginning (state_of self.old) thread.0 wanted until).effect result (state_of self.new) }
+        ensures answer { IsAnswer (begun result) }
+        ensures served { Has (state_of self.old) (beginning (state_of self.old) thread.0 wanted until).effect (begun result) (state_of self.new) }
         ensures stands { KeepsCallbacks self.old self.new }
     {
         let on = wanted.awaited();
@@ -71,7 +71,7 @@ impl<C, A: Allocator> Records<C, A> {
             }
             ranked => self.begin_ranked(thread, rank, &ranked, until),
         }
-        Ok(Reply::Begun)
+        Ok(())
     }
 
     // A wait for a semaphore or a flag group begins, with the thread's rank.

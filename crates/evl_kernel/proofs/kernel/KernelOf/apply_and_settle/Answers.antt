@@ -83,8 +83,8 @@ invariant_of-self-in-Err g c = record {
   legal = refusal_legal g c;
   within = omega (arith, c.in_ok-find_room.ensures.within, ap (λ (es : List Entry). length es) (refused_entry g c), length-append {A = Entry});
   limit = c.self.invariant.limit;
-  fence = λ below. let stood = c.find_room.ensures.fence (omega (arith, below, c.fence_after-self-inside.ensures.fence, c.push_reserved.ensures.len)) in
-      (omega (arith, stood.0, c.fence_after-self-inside.ensures.fence), omega (arith, stood.1, c.fence_after-self-inside.ensures.fence, c.push_reserved.ensures.capacity), c.fence_after-self-inside.ensures.room (omega (arith, below)));
+  fence = λ below. let stood = c.find_room.ensures.fence (omega (arith, below, c.lower_fence.ensures.fence, c.push_reserved.ensures.len)) in
+      (omega (arith, stood.0, c.lower_fence.ensures.fence), omega (arith, stood.1, c.lower_fence.ensures.fence, c.push_reserved.ensures.capacity), c.lower_fence.ensures.room (omega (arith, below)));
 }
 
 pub returns-in-Err-clause-entry : goal.returns-in-Err-clause-entry
@@ -136,8 +136,8 @@ invariant_of-self-in-Ok g c = record {
   legal = answer_legal g c;
   within = omega (arith, c.in_ok-find_room.ensures.within, ap (λ (es : List Entry). length es) (answered_entry g c), length-append {A = Entry});
   limit = c.self.invariant.limit;
-  fence = λ below. let stood = c.find_room.ensures.fence (omega (arith, below, c.fence_after-self-inside-in-Ok.ensures.fence, c.push_reserved-in-Ok.ensures.len)) in
-      (omega (arith, stood.0, c.fence_after-self-inside-in-Ok.ensures.fence), omega (arith, stood.1, c.fence_after-self-inside-in-Ok.ensures.fence, c.push_reserved-in-Ok.ensures.capacity), c.fence_after-self-inside-in-Ok.ensures.room (omega (arith, below)));
+  fence = λ below. let stood = c.find_room.ensures.fence (omega (arith, below, c.lower_fence-in-Ok.ensures.fence, c.push_reserved-in-Ok.ensures.len)) in
+      (omega (arith, stood.0, c.lower_fence-in-Ok.ensures.fence), omega (arith, stood.1, c.lower_fence-in-Ok.ensures.fence, c.push_reserved-in-Ok.ensures.capacity), c.lower_fence-in-Ok.ensures.room (omega (arith, below)));
 }
 
 pub returns-in-Ok-clause-entry : goal.returns-in-Ok-clause-entry
