@@ -1,7 +1,8 @@
 -- Worked rows, computed from the definitions.
-use Rattle.std.proofs.Common.{◌≡◌, [], ◌∷◌, codes, refl}
+use Rattle.std.proofs.Common.{◌≡◌, [], ◌∷◌, codes, refl, None, Some}
 use Rattle.lab_faults.specs.Keys.{behind, entry, text_headings, text_keys}
 use Rattle.lab_faults.specs.Pieces.{pieces, pieces_from, word}
+use Rattle.lab_faults.specs.Quotes.{unquoted_at}
 use Rattle.lab_faults.specs.declared.items.Section.TheVariants.{Opening, Board, Step}
 use Rattle.lab_faults.specs.declared.tokens.Kind.TheVariants.{Equals, EndLine}
 
@@ -42,3 +43,14 @@ listed_steps :
     ∷ record { section = Step 2; key = (22, 24); value = (27, 33) } ∷ []
 unfolding text_keys pieces_from behind entry
 listed_steps = refl
+
+-- words without quotes go up to the end of the value; a number is none
+words_at :
+    unquoted_at (codes "policy = fifo 10 # so\nwho = 1\n") (text_keys (codes "policy = fifo 10 # so\nwho = 1\n")) 9 ≡
+    Some (record { section = Opening; key = (0, 6); value = (9, 16) })
+unfolding text_keys pieces_from behind entry
+words_at = refl
+
+number_at : unquoted_at (codes "who = 1\n") (text_keys (codes "who = 1\n")) 6 ≡ None
+unfolding text_keys pieces_from behind entry
+number_at = refl

@@ -8,9 +8,11 @@ use Rattle.evl_scenario.specs.declared.faults.Fault.TheVariants.{Text, Board, St
 use Rattle.lab_faults.specs.Boards.{board_faults}
 use Rattle.lab_faults.specs.Faults.{found_lines}
 use Rattle.lab_faults.specs.Keys.{text_headings, text_keys}
+use Rattle.lab_faults.specs.Quotes.{unquoted_at, unquoted_text}
 use Rattle.lab_faults.specs.Steps.{all_step_faults}
 use Rattle.lab_faults.specs.Told.{Told, fault_told, told_at}
 use Rattle.lab_faults.specs.declared.found.Found.{Found}
+use Rattle.lab_faults.specs.declared.items.Item.{Item}
 
 -- ---- of the text
 
@@ -24,15 +26,19 @@ pub record StopsAt (text : List ℕ) (stop : Error) (at : ℕ) : Type 0 where
   pub within : IsWithin text stop
   pub there : at ≡ span_start stop
 
--- some reason is told
-abbrev pub TellsWhy : List ℕ → Type 0
-TellsWhy words = (why : List ℕ) × (why ≢ []) × (words ≡ not_toml_text why)
+-- some reason is told; at a value without quotes just that
+abbrev pub SaysWhy : List ℕ → Option Item → List ℕ → Type 0
+SaysWhy text (Some item) words = words ≡ unquoted_text text item
+SaysWhy text None words = (why : List ℕ) × (why ≢ []) × (words ≡ not_toml_text why)
+
+abbrev pub TellsWhy : List ℕ → ℕ → List ℕ → Type 0
+TellsWhy text at words = SaysWhy text (unquoted_at text (text_keys text) at) words
 
 -- a text of few bytes: it is a document that can't be read, or is none from where the reader stopped
 abbrev pub IsRefusedFor : List ℕ → ℕ → List ℕ → Type 0
 IsRefusedFor text at words =
     ((is_some (parse_document text) ≡ true) × (at ≡ 0) × (words ≡ codes "the text can't be read"))
-    ⊎ ((stop : Error) × StopsAt text stop at × TellsWhy words)
+    ⊎ ((stop : Error) × StopsAt text stop at × TellsWhy text at words)
 
 -- any text: it is too long, or that
 pub record IsTextFault (text : List ℕ) (at : ℕ) (words : List ℕ) : Type 0 where

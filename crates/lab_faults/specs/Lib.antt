@@ -3,6 +3,7 @@ pub mod Checks
 pub mod Faults
 pub mod Keys
 pub mod Pieces
+pub mod Quotes
 pub mod Steps
 pub mod Told
 pub mod Wants

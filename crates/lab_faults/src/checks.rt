@@ -2,13 +2,15 @@
 ghost use Rattle.std.specs.Prelude.{◌≡◌, ◌≢◌, [], ◌∷◌, true, false, map, string_bytes, Err, None, Some, IfOk};
 ghost use Rattle.toml.specs.Errors.{IsMemory, span_start};
 ghost use Rattle.evl_scenario.specs.Scenarios.{scenario_of};
-ghost use Rattle.lab_faults.specs.Checks.{Finds, FindsText, IsLed, IsRefusedFor, IsTextFault, Tells, TellsWhy, faults_in_all, faults_in_steps, not_toml_text, plain_text, plain_told};
+ghost use Rattle.lab_faults.specs.Checks.{Finds, FindsText, IsLed, IsRefusedFor, IsTextFault, SaysWhy, Tells, TellsWhy, faults_in_all, faults_in_steps, not_toml_text, plain_text, plain_told};
 ghost use Rattle.lab_faults.specs.Faults.{are_of_steps, first_fault, is_of_step, refusal_in};
 ghost use Rattle.lab_faults.specs.Told.{fault_told};
 
 use crate::boards::check_board;
 use crate::found::{Finding, Found, Place};
+use crate::items::Item;
 use crate::keys::items_of;
+use crate::quotes::{unquoted_at, unquoted_words};
 use crate::runs::check_steps;
 use evl_scenario::{Fault, read_scenario};
 use std::alloc::{AllocError, Global};
@@ -33,16 +35,36 @@ fn reason(stop: &Error) -> &str
     }
 }
 
+// Why the reader of TOML stopped, or the value without quotes at which it did.
+fn why_stopped(
+    alloc: Global,
+    text: &[u8],
+    unquoted: Option<Item>,
+    stop: &Error,
+) -> Result<String, AllocError>
+    ensures { IfOk result (λ words. SaysWhy text.now unquoted (string_bytes words)) }
+{
+    match unquoted {
+        Some(item) => unquoted_words(alloc, text, item),
+        None => {
+            let words = not_toml(alloc, reason(stop))?;
+            Ok(words)
+        }
+    }
+}
+
 // Where the reader of TOML stopped, and why.
-fn stop_told(alloc: Global, stop: &Error) -> Result<(usize, String), AllocError>
+fn stop_told(alloc: Global, text: &[u8], stop: &Error) -> Result<(usize, String), AllocError>
     ensures read { IfOk result (λ fault_told. ¬ IsMemory stop.now) }
     ensures there { IfOk result (λ fault_told. fault_told.0 ≡ span_start stop.now) }
-    ensures why { IfOk result (λ fault_told. TellsWhy (string_bytes fault_told.1)) }
+    ensures why { IfOk result (λ fault_told. TellsWhy text.now fault_told.0 (string_bytes fault_told.1)) }
 {
     let Some(span) = stop.span() else {
         return Err(AllocError);
     };
-    let words = not_toml(alloc, reason(stop))?;
+    let items = items_of(alloc, text)?;
+    let unquoted = unquoted_at(text, items.items.as_slice(), span.start);
+    let words = why_stopped(alloc, text, unquoted, stop)?;
     Ok((span.start, words))
 }
 
@@ -56,7 +78,7 @@ fn refused_for(alloc: Global, text: &[u8]) -> Result<(usize, String), AllocError
             Ok((0, words))
         }
         Err(stop) => {
-            let told = stop_told(alloc, &stop)?;
+            let told = stop_told(alloc, text, &stop)?;
             Ok(told)
         }
     }

@@ -9,6 +9,7 @@ mod items;
 mod judges;
 mod keys;
 mod near;
+mod quotes;
 mod reports;
 mod runs;
 mod standings;

@@ -122,6 +122,9 @@ fn nothing_is_told_of_a_scenario(rt: HostRuntime) {
 fn a_text_that_is_no_toml_is_told(rt: HostRuntime) {
     let told = "a.toml:1:4: no TOML in UTF-8: key with no value, expected `=`\n";
     assert!(rt; is_told(rt.alloc(), "abc\n", told));
+    let words =
+        "a.toml:1:10: policy = fifo 10: a word stands in quotes, as policy = \"fifo 10\"; only numbers, true and false stand without\n";
+    assert!(rt; is_told(rt.alloc(), "policy = fifo 10 # so\n", words));
 }
 
 #[test]
