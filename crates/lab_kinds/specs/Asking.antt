@@ -1,11 +1,12 @@
 -- Whether the orders of a text can be asked for, where nothing else is wrong with it.
-use Rattle.std.specs.Prelude.{◌≡◌, ◌⊎◌, ℕ, List, [], ◌∷◌, ◌++◌, codes, decimal, string_bytes, Option, Some, None, IsSomeAnd, option_and_then, unwrap_or}
+use Rattle.std.specs.Prelude.{◌≡◌, ◌⊎◌, ◌||◌, ℕ, Bool, if◌then◌else◌, List, [], ◌∷◌, ◌++◌, codes, decimal, string_bytes, Option, Some, None, IsSomeAnd, option_and_then, unwrap_or}
+use Rattle.std.specs.Str.{bytes_eq}
 use Rattle.toml.specs.Parse.{parse_document}
 use Rattle.evl_scenario.specs.declared.faults.Fault.TheVariants as scenario
 use Rattle.evl_scenario.specs.declared.steps.Step.{Step}
 use Rattle.lab_faults.specs.Told.{Told}
 use Rattle.lab_scenario_orders.specs.Answers.{first_impossible, near_answer}
-use Rattle.lab_scenario_orders.specs.Asks.{AreOfCallers, Asks, ask_table}
+use Rattle.lab_scenario_orders.specs.Asks.{AreOfCallers, Asks, ask_table, begins}
 use Rattle.lab_scenario_orders.specs.Callers.{IsRefused, IsSetUp}
 use Rattle.lab_scenario_orders.specs.KeyLines.{IsPlaced, key_name, line_set}
 use Rattle.lab_scenario_orders.specs.Shares.{AreCallersOf}
@@ -72,9 +73,19 @@ ask_line (ask.Key key line) = line
 ask_line (ask.Facts key number why line) = line
 ask_line _ = None
 
+-- how a wait ends is answered so
+abbrev pub ends_wait : List ℕ → Bool
+ends_wait answer =
+    ((bytes_eq answer (codes "done") || bytes_eq answer (codes "timed out")) || begins (codes "bits ") answer) || begins (codes "bytes ") answer
+
+-- whoever asks for that may lack a step that ends its wait
+abbrev pub finish_text : List ℕ → List ℕ
+finish_text answer = if ends_wait answer then codes "; how a wait ends is the answer of its finish" else []
+
 -- an answer that no step of its caller can have, with what may be meant
 abbrev pub impossible_words : Never → Option (List ℕ) → List ℕ
-impossible_words never None = codes "[ask]: " ++ (string_bytes never.who ++ (codes " is never answered \"" ++ (string_bytes never.answer ++ codes "\"")))
+impossible_words never None =
+    codes "[ask]: " ++ (string_bytes never.who ++ (codes " is never answered \"" ++ (string_bytes never.answer ++ (codes "\"" ++ finish_text (string_bytes never.answer)))))
 impossible_words never (Some word) =
     codes "[ask]: " ++ (string_bytes never.who ++ (codes " is never answered \"" ++ (string_bytes never.answer
     ++ (codes "\"; did you mean \"" ++ (word ++ codes "\"?")))))

@@ -3,6 +3,7 @@ ghost use Rattle.std.specs.Prelude.{◌≡◌, IfOk, Some, option_map, string_by
 ghost use Rattle.lab_scenario_orders.specs.KeyLines.{key_name};
 ghost use Rattle.lab_kinds.specs.Asking as asking;
 
+use crate::parts::begins;
 use evl_scenario::Fault;
 use lab_scenario_orders::{AskFault, AskKey, FactFault, Never, Part, TextFault};
 use std::alloc::{AllocError, Global};
@@ -114,6 +115,27 @@ pub fn ask_line(fault: AskFault) -> Option<usize>
     }
 }
 
+// Whether it is answered so how a wait ends.
+fn ends_wait(answer: &str) -> bool
+    ensures { result ≡ asking.ends_wait answer.now }
+{
+    answer == "done"
+        || answer == "timed out"
+        || begins(b"bits ", answer.as_bytes())
+        || begins(b"bytes ", answer.as_bytes())
+}
+
+// What is said to whoever may lack a step that ends its wait.
+fn finish_text(answer: &str) -> &'static str
+    ensures { result.now ≡ asking.finish_text answer.now }
+{
+    if ends_wait(answer) {
+        "; how a wait ends is the answer of its finish"
+    } else {
+        ""
+    }
+}
+
 /// What is said of an answer that no step of its caller can have, with what may be meant. `AllocError` where memory
 /// couldn't grow.
 pub fn impossible_words(
@@ -129,7 +151,10 @@ pub fn impossible_words(
         Some(word) => format!(in alloc;
             "[ask]: {who} is never answered \"{answer}\"; did you mean \"{word}\"?"
         ),
-        None => format!(in alloc; "[ask]: {who} is never answered \"{answer}\""),
+        None => {
+            let finish = finish_text(answer);
+            format!(in alloc; "[ask]: {who} is never answered \"{answer}\"{finish}")
+        }
     }
 }
 
