@@ -21,12 +21,12 @@ behind_none text false [] faults none is last = last
 behind_none text of_steps (one ∷ rest) faults none is last = cc
 
 pub parted : (text bytes scenario plain : List ℕ) (setup : ℕ) (asked own : List ℕ) (steps : Bool) (found faults : List Told) → bytes ≡ text → steps ≡ is_of_steps scenario
-    → MatchBool steps (StepsTell bytes plain setup own found) (TextTells bytes scenario setup asked found) → Behind text steps found faults
+    → MatchBool steps (StepsTell bytes plain setup asked own found) (TextTells bytes scenario setup asked found) → Behind text steps found faults
     → PartedTells text scenario plain setup asked own faults
 parted text bytes scenario plain setup asked own steps found faults at is parts behind =
-    let here = subst (λ (t : List ℕ). MatchBool steps (StepsTell t plain setup own found) (TextTells t scenario setup asked found)) at parts in
+    let here = subst (λ (t : List ℕ). MatchBool steps (StepsTell t plain setup asked own found) (TextTells t scenario setup asked found)) at parts in
     record {
       found = found;
-      parts = subst (λ (b : Bool). MatchBool b (StepsTell text plain setup own found) (TextTells text scenario setup asked found)) is here;
+      parts = subst (λ (b : Bool). MatchBool b (StepsTell text plain setup asked own found) (TextTells text scenario setup asked found)) is here;
       behind = subst (λ (b : Bool). Behind text b found faults) is behind;
     }

@@ -21,10 +21,10 @@ use Rattle.lab_faults.specs.declared.items.Item.{Item}
 use Rattle.lab_faults.specs.declared.tokens.Token.{Token}
 use Rattle.lab_callers_text.specs.Readings.{IsRead}
 use Rattle.lab_callers_text.specs.declared.reading.CallersText.{CallersText}
-use Rattle.lab_kinds.specs.Asking.{AskedLast}
+use Rattle.lab_kinds.specs.Asking.{AskedLast, open_text, told_on}
 use Rattle.lab_kinds.specs.Callers.{CallersTell}
 use Rattle.lab_kinds.specs.Kinds.{is_headed, kind_of}
-use Rattle.lab_kinds.specs.Plains.{plain_within, unquestioned_within}
+use Rattle.lab_kinds.specs.Plains.{open_question, plain_within, unquestioned_within}
 use Rattle.lab_kinds.specs.Tables.{field_faults}
 use Rattle.lab_kinds.specs.Words.{ask_keys, is_word, step_ask_keys}
 use Rattle.lab_kinds.specs.declared.kinds.TextKind.{TextKind}
@@ -194,14 +194,20 @@ pub record TextTells (text scenario : List ℕ) (setup : ℕ) (asked : List ℕ)
   pub refused : (fault : Fault) → scenario_of None scenario ≡ Err fault → Tells scenario fault faults
   pub read : is_ok (scenario_of None scenario) ≡ true → AskedTells text scenario setup asked faults
 
+-- facts of moments that don't end on their line, or else what is asked beside them
+abbrev pub QuestionsTell : List ℕ → List ℕ → ℕ → List ℕ → Option ℕ → List Told → Type 0
+QuestionsTell text scenario setup own (Some line) faults = faults ≡ told_on (Some line) open_text ∷ []
+QuestionsTell text scenario setup own None faults = AskedTells text scenario setup own faults
+
 -- the same where the scenario is one of callers
-abbrev pub StepsTell : List ℕ → List ℕ → ℕ → List ℕ → List Told → Type 0
-StepsTell text scenario setup asked faults =
-    ((read : CallersText) × IsRead None scenario read × AskedTells text scenario setup asked faults) ⊎ ((fault : Fault) × CallersTell scenario fault faults)
+abbrev pub StepsTell : List ℕ → List ℕ → ℕ → List ℕ → List ℕ → List Told → Type 0
+StepsTell text scenario setup asked own faults =
+    ((read : CallersText) × IsRead None scenario read × QuestionsTell text scenario setup own (open_question asked) faults)
+    ⊎ ((fault : Fault) × CallersTell scenario fault faults)
 
 abbrev pub PartsTell : List ℕ → List ℕ → List ℕ → ℕ → List ℕ → List ℕ → List Told → Type 0
 PartsTell text scenario plain setup asked own faults =
-    MatchBool (is_of_steps scenario) (StepsTell text plain setup own faults) (TextTells text scenario setup asked faults)
+    MatchBool (is_of_steps scenario) (StepsTell text plain setup asked own faults) (TextTells text scenario setup asked faults)
 
 -- where nothing is found in its parts, the orders of whole calls can be asked for, or are refused for what reads them
 abbrev pub Behind : List ℕ → Bool → List Told → List Told → Type 0

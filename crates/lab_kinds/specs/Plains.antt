@@ -1,5 +1,6 @@
 -- Lines that texts of steps have beside those of texts of callers: `lasts` of a step, and the table `[what_if]`.
-use Rattle.std.specs.Prelude.{ℕ, Bool, false, ◌||◌, ◌&&◌, not, List, [], ◌∷◌, ◌++◌, Option, codes, if◌then◌else◌, option_and_then, option_map}
+use Rattle.std.specs.Prelude.{ℕ, ◌+◌, Bool, false, ◌||◌, ◌&&◌, nat_eq, not, List, [], ◌∷◌, ◌++◌, Option, None, Some, codes, if◌then◌else◌, option_and_then, option_map}
+use Rattle.std.specs.List.{ends_with}
 use Rattle.std.specs.Option.{option_map_or}
 use Rattle.std.specs.Str.{bytes_eq, trim}
 use Rattle.std.specs.Str.Lines.{lines}
@@ -49,6 +50,18 @@ is_question_key key = (bytes_eq key (codes "never_state") || bytes_eq key (codes
 
 abbrev pub is_question : List ℕ → Bool
 is_question line = option_map_or is_question_key (key_set line) false
+
+-- the facts of a question don't end on its line
+abbrev pub is_open : List ℕ → Bool
+is_open line = is_question line && not (ends_with nat_eq (bare line) (codes "]"))
+
+-- the number of the first such line, where these are numbered from n
+abbrev pub open_from : ℕ → List (List ℕ) → Option ℕ
+open_from n [] = None
+open_from n (line ∷ rest) = if is_open line then Some n else open_from (n + 1) rest
+
+abbrev pub open_question : List ℕ → Option ℕ
+open_question asked = open_from 1 (lines asked)
 
 -- the other lines of what is asked, each at its place
 abbrev pub unquestioned_line : Bool → List ℕ → List ℕ

@@ -4,7 +4,7 @@ ghost use Rattle.lab_faults.specs.Told.{fault_told};
 ghost use Rattle.lab_scenario_orders.specs.Answers.{first_impossible, near_answer};
 ghost use Rattle.lab_scenario_orders.specs.KeyLines.{line_set};
 ghost use Rattle.lab_kinds.specs.Asking as asking;
-ghost use Rattle.lab_kinds.specs.Asking.{AskTells, AskedLast, impossible_faults, told_on};
+ghost use Rattle.lab_kinds.specs.Asking.{AskTells, AskedLast, impossible_faults, open_text, told_on};
 
 use crate::phrases::{ask_line, ask_words, impossible_words, refusal_words};
 use evl_scenario::Fault;
@@ -80,6 +80,18 @@ fn found_unasked(alloc: Global, text: &str, callers: &Callers) -> Result<Vec<Fou
             Ok(found)
         }
     }
+}
+
+/// The fault of facts that don't end on the line of their key, which has this number. `AllocError` where memory couldn't
+/// grow.
+pub fn found_open(alloc: Global, line: usize) -> Result<Vec<Found>, AllocError>
+    ensures { IfOk result (λ found. map fault_told found.items ≡ told_on (Some line) open_text ∷ []) }
+{
+    let words = String::from_str(
+        alloc,
+        "facts are asked on one line, as never_state = [\"T1 has the core and mutex 0 claimed\"]",
+    )?;
+    only(alloc, found_on(Some(line), words))
 }
 
 /// Why the orders of a text can't be asked for: none where they can. `AllocError` where memory couldn't grow.

@@ -4,15 +4,16 @@ ghost use Rattle.toml.specs.Errors.{IsMemory};
 ghost use Rattle.lab_faults.specs.Checks.{FindsText};
 ghost use Rattle.lab_faults.specs.Told.{Adds, fault_told};
 ghost use Rattle.lab_kinds.specs.Orders as orders;
-ghost use Rattle.lab_kinds.specs.Orders.{AskedTells, Behind, LinesTell, OrdersTell, PartedTells, StepsTell, TextTells, mixed_faults};
+ghost use Rattle.lab_kinds.specs.Orders.{AskedTells, Behind, LinesTell, OrdersTell, PartedTells, QuestionsTell, StepsTell, TextTells, mixed_faults};
+ghost use Rattle.lab_kinds.specs.Plains.{open_question};
 ghost use Rattle.lab_kinds.specs.Reports.{is_some_found};
 
-use crate::asking::check_asked;
+use crate::asking::{check_asked, found_open};
 use crate::asks::{callers_of, check_ask};
 use crate::callers::explain;
 use crate::kinds::{TextKind, is_headed, kind_of};
 use crate::parts::{asked_in, lines_of, scenario_in, setups_in};
-use crate::plains::{plain_in, unquestioned_in};
+use crate::plains::{open_question, plain_in, unquestioned_in};
 use evl_scenario::Fault;
 use lab_callers_text::read_callers;
 use lab_faults::{Finding, Found, Heading, check, found_in_text, items_of};
@@ -167,20 +168,53 @@ fn found_around(
     Ok(found)
 }
 
-// The same where the scenario is one of callers.
+// The fault of facts of moments that don't end on this line, where there are some, or else of what is asked beside them.
+fn found_at_open(
+    alloc: Global,
+    text: &[u8],
+    scenario: &[u8],
+    setup: usize,
+    own: &str,
+    unended: Option<usize>,
+) -> Result<Vec<Found>, AllocError>
+    ensures { IfOk result (λ found. QuestionsTell text.now scenario.now setup own.now unended (map fault_told found.items)) }
+{
+    match unended {
+        Some(line) => found_open(alloc, line),
+        None => found_beside(alloc, text, scenario, setup, own),
+    }
+}
+
+// The same by the lines of what is asked.
+fn found_in_questions(
+    alloc: Global,
+    text: &[u8],
+    scenario: &[u8],
+    setup: usize,
+    asked: &str,
+    own: &str,
+) -> Result<Vec<Found>, AllocError>
+    ensures { IfOk result (λ found. QuestionsTell text.now scenario.now setup own.now (open_question asked.now) (map fault_told found.items)) }
+{
+    let unended = open_question(alloc, asked)?;
+    found_at_open(alloc, text, scenario, setup, own, unended)
+}
+
+// The faults of a text with this scenario, which is one of callers.
 fn found_in_steps(
     alloc: Global,
     text: &[u8],
     scenario: &[u8],
     setup: usize,
     asked: &str,
+    own: &str,
 ) -> Result<Vec<Found>, AllocError>
-    ensures { IfOk result (λ found. StepsTell text.now scenario.now setup asked.now (map fault_told found.items)) }
+    ensures { IfOk result (λ found. StepsTell text.now scenario.now setup asked.now own.now (map fault_told found.items)) }
 {
     match read_callers(alloc, scenario, None) {
         Ok(read) => {
             drop(read);
-            let found = found_beside(alloc, text, scenario, setup, asked)?;
+            let found = found_in_questions(alloc, text, scenario, setup, asked, own)?;
             Ok(found)
         }
         Err(Fault::Memory) => Err(AllocError),
@@ -202,10 +236,10 @@ fn found_in_parts(
     own: &str,
     is_of_steps: bool,
 ) -> Result<Vec<Found>, AllocError>
-    ensures { IfOk result (λ found. MatchBool is_of_steps (StepsTell text.now plain.now setup own.now (map fault_told found.items)) (TextTells text.now scenario.now setup asked.now (map fault_told found.items))) }
+    ensures { IfOk result (λ found. MatchBool is_of_steps (StepsTell text.now plain.now setup asked.now own.now (map fault_told found.items)) (TextTells text.now scenario.now setup asked.now (map fault_told found.items))) }
 {
     if is_of_steps {
-        let found = found_in_steps(alloc, text, plain, setup, own)?;
+        let found = found_in_steps(alloc, text, plain, setup, asked, own)?;
         return Ok(found);
     }
     let found = found_around(alloc, text, scenario, setup, asked)?;

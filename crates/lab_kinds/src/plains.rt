@@ -4,10 +4,10 @@ ghost use Rattle.std.specs.Str.{trim};
 ghost use Rattle.evl_scenario.specs.Values.{past_front};
 ghost use Rattle.lab_kinds.specs.Plains as plains;
 ghost use Rattle.lab_scenario_orders.specs.KeyLines as keys;
-ghost use Rattle.lab_kinds.specs.Plains.{is_question, is_question_key, unquestioned_from, unquestioned_line, is_lasts, is_own, is_set_to, is_what_if, is_what_if_head, plain_from, plain_line, value_set};
+ghost use Rattle.lab_kinds.specs.Plains.{is_question, is_question_key, open_from, unquestioned_from, unquestioned_line, is_lasts, is_own, is_set_to, is_what_if, is_what_if_head, plain_from, plain_line, value_set};
 ghost use Rattle.lab_scenario_orders.specs.Splits as splits;
 
-use crate::parts::begins;
+use crate::parts::{begins, lines_of};
 use lab_scenario_orders::{is_asked, is_setup, past};
 use std::alloc::{AllocError, Global};
 
@@ -157,6 +157,34 @@ fn is_question(line: &str) -> bool
         Some((key, _)) => is_question_key(key.trim()),
         None => false,
     }
+}
+
+// Whether the facts of a question don't end on its line.
+fn is_open(line: &str) -> bool
+    ensures { result ≡ plains.is_open line.now }
+{
+    is_question(line) && !bare(line).as_bytes().ends_with(b"]")
+}
+
+// The number of the first such line, from 1.
+fn open_line(lines: &[&str]) -> Option<usize>
+    ensures { result ≡ open_from 1 (map (λ line. line.now) lines.now) }
+{
+    for (i, line) in lines.iter().enumerate() {
+        if is_open(*line) {
+            return Some(i + 1);
+        }
+    }
+    None
+}
+
+/// The number, from 1, of the first line of what is asked that asks of moments and doesn't end there. `AllocError` where
+/// memory couldn't grow.
+pub fn open_question(alloc: Global, asked: &str) -> Result<Option<usize>, AllocError>
+    ensures { IfOk result (λ line. line ≡ plains.open_question asked.now) }
+{
+    let lines = lines_of(alloc, asked)?;
+    Ok(open_line(lines.as_slice()))
 }
 
 // Puts a line of what is asked, empty where it is none.
