@@ -22,7 +22,7 @@ fault_words Write = None
 abbrev pub words_by : TextKind → List ℕ → List ℕ
 words_by Scenario words = words
 words_by Orders words = codes "has [[setup]] or [ask]: a text for lab orders"
-words_by Callers words = codes "has staxes or words of callers: a text for lab callers"
+words_by Callers words = codes "has staxes or words of callers: a text for lab callers, or for lab orders if it has lasts or [what_if]"
 words_by Bank words = codes "has [[callback]]: a bank, for --bank"
 
 -- a part that takes texts of this kind beside scenarios takes one as it takes these

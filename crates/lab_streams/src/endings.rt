@@ -146,7 +146,7 @@ pub fn tell_fault_by<E: Stream>(
             tell_other(
                 err,
                 name,
-                "has staxes or words of callers: a text for lab callers",
+                "has staxes or words of callers: a text for lab callers, or for lab orders if it has lasts or [what_if]",
                 fault,
             )
         }
