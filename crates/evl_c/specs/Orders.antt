@@ -4,6 +4,7 @@ use Rattle.toml.specs.Parse.{parse_document}
 use Rattle.evl_kernel.specs.state.States.{Handler}
 use Rattle.evl_scenario.specs.declared.faults.Fault.{Fault}
 use Rattle.evl_scenario.specs.declared.faults.Fault.TheVariants as fault
+use Rattle.lab_kinds.specs.Asking.{impossible_words}
 use Rattle.lab_lines.specs.Kinds.{IsOfCallers}
 use Rattle.lab_orders.specs.declared.levels.OrdersError.TheVariants.{Count}
 use Rattle.lab_orders.specs.declared.tallies.Tally.{Tally}
@@ -202,12 +203,6 @@ ask_words ask.Memory = None
 -- the first answer of `never` that no step of its caller can have
 unfoldable pub impossible_in : Callers → Ask → Option Never
 impossible_in callers asks = first_impossible callers.steps.items asks.never.items
-
--- such an answer, with what may be meant
-abbrev pub impossible_words : Never → Option (List ℕ) → List ℕ
-impossible_words never None = codes "[ask]: " ++ (string_bytes never.who ++ (codes " is never answered \"" ++ (string_bytes never.answer ++ codes "\"")))
-impossible_words never (Some word) =
-    codes "[ask]: " ++ (string_bytes never.who ++ (codes " is never answered \"" ++ (string_bytes never.answer ++ (codes "\"; did you mean \"" ++ (word ++ codes "\"?")))))
 
 -- ---- the text
 

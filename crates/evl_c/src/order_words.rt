@@ -1,6 +1,7 @@
 //! Why what is asked of orders can't be asked, in words.
-ghost use Rattle.std.specs.Prelude.{◌≡◌, option_map, string_bytes, IfOk, IsSomeAnd};
+ghost use Rattle.std.specs.Prelude.{◌≡◌, string_bytes, IfOk, IsSomeAnd};
 ghost use Rattle.lab_scenario_orders.specs.Answers.{near_answer};
+ghost use Rattle.lab_kinds.specs.Asking.{impossible_words};
 ghost use Rattle.evl_c.specs.Orders as orders;
 
 use lab_scenario_orders::{AskFault, AskKey, Callers, FactFault, Never, Part, near_answer};
@@ -151,30 +152,14 @@ pub fn ask_words(alloc: Global, fault: AskFault) -> Result<String, AllocError>
     }
 }
 
-// That an answer can't be, and what may be meant.
-fn meant_words(alloc: Global, never: &Never, meant: Option<&str>) -> Result<String, AllocError>
-    ensures { IfOk result (λ words. string_bytes words ≡ orders.impossible_words never.now (option_map (λ word. word.now) meant.entry)) }
-{
-    let who = never.who.as_str();
-    let answer = never.answer.as_str();
-    match meant {
-        Some(word) => {
-            format!(in alloc;
-                "[ask]: {who} is never answered \"{answer}\"; did you mean \"{word}\"?"
-            )
-        }
-        None => format!(in alloc; "[ask]: {who} is never answered \"{answer}\""),
-    }
-}
-
 /// That no step of its caller can have an answer, and what may be meant.
 pub fn impossible_words(
     alloc: Global,
     callers: &Callers,
     never: &Never,
 ) -> Result<String, AllocError>
-    ensures { IfOk result (λ words. string_bytes words ≡ orders.impossible_words never.now (near_answer callers.now.steps.items never.now)) }
+    ensures { IfOk result (λ words. string_bytes words ≡ impossible_words never.now (near_answer callers.now.steps.items never.now)) }
 {
     let meant = near_answer(alloc, callers, never)?;
-    meant_words(alloc, never, meant)
+    lab_kinds::impossible_words(alloc, never, meant)
 }
