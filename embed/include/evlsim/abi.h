@@ -85,8 +85,8 @@ static const evlsim_kind EVLSIM_NEXT = {EVLSIM_KIND_NEXT};     /* `thread` owns 
 static const evlsim_kind EVLSIM_TIMED_OUT = {EVLSIM_KIND_TIMED_OUT};
 static const evlsim_kind EVLSIM_NOT_CALLED = {EVLSIM_KIND_NOT_CALLED}; /* evlsim_why says why; all is as before */
 
-/* Why a kernel refused a call, or a machine one of a caller's. The first three make no entry in the history. Compared
-   by evlsim_refused_as. */
+/* Why a kernel refused a call, or a machine one of a caller's. The first three and the last two make no entry in the
+   history. Compared by evlsim_refused_as. */
 typedef struct evlsim_refusal {
   uint16_t number; /* an evlsim_refusal_number, 0 if the call was not refused */
 } evlsim_refusal;

@@ -27,7 +27,9 @@ extern "C" {
  * EVLSIM_BAD_NUMBER there is no such outcome; ordered->outcomes says how many there are.
  * EVLSIM_BAD_TEXT, EVLSIM_BAD_BOARD, EVLSIM_BAD_STEP
  *                   the text is refused, at the step ordered->step (of a text of lines: the line) if one is at fault. There
- *                   are more steps than its limit: EVLSIM_BAD_BOARD. evlsim_check tells every fault, with its place.
+ *                   are more steps than its limit: EVLSIM_BAD_BOARD. evlsim_check tells every fault, with its place. So is a
+ *                   text of callers refused, for its staxes or its first word of theirs: orders of atomic steps are those
+ *                   of the program lab alone, and evlsim_check finds no fault in such a text.
  * EVLSIM_BAD_ASK    it cannot be read what is asked, or no step of a caller can have an answer of `never`.
  * EVLSIM_TOO_LONG   there are more orders than can be counted (2^128 - 1).
  * EVLSIM_BAD_PLAN, EVLSIM_NO_MEMORY, EVLSIM_NULL, EVLSIM_WRONG_ABI

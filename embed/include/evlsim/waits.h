@@ -79,7 +79,8 @@ static inline evlsim_answer evlsim_wait_flags(evlsim_caller *caller, uint16_t th
   return evlsim_do_wait(caller, thread, evlsim_call_begin_take(flags, choice, mask), NULL, 0, NULL, 0);
 }
 
-/* Writes all bytes into a way of a cross-buffer, or reads up to as many as `out` has room for, and waits if it has to. */
+/* Writes all bytes into a way of a cross-buffer, or reads up to as many as `out` has room for, and waits if it has to.
+   A read is EVLSIM_REFUSAL_RANGE if out_length is above 256. */
 static inline evlsim_answer evlsim_write_xbuf(evlsim_caller *caller, uint16_t thread, uint16_t xbuf, evlsim_way way,
                                               const uint8_t *bytes, size_t length) {
   return evlsim_do_wait(caller, thread, evlsim_call_begin_write(xbuf, way), bytes, length, NULL, 0);
