@@ -73,7 +73,7 @@ def _at_last(make: Callable[[], Answer], *passing: str) -> Answer:
 class Caller(OwnWords, Questions):
     """A caller of a machine, for the thread of this number. There is a method for each step word: the word's keys by
     name (`raise_` for `raise`). None of them waits: while another caller has the core an answer is `CoreBusy`. The
-    questions `see_..` take the core too, and raise Refused then.
+    questions `see_..` take the core too, and raise CoreBusy then.
 
     These wait, while other threads of Python run, and end with their answer: `do`, which makes any call; `get_sem`,
     `wait_flags`, `read_xbuf`, `write_xbuf`, `lock_mutex`, `unlock_mutex`, `lock_stax`. They never end if no other caller
@@ -188,8 +188,8 @@ class Caller(OwnWords, Questions):
         return self._calls._answer(told, None)
 
     def trace(self, start: int = 0) -> str:
-        """The trace of all calls of the machine's callers so far, from a byte on. Refused while another caller has the
-        core."""
+        """The trace of all calls of the machine's callers so far, from a byte on. Raises CoreBusy while another caller has
+        the core."""
         return self._calls._text(lib.LIBRARY.evlsim_c_caller_trace, whole(BadQuestion, "start", start, 0, (1 << 63) - 1))
 
     def close(self) -> None:

@@ -50,7 +50,7 @@ class CoreBusy(Refused):
 
 
 class KernelClosed(ValueError):
-    """The kernel is closed."""
+    """The kernel, the caller or the machine is closed."""
 
 
 class _BoardType(BadBoard, TypeError):

@@ -39,7 +39,7 @@ class Finding(NamedTuple):
 
 
 def check(text: Text, bank: Optional[Iterable[Plan]] = None) -> List[Finding]:
-    """Every fault of a scenario, with its place, or, where it has none, the warnings of one run of it.
+    """Every fault of a text of any kind, with its place, or, where a scenario has none, the warnings of one run of it.
 
     >>> for found in check('[board]\\nthreads = 1\\n[[step]]\\ndo = "arrive"\\nwho = 0\\nlien = 5\\n'): print(found)
     6:1: step 1: arrive has no key "lien"; did you mean "line"? (keys: line)
@@ -145,7 +145,8 @@ class State(NamedTuple):
 class Orders(NamedTuple):
     """Every order in which the callers of a text may come: the `total`, each way in which they end, what was
     asked (as `lab orders` says it, or ""), whether that holds (None where it isn't known, since longer orders were cut
-    off), the outcomes that are against it, whether longer orders were cut off, and each question about moments."""
+    off), in `against` the first outcome that is against it, or nothing, whether longer orders were cut off, and each
+    question about moments."""
 
     total: int
     outcomes: Tuple[Outcome, ...]
