@@ -25,7 +25,8 @@ static inline size_t evlsim_length_of(const char *text) {
  * Copies what `lab check NAME` prints of this text, from the byte `start` on, into `out`, as many bytes as there are and
  * as fit (evlsim_written): a line "NAME:LINE:BYTE: .." for each fault of a scenario, of a text for orders, of callers, or
  * of a bank, or for the first line of a text of lines that cannot be read; if a scenario has none, a line for each warning
- * of one run of it over the program's callbacks. No lines: it has neither. The rest of `out` stays; no 0 is added.
+ * of one run of it over the program's callbacks. No lines: it has neither. Answers that the text expects are passed over,
+ * also where lab names a fault of them. The rest of `out` stays; no 0 is added.
  *
  * name: stands before the place of each fault; a C string in UTF-8. It is not opened.
  * text: may be null if text_length is 0.

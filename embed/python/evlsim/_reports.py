@@ -40,6 +40,7 @@ class Finding(NamedTuple):
 
 def check(text: Text, bank: Optional[Iterable[Plan]] = None) -> List[Finding]:
     """Every fault of a text of any kind, with its place, or, where a scenario has none, the warnings of one run of it.
+    Answers that the text expects are passed over; the program lab compares them.
 
     >>> for found in check('[board]\\nthreads = 1\\n[[step]]\\ndo = "arrive"\\nwho = 0\\nlien = 5\\n'): print(found)
     6:1: step 1: arrive has no key "lien"; did you mean "line"? (keys: line)
