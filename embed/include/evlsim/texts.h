@@ -72,10 +72,10 @@ EVLSIM_CHECKED static inline evlsim_status evlsim_check_over(const evlsim_plan *
 }
 
 /*
- * Draws a trace, a scenario, which is played over the program's callbacks, or what `lab callers` prints, as `lab draw`
- * does, and copies the picture, from the byte `start` on, into `out`, as many bytes as there are and as fit
- * (evlsim_written). The picture of a scenario also shows how the machine stands after each call. The rest of `out`
- * stays; no 0 is added.
+ * Draws a trace, a scenario, which is played over the program's callbacks, or what `lab callers` prints, with its line
+ * `close -> ..`, as `lab draw` does (without that line as a trace), and copies the picture, from the byte `start` on,
+ * into `out`, as many bytes as there are and as fit (evlsim_written). The picture of a scenario also shows how the
+ * machine stands after each call. A text of callers is not drawn. The rest of `out` stays; no 0 is added.
  *
  * form: EVLSIM_SVG, EVLSIM_SVG_DOWN, EVLSIM_SVG_ACROSS, EVLSIM_LANES, EVLSIM_CSV or
  *       EVLSIM_EVENTS.
