@@ -89,6 +89,8 @@ class Answer(_Answer):
 
     >>> Answer("count", 3) == "count 3", bool(Answer("refused", "Again")), Answer("thread", None).text
     (True, False, 'thread none')
+    >>> Answer("done", False).text, Answer("done", True).text
+    ('done', 'done, others want in')
     """
 
     __slots__ = ()
@@ -104,6 +106,8 @@ class Answer(_Answer):
         kind, value = self.kind, self.value
         if kind in ("refused", "pass"):
             return str(value)
+        if kind == "done" and isinstance(value, bool):
+            return "done, others want in" if value else "done"
         if kind == "done" and value:
             return f"done, {value}"
         if kind == "bytes":
