@@ -1,5 +1,5 @@
 //! The dates of timers and deadlines, in the order in which they fall due.
-ghost use Rattle.std.specs.Prelude.{◌≡◌, ◌≤◌, ◌<◌, length, IfSome, Some};
+ghost use Rattle.std.specs.Prelude.{◌≡◌, ◌≤◌, ◌<◌, length, IfSome, Some, true};
 ghost use Rattle.std.specs.Vec.{vec_capacity};
 ghost use Rattle.evl_clock.specs.Agenda.{IsOrdered, with_date, entry, first_entry, is_before, item_at, without_date, place_of};
 
@@ -68,6 +68,22 @@ pub fn first(entries: &[Entry]) -> Option<Entry>
     }
 }
 
+// Whether it falls due first.
+fn is_first(entries: &[Entry], entry: Entry) -> bool
+    ensures first { result ≡ true → first_entry entries.now ≡ Some entry }
+{
+    match first(entries) {
+        Some(soonest) => is_same(soonest, entry),
+        None => false,
+    }
+}
+
+fn is_same(one: Entry, other: Entry) -> bool
+    ensures same { result ≡ true → one ≡ other }
+{
+    one.date == other.date && one.place == other.place
+}
+
 /// A place has this date, if any. There is room for it.
 #[inline(always)]
 pub fn enter<A: Allocator>(agenda: &mut Vec<Entry, A>, place: u16, date: Option<u64>)
@@ -108,13 +124,18 @@ pub fn leave<A: Allocator>(agenda: &mut Vec<Entry, A>, place: u16, date: Option<
 }
 
 // The same of a place that has a date.
-#[inline(never)]
+#[inline(always)]
 fn leave_at<A: Allocator>(agenda: &mut Vec<Entry, A>, place: u16, date: u64)
     requires ordered { IsOrdered agenda.old.items }
     requires stands { place_of (entry place date) agenda.old.items < length agenda.old.items }
     ensures left { agenda.new.items ≡ without_date place (Some date) agenda.old.items }
     ensures room { vec_capacity agenda.new ≡ vec_capacity agenda.old }
 {
-    let at = place_of(agenda, Entry { date, place });
-    let _ = agenda.remove(at);
+    let entry = Entry { date, place };
+    if is_first(agenda, entry) {
+        let _ = agenda.pop();
+    } else {
+        let at = place_of(agenda, entry);
+        let _ = agenda.remove(at);
+    }
 }
