@@ -144,7 +144,7 @@ impl<A: Allocator> Queues<A> {
     }
 
     // A thread that has a place has none any more.
-    #[inline(never)]
+    #[inline(always)]
     fn take_out(&mut self, thread: u16, place: Place)
         requires { place_of self.old thread ≡ Some place }
         ensures { self.new ≡ slice_set self.old thread None }

@@ -109,7 +109,7 @@ pub fn restand<A: Allocator>(
 }
 
 // The same of a thread that is ready.
-#[inline(never)]
+#[inline(always)]
 fn restand_ready<A: Allocator>(
     seats: &Vec<Option<Seat>, A>,
     groups: &Vec<Group, A>,

@@ -1,5 +1,5 @@
 //! The scheduler.
-ghost use Rattle.std.specs.Prelude.{◌≡◌, ◌<◌, ℕ, nat_lt, Option, false, true, is_some, [], None, Some, map, replicate, option_map, IfOk, IfErr, MatchOption, OnOk, OnErr};
+ghost use Rattle.std.specs.Prelude.{◌≡◌, ◌<◌, ℕ, nat_lt, Option, false, true, is_some, [], None, Some, length, map, replicate, option_map, IfOk, IfErr, MatchOption, OnOk, OnErr};
 ghost use Rattle.evl_base.specs.declared.refusal.Refusal.{Refusal};
 ghost use Rattle.evl_sched.specs.Calls as calls;
 ghost use Rattle.evl_sched.specs.Calls.{attach_refusal, set_policy_refusal, stranger_refusal};
@@ -139,6 +139,13 @@ impl<A: Allocator> SchedOf<A> {
             Some(seat) => Some(seat.policy),
             None => None,
         }
+    }
+
+    /// How many threads there are, attached or not.
+    pub fn threads(&self) -> usize
+        ensures threads { result ≡ length self.now.sched.seats }
+    {
+        self.seats.len()
     }
 
     /// Whether a thread is on the ready list: attached, out-of-band and not blocked. (Xenomai 4: EVL scheduling
