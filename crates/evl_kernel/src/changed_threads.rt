@@ -8,9 +8,6 @@ use evl_bitmap::{Level, Word};
 use evl_mutex::RankChanges;
 use std::marker::Model;
 
-/// How many words there are, each of 32 threads.
-pub(crate) const WORDS: u16 = (MAX_THREADS / 32) as u16;
-
 /// The threads whose effective rank may be another one than the scheduler was given, a bit for each. To a contract it
 /// is for each word the set of their places in it.
 #[derive(Drop)]

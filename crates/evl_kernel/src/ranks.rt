@@ -1,5 +1,5 @@
 //! Effective ranks, handed on to the scheduler.
-ghost use Rattle.std.specs.Prelude.{◌≡◌, ◌≢◌, ◌≤◌, ◌<◌, ℕ, nat_lt, not, true, [], length, slice_index, slice_set};
+ghost use Rattle.std.specs.Prelude.{◌≡◌, ◌≢◌, ◌≤◌, ◌<◌, ◌*◌, ℕ, true, false, [], length, slice_index, slice_set};
 ghost use Rattle.evl_base.specs.Limits.{thread_limit};
 ghost use Rattle.evl_kernel.specs.state.ChangedThreads.{AreGivenBut, is_noted};
 ghost use Rattle.evl_kernel.specs.state.ElementsViews.{owners_of};
@@ -8,14 +8,14 @@ ghost use Rattle.evl_mutex.specs.Owners as owners;
 ghost use Rattle.evl_sched.specs.Ranks.{given_to, rank_of};
 ghost use Rattle.evl_sched.specs.Threads.{base_of, is_attached};
 
-use crate::changed_threads::{ChangedThreads, WORDS};
+use crate::changed_threads::ChangedThreads;
 use crate::elements::Elements;
 use evl_base::ThreadId;
 use evl_mutex::RankChanges;
 use evl_sched::SchedOf;
 use std::alloc::Allocator;
 
-/// Gives each attached thread that is noted its effective rank, where it has another one. None is noted then.
+/// Gives each attached thread that is noted its effective rank, where it has another one. None of them is noted then.
 pub(crate) fn hand_on<A: Allocator>(
     elements: &Elements<A>,
     changes: &mut ChangedThreads,
@@ -25,11 +25,22 @@ pub(crate) fn hand_on<A: Allocator>(
     requires others { AreGivenBut (is_noted changes.old) sched.old (owners_of elements.now) }
     ensures given { AreGiven sched.new (owners_of elements.now) }
     ensures kept { sched.new.sched ≡ sched.old.sched }
-    ensures none { (thread : ℕ) → is_noted changes.new thread ≡ not (nat_lt thread thread_limit) }
+    ensures none { (thread : ℕ) → is_attached sched.old.sched thread ≡ true → is_noted changes.new thread ≡ false }
 {
-    for word in 0..WORDS {
+    let words = words_of(sched);
+    for word in 0..words {
         hand_word(elements, changes, word, sched);
     }
+}
+
+// How many words have the threads, 32 each.
+fn words_of<A: Allocator>(sched: &SchedOf<A>) -> u16
+    requires few { length sched.now.sched.seats ≤ thread_limit }
+    ensures within { result ≤ 8 }
+    ensures all { length sched.now.sched.seats ≤ 32 * result }
+{
+    let threads = sched.threads();
+    ((threads + 31) / 32) as u16
 }
 
 // Gives each attached thread that is noted in a word its effective rank. None is noted there then.

@@ -1,7 +1,7 @@
 -- Which threads are noted after each change of the set, and what is known of the ranks that the scheduler was given.
 use Rattle.std.proofs.Common.{◌≡◌, ◌≢◌, ◌<◌, ◌+◌, ◌*◌, ◌/◌, ◌%◌, ◌==◌, ◌||◌, ◌&&◌, ◌⊎◌, inl, inr, not, ℕ, zero, suc, nat_lt, Bool, true, false, List, [], ◌∷◌, length, map, Option, Some, None, is_some, option_map, Result, Ok, Err, OnOk, OnErr, slice_index_or, slice_set, refl, sym, ap, ◌∙◌, subst, arith}
 use Rattle.std.specs.Option.{option_map_or}
-use Rattle.std.proofs.lemmas.Bool.{false≢true, eqb-false, eqb-true, ne_eqb, lt-ltb, ltb-true}
+use Rattle.std.proofs.lemmas.Bool.{false≢true, eqb-false, eqb-true, ne_eqb, lt-ltb}
 use Rattle.std.proofs.lemmas.List.{get_or-set_same, get_or-set_other, set-get_or}
 use Rattle.std.proofs.Math.Bool.{or-true, or-false}
 use Rattle.evl_base.proofs.Plain.{eqb-same}
@@ -21,11 +21,9 @@ use Rattle.evl_mutex.specs.Changes.{ChangesAreNoted}
 use Rattle.evl_mutex.specs.Owners as owners
 use Rattle.evl_mutex.specs.Owners.{Owners}
 use Rattle.evl_kernel.specs.state.ChangedThreads.{AreGivenBut, is_noted, of_word}
-use Rattle.evl_kernel.specs.state.ElementsViews.{ElementsView, owners_of}
-use Rattle.evl_kernel.specs.state.Records.{AreGiven, AreTold, RanksAreKept}
+use Rattle.evl_kernel.specs.state.Records.{RanksAreKept}
 use Rattle.evl_mutex.proofs.LendingLaws.{same_or_not}
 use Rattle.evl_mutex.proofs.ListLaws.{count-map, map-set}
-use Rattle.evl_kernel.proofs.calls.HandLaws.{attached-low}
 
 -- what is noted in a word after a change of it, and in the others
 within-word : (words : List NumberSet) (w n : ℕ) → least (of_word words w) ≡ Some n → w < length words
@@ -103,20 +101,9 @@ given-more words w n o r p first low h kept given others t free attached = by (s
     by (inr other) attached =
         (λ i. option_map_or (λ rank. rank) (others t other i) (base_of (kept i) t)) ∙ h t (before other (same_or_not (t / 32) w) ∙ free) attached
 
--- where no word has any, none is noted
-pub none-noted : (words : List NumberSet) → ((w : ℕ) → w < 8 → of_word words w ≡ []) → (t : ℕ) → is_noted words t ≡ not (nat_lt t thread_limit)
-none-noted words none t = by (nat_lt t thread_limit) refl
-  where
-    by : (b : Bool) → nat_lt t thread_limit ≡ b → is_noted words t ≡ not (nat_lt t thread_limit)
-    by true e =
-        ap (λ (s : NumberSet). contains s (t % 32) || not (nat_lt t thread_limit)) (none (t / 32) (omega (arith, ltb-true t thread_limit e)))
-    by false e = ap (λ b. contains (of_word words (t / 32)) (t % 32) || not b) e ∙ or-true (contains (of_word words (t / 32)) (t % 32)) ∙ ap not (sym e)
-
--- where none is noted, all are given their ranks
-pub given-all : (v : ElementsView) (r : Ranked) (noted : ℕ → Bool) → ((t : ℕ) → noted t ≡ not (nat_lt t thread_limit)) → AreGivenBut noted r (owners_of v) → AreTold v.base r.sched → AreGiven r (owners_of v)
-given-all v r noted none h told t attached =
-    let low : t < thread_limit = omega (arith, told.few, told.seats, attached-low r.sched t attached) in
-    h t (none t ∙ ap not (lt-ltb t thread_limit low)) attached
+-- a thread whose word has none isn't noted
+pub unnoted : (words : List NumberSet) (t : ℕ) → t < thread_limit → of_word words (t / 32) ≡ [] → is_noted words t ≡ false
+unnoted words t low none = ap (λ (s : NumberSet). contains s (t % 32) || not (nat_lt t thread_limit)) none ∙ ap not (lt-ltb t thread_limit low)
 
 -- where the recorded owners noted whose rank may have changed, the others are given their ranks still
 pub given-beside : {n : ℕ} (o p : Owners) (r : Ranked) (was now : ℕ → Bool) → RanksAreKept n o r → ChangesAreNoted was now (owners.rank_of o) (owners.rank_of p) → AreGivenBut now r p

@@ -28,7 +28,7 @@ RunIsDetermined =
     → Run opening entries plays state → Run opening others more other
     → (entries ≡ others) × (plays ≡ more) × (state ≡ other)
 
--- a step of few plays is what `stepped` computes
+-- a step of few plays is what `step_outcome` computes
 abbrev pub StepIsComputed : Type 0
 StepIsComputed =
     (old : State) (caller : ℕ) (asked : Call) (reply : Result Reply Refusal) (plays : List Play) (new : State)
@@ -54,7 +54,7 @@ TwoWorlds =
     → (played_outside h.plays ≡ played_outside other.plays) × (map (λ e. e.reply) (outside_inband h.entries) ≡ map (λ e. e.reply) (outside_inband other.entries))
 
 -- from every state of a legal history over sound handlers every call has a step of few plays, which is the one that
--- `stepped` computes
+-- `step_outcome` computes
 abbrev pub EveryCallSteps : Type 0
 EveryCallSteps =
     (h : History) → All (λ handler. IsSound handler.kinds handler.plan) h.bank → IsLegal h → (caller : ℕ) (asked : Call)

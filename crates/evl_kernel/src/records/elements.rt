@@ -73,7 +73,7 @@ impl<C, A: Allocator> Records<C, A> {
 
     /// Adds bits, and ends the waits of those who are served by one walk through the waiters. `Unknown` where there is
     /// no such flag group, `Invalid` where there are no bits to add.
-    #[inline(always)]
+    #[inline(never)]
     pub(super) fn post_flags(
         &mut self,
         flags: FlagId,

@@ -105,7 +105,7 @@ impl<C, A: Allocator> Records<C, A> {
 
     /// Tells the effective rank of a thread. The first that applies: `Unknown` (no such thread), `Invalid` (it isn't
     /// attached).
-    #[inline(never)]
+    #[inline(always)]
     pub(super) fn rank_of(&self, thread: ThreadId) -> Result<Reply, Refusal>
         ensures answer { IsAnswer result }
         ensures served { Has (state_of self.now) (thread_call.tell_rank (state_of self.now) thread.0) result (state_of self.now) }
