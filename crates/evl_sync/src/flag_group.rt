@@ -88,6 +88,7 @@ impl FlagGroup {
         requires nobody { told.old.items ≡ [] }
         ensures step { step_by (λ _. pairs told.new.items) result self.new ≡ unless (post_refusal bits) (Ok (walk_waiters (post bits self.old))) }
         ensures refused { IfErr result (λ e. self.new ≡ self.old) }
+        ensures untold { IfErr result (λ e. told.new ≡ told.old) }
     {
         if bits == 0 {
             return Err(Refusal::Invalid);

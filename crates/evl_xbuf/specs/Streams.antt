@@ -31,6 +31,10 @@ abbrev pub is_empty : List ℕ → Bool
 is_empty [] = true
 is_empty (byte ∷ bytes) = false
 
+-- nobody waits
+abbrev pub is_unawaited : Stream → Bool
+is_unawaited s = is_nobody s.readers && is_nobody s.writers
+
 -- a write of nothing is accepted; another if no writer waits and it fits
 abbrev pub can_write : Stream → List ℕ → Bool
 can_write s bytes = is_empty bytes || (is_nobody s.writers && fits s bytes)

@@ -1,9 +1,10 @@
 //! The calls on a cross-buffer with the services told into a list of the caller's, so that no such list is moved.
-ghost use Rattle.std.specs.Prelude.{◌≡◌, ◌<◌, ◌≤◌, ◌+◌, true, false, [], None, Some, Ok, IfErr, IfNone, IfSome, if◌then◌else◌};
+ghost use Rattle.std.specs.Prelude.{◌≡◌, ◌<◌, ◌≤◌, ◌+◌, ◌&&◌, true, false, [], None, Some, Ok, IfErr, IfNone, IfOk, IfSome, if◌then◌else◌};
 ghost use Rattle.std.specs.Option.{option_map};
 ghost use Rattle.evl_base.specs.Limits.{thread_limit};
 ghost use Rattle.evl_sync.specs.Queues.{stands_in};
 ghost use Rattle.evl_sync.specs.Steps.{step_by};
+ghost use Rattle.evl_xbuf.specs.Streams.{fits, is_unawaited};
 ghost use Rattle.evl_xbuf.specs.Xbufs.{begin_read, begin_write, drop_waiter, reading_stage, same_stage, stream, try_read, try_write, writing_stage};
 
 use super::XbufOf;
@@ -28,6 +29,7 @@ impl<A: Allocator> XbufOf<A> {
         requires nobody { told.old ≡ [] }
         ensures step { step_by (λ _. told.new) result self.new ≡ try_write stage way bytes.now self.old }
         ensures refused { IfErr result (λ e. self.new ≡ self.old) }
+        ensures untold { IfErr result (λ e. told.new ≡ told.old) }
     {
         if !writes(stage, way) {
             return Err(Refusal::WrongStage);
@@ -42,6 +44,7 @@ impl<A: Allocator> XbufOf<A> {
     /// nothing changes else. (Xenomai 4: EVL cross-buffer; this profile)
     #[inline(always)]
     pub fn write_unserved(&mut self, stage: Stage, way: Way, bytes: &[u8]) -> bool
+        ensures whether { result ≡ (same_stage (writing_stage way) stage && (is_unawaited (stream self.old way) && fits (stream self.old way) bytes.now)) }
         ensures step { result ≡ true → try_write stage way bytes.now self.old ≡ Ok ([], self.new) }
         ensures kept { result ≡ false → self.new ≡ self.old }
     {
@@ -93,6 +96,7 @@ impl<A: Allocator> XbufOf<A> {
         ensures step { step_by (λ _. (got.new.items, told.new)) result self.new ≡ try_read stage way len self.old }
         ensures refused { IfErr result (λ e. self.new ≡ self.old) }
         ensures kept { IfErr result (λ e. got.new ≡ got.old) }
+        ensures untold { IfErr result (λ e. told.new ≡ told.old) }
     {
         if len > MAX_TRANSFER {
             return Err(Refusal::Range);
@@ -121,6 +125,8 @@ impl<A: Allocator> XbufOf<A> {
         requires few { thread.0 < thread_limit }
         ensures step { step_by (λ done. if done then Some told.new else None) result self.new ≡ begin_write thread.0 stage way bytes.now self.old }
         ensures refused { IfErr result (λ e. self.new ≡ self.old) }
+        ensures untold { IfErr result (λ e. told.new ≡ told.old) }
+        ensures waits { IfOk result (λ done. done ≡ false → told.new ≡ told.old) }
     {
         if !writes(stage, way) {
             return Err(Refusal::WrongStage);
@@ -146,6 +152,8 @@ impl<A: Allocator> XbufOf<A> {
         requires few { thread.0 < thread_limit }
         ensures step { step_by (λ got. option_map (λ bytes. (bytes.items, told.new)) got) result self.new ≡ begin_read thread.0 stage way len self.old }
         ensures refused { IfErr result (λ e. self.new ≡ self.old) }
+        ensures untold { IfErr result (λ e. told.new ≡ told.old) }
+        ensures waits { IfOk result (λ got. got ≡ None → told.new ≡ told.old) }
     {
         if len > MAX_TRANSFER {
             return Err(Refusal::Range);
