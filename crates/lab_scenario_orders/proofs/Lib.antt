@@ -1,4 +1,5 @@
 pub mod AloneLaws
+pub mod AskFaultLaws
 pub mod AskLaws
 pub mod CallLaws
 pub mod FirstLaws

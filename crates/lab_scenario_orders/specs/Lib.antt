@@ -1,4 +1,5 @@
 pub mod Answers
+pub mod AskFaults
 pub mod AskingAlone
 pub mod Asks
 pub mod Callers

@@ -1,22 +1,24 @@
 //! What is asked of all orders.
-ghost use Rattle.std.specs.Prelude.{◌≡◌, ◌++◌, IfErr, IfOk, IfSome, IsSomeAnd, None, Some, codes, false, map, option_and_then, option_map, position, string_bytes, true};
+ghost use Rattle.std.specs.Prelude.{◌≡◌, IfErr, IfOk, IsSomeAnd, List, None, Option, Some, codes, false, option_and_then, option_map, position, string_bytes};
 ghost use Rattle.std.specs.List.{list_any};
 ghost use Rattle.std.specs.Str.{bytes_eq};
-ghost use Rattle.std.specs.Str.Iter.{HasSubslice};
-ghost use Rattle.toml.specs.Data.{as_str, get_member};
+ghost use Rattle.toml.specs.Data.{Members, as_str, get_member};
 ghost use Rattle.toml.specs.Parse.{parse_document};
-ghost use Rattle.toml.specs.View.{items_view, table_view, view};
-ghost use Rattle.evl_scenario.specs.Tables.{all_given, value_or};
+ghost use Rattle.toml.specs.View.{table_view, view};
+ghost use Rattle.evl_base.specs.declared.board.Board.{Board};
+ghost use Rattle.evl_scenario.specs.Tables.{value_or};
 ghost use Rattle.evl_scenario.specs.Values.{number_from, truth_from};
-ghost use Rattle.lab_scenario_orders.specs.Asks.{AreOfCallers, Asks, IsAnswerOf, IsParted, ask_table, caller_text, is_against, is_caller_text, is_line_of, is_stuck_line, is_wait_line, never_text, number_given, past_stuck, some_line};
+ghost use Rattle.lab_scenario_orders.specs.AskFaults.{IsWhy, IsWhyIn, IsWhyOf};
+ghost use Rattle.lab_scenario_orders.specs.Asks.{AreOfCallers, Asks, ask_table, caller_text, is_against, is_line_of, is_stuck_line, is_wait_line, number_given, past_stuck, some_line};
+ghost use Rattle.lab_scenario_orders.specs.declared.callers.Caller.{Caller};
 ghost use Rattle.lab_scenario_orders.specs.KeyLines.{IsPlaced, key_name};
 ghost use Rattle.lab_scenario_orders.specs.Splits.{ask_part};
-ghost use Rattle.lab_scenario_orders.specs.WatchTexts.{texts_in};
 ghost use Rattle.lab_scenario_orders.specs.Watches.{AreWatches};
 
-use crate::callers::{Caller, Callers};
+use crate::callers::Callers;
 use crate::facts::Part;
 use crate::key_lines::{ASK_KEYS, line_set};
+use crate::nevers::never_at;
 use crate::searches::{Question, begins, behind, is_answered, some_line, waits_behind_number};
 use crate::splits::split_text;
 use crate::watch_texts::read_watches;
@@ -102,125 +104,10 @@ pub(crate) fn is_named(alloc: Global, who: &str, number: u16) -> Result<bool, Al
     Ok(name.as_str() == who)
 }
 
-// Whether a caller is told so.
-fn is_name(alloc: Global, callers: &[Caller], who: &str) -> Result<bool, AllocError>
-    ensures { IfOk result (λ named. named ≡ is_caller_text callers.now who.now) }
-{
-    for caller in callers {
-        if is_named(alloc, who, caller.who.0)? {
-            return Ok(true);
-        }
-    }
-    Ok(false)
-}
-
-// A text with its caller and its answer.
-#[tactic(auto, using(crate::proofs::AskLaws::parted_as))]
-fn never_of(alloc: Global, text: &str, who: &str, answer: &str) -> Result<Never, AllocError>
-    requires { IsParted text.now who.now answer.now }
-    ensures text { IfOk result (λ never. never_text never ≡ text.now) }
-    ensures who { IfOk result (λ never. string_bytes never.who ≡ who.now) }
-    ensures answer { IfOk result (λ never. string_bytes never.answer ≡ answer.now) }
-    ensures parted { IfOk result (λ never. IsParted (never_text never) (string_bytes never.who) (string_bytes never.answer)) }
-{
-    let text = String::from_str(alloc, text)?;
-    let who = String::from_str(alloc, who)?;
-    let answer = String::from_str(alloc, answer)?;
-    Ok(Never { text, who, answer })
-}
-
-// What stands before the first arrow in a text, and behind it.
-fn around_arrow(text: &str) -> Option<(&str, &str)>
-    ensures { IfSome result (λ parts. text.now ≡ parts.0.now ++ (codes "->" ++ parts.1.now)) }
-{
-    match text.split_once("->") {
-        Some(parts) => Some(parts),
-        None => None,
-    }
-}
-
-// The caller and the answer in a text: just one arrow stands between them.
-fn parts_of(text: &str) -> Option<(&str, &str)>
-    ensures parted { IfSome result (λ parts. IsParted text.now parts.0.now parts.1.now) }
-    ensures single { IfSome result (λ parts. HasSubslice parts.1.now (codes "->") → ⊥) }
-{
-    match around_arrow(text) {
-        Some((before, behind)) => {
-            let who = before.trim();
-            let answer = behind.trim();
-            if answer.contains("->") {
-                None
-            } else {
-                Some((who, answer))
-            }
-        }
-        None => None,
-    }
-}
-
-// The answer that the text with this number stands for.
-fn read_never(
-    alloc: Global,
-    callers: &Callers,
-    number: usize,
-    value: &Value,
-) -> Result<Never, AskFault>
-    ensures text { IfOk result (λ never. as_str (view value.now) ≡ Some (never_text never)) }
-    ensures who { IfOk result (IsAnswerOf callers.now.callers.items) }
-{
-    let Some(text) = value.as_str() else {
-        return Err(AskFault::Key(AskKey::Never, None));
-    };
-    let Some((who, answer)) = parts_of(text) else {
-        return Err(AskFault::Never(number));
-    };
-    match is_name(alloc, callers.callers.as_slice(), who) {
-        Ok(true) => match never_of(alloc, text, who, answer) {
-            Ok(never) => Ok(never),
-            Err(_) => Err(AskFault::Memory),
-        },
-        Ok(false) => Err(AskFault::Never(number)),
-        Err(_) => Err(AskFault::Memory),
-    }
-}
-
-// The answers that these texts stand for.
-fn read_all(alloc: Global, callers: &Callers, values: &[Value]) -> Result<Vec<Never>, AskFault>
-    ensures texts { IfOk result (λ all. all_given as_str (items_view values.now) ≡ Some (map never_text all.items)) }
-    ensures who { IfOk result (λ all. AreOfCallers callers.now.callers.items all.items) }
-{
-    let mut all = Vec::new(alloc);
-    for value in values {
-        let number = all.len().saturating_add(1);
-        let never = match read_never(alloc, callers, number, value) {
-            Ok(never) => never,
-            Err(fault) => return Err(fault),
-        };
-        match all.push(never) {
-            Ok(()) => {}
-            Err(_) => return Err(AskFault::Memory),
-        }
-    }
-    Ok(all)
-}
-
-// The answers at `never`.
-fn never_at(alloc: Global, callers: &Callers, table: &Table) -> Result<Vec<Never>, AskFault>
-    ensures texts { IfOk result (λ all. texts_in (get_member (codes "never") (table_view table.now)) ≡ Some (map never_text all.items)) }
-    ensures who { IfOk result (λ all. AreOfCallers callers.now.callers.items all.items) }
-{
-    match field(table, "never") {
-        Some(value) => match value.as_array() {
-            Some(values) => read_all(alloc, callers, values.as_slice()),
-            None => Err(AskFault::Key(AskKey::Never, None)),
-        },
-        None => Ok(Vec::new(alloc)),
-    }
-}
-
 // The truth value at a key.
 fn truth_at(table: &Table, key: &str, fault: AskKey) -> Result<bool, AskFault>
-    ensures { IfOk result (λ truth. value_or truth_from false (get_member key.now (table_view table.now)) ≡ Some truth) }
+    ensures truth { IfOk result (λ truth. value_or truth_from false (get_member key.now (table_view table.now)) ≡ Some truth) }
+    ensures bad { IfErr result (λ e. (e ≡ AskFault.Key fault None) × (value_or truth_from false (get_member key.now (table_view table.now)) ≡ None)) }
 {
     match field(table, key) {
         Some(value) => match value.as_bool() {
@@ -251,7 +138,8 @@ fn number_given(value: &Value) -> Option<Option<u16>>
 
 // The number at `outcomes`.
 fn number_at(table: &Table) -> Result<Option<u16>, AskFault>
-    ensures { IfOk result (λ number. value_or number_given None (get_member (codes "outcomes") (table_view table.now)) ≡ Some number) }
+    ensures number { IfOk result (λ number. value_or number_given None (get_member (codes "outcomes") (table_view table.now)) ≡ Some number) }
+    ensures bad { IfErr result (λ e. (e ≡ AskFault.Key AskKey.Outcomes None) × (value_or number_given None (get_member (codes "outcomes") (table_view table.now)) ≡ None)) }
 {
     match field(table, "outcomes") {
         Some(value) => match number_given(value) {
@@ -267,6 +155,7 @@ fn read_table(alloc: Global, callers: &Callers, table: &Table) -> Result<Ask, As
     ensures asks { IfOk result (Asks (table_view table.now)) }
     ensures who { IfOk result (λ ask. AreOfCallers callers.now.callers.items ask.never.items) }
     ensures watches { IfOk result (λ ask. AreWatches callers.now.board ask.watches.items) }
+    ensures why { IfErr result (IsWhy callers.now.callers.items callers.now.board (table_view table.now)) }
 {
     if !has_only_keys(table, &ASK_KEYS) {
         return Err(AskFault::Key(AskKey::Other, None));
@@ -309,6 +198,7 @@ fn read_document(alloc: Global, callers: &Callers, document: &Table) -> Result<A
     ensures asks { IfOk result (λ ask. IsSomeAnd (ask_table (table_view document.now)) (λ table. Asks table ask)) }
     ensures who { IfOk result (λ ask. AreOfCallers callers.now.callers.items ask.never.items) }
     ensures watches { IfOk result (λ ask. AreWatches callers.now.board ask.watches.items) }
+    ensures why { IfErr result (IsWhyIn callers.now.callers.items callers.now.board (ask_table (table_view document.now))) }
 {
     match field(document, "ask") {
         Some(value) => match value.as_table() {
@@ -331,6 +221,7 @@ fn read_text(alloc: Global, callers: &Callers, text: &str) -> Result<Ask, AskFau
     ensures asks { IfOk result (λ ask. IsSomeAnd (option_and_then ask_table (parse_document text.now)) (λ table. Asks table ask)) }
     ensures who { IfOk result (λ ask. AreOfCallers callers.now.callers.items ask.never.items) }
     ensures watches { IfOk result (λ ask. AreWatches callers.now.board ask.watches.items) }
+    ensures why { IfErr result (IsWhyIn callers.now.callers.items callers.now.board (option_and_then ask_table (parse_document text.now))) }
 {
     match toml::table_from_str(alloc, text) {
         Ok(document) => read_document(alloc, callers, &document),
@@ -363,7 +254,8 @@ fn key_name(key: AskKey) -> Option<&'static str>
 
 // A fault with the line of its key in the text.
 fn placed(alloc: Global, text: &str, fault: AskFault) -> AskFault
-    ensures { IsPlaced text.now result }
+    ensures placed { IsPlaced text.now result }
+    ensures why { (callers : List Caller) (board : Board) (asked : Option Members) → IsWhyIn callers board asked fault → IsWhyIn callers board asked result }
 {
     match fault {
         AskFault::Key(key, _) => match line_set(alloc, text, key_name(key)) {
@@ -388,6 +280,9 @@ pub fn read_ask(alloc: Global, callers: &Callers, bytes: &[u8]) -> Result<Ask, A
 
     // A fault of a key is told with the first line that sets it.
     ensures placed { IfErr result (IsPlaced bytes.now) }
+
+    // It is refused only for what is wrong with it, or for want of memory.
+    ensures why { IfErr result (IsWhyOf callers.now.callers.items callers.now.board bytes.now) }
 {
     let Ok(text) = str::from_utf8(bytes) else {
         return Err(AskFault::Table);

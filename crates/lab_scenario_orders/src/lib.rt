@@ -20,6 +20,7 @@ mod key_lines;
 mod lines;
 mod merging;
 mod moments;
+mod nevers;
 mod order_texts;
 mod outcomes;
 mod places;

@@ -1,11 +1,13 @@
 //! What is asked of each moment, as it is written.
-ghost use Rattle.std.specs.Prelude.{◌≡◌, ◌++◌, IfOk, None, Some, map, string_bytes};
+ghost use Rattle.std.specs.Prelude.{◌≡◌, ◌++◌, IfErr, IfOk, List, None, Some, map, string_bytes};
 ghost use Rattle.evl_scenario.specs.Tables.{all_given};
 ghost use Rattle.evl_base.specs.declared.board.Board.{Board};
+ghost use Rattle.lab_scenario_orders.specs.AskFaults.{IsBadList, IsBadValue, IsWhy, key_of};
 ghost use Rattle.lab_scenario_orders.specs.Claims.{Claims, first_lacked};
+ghost use Rattle.lab_scenario_orders.specs.declared.callers.Caller.{Caller};
 ghost use Rattle.lab_scenario_orders.specs.WatchTexts.{texts_in, watch_text, watched_at, watched_in, when_key};
 ghost use Rattle.lab_scenario_orders.specs.Watches.{AreWatches, IsWatch};
-ghost use Rattle.toml.specs.Data.{as_str, get_member};
+ghost use Rattle.toml.specs.Data.{as_str, get_member, string};
 ghost use Rattle.toml.specs.View.{items_view, table_view, view};
 
 use crate::asks::{AskFault, AskKey, FactFault};
@@ -29,7 +31,9 @@ pub(crate) fn when_key(when: When) -> &'static str
 }
 
 // The same as a key.
-fn key_of(when: When) -> AskKey {
+fn key_of(when: When) -> AskKey
+    ensures { result ≡ key_of when }
+{
     match when {
         When::Never => AskKey::NeverState,
         When::Sometimes => AskKey::Sometimes,
@@ -38,7 +42,9 @@ fn key_of(when: When) -> AskKey {
 }
 
 // Why a text isn't facts.
-fn unread(alloc: Global, when: When, number: usize, text: &str) -> AskFault {
+fn unread(alloc: Global, when: When, number: usize, text: &str) -> AskFault
+    ensures { (callers : List Caller) (board : Board) → IsBadValue callers board (key_of when) number (string text.now) result }
+{
     match near_word(alloc, text) {
         Ok(word) => AskFault::Facts(key_of(when), number, FactFault::Unread(word), None),
         Err(_) => AskFault::Memory,
@@ -68,6 +74,7 @@ fn claimed(
     ensures when { IfOk result (λ watch. watch.when ≡ when) }
     ensures text { IfOk result (λ watch. string_bytes watch.text ≡ text.now) }
     ensures is { IfOk result (IsWatch board.now) }
+    ensures bad { IfErr result (λ e. (callers : List Caller) → IsBadValue callers board.now (key_of when) number (string text.now) e) }
 {
     if let Some(part) = first_lacked(board, claims.as_slice()) {
         let why = FactFault::Lacking(part);
@@ -90,6 +97,7 @@ fn watch_in(
     ensures when { IfOk result (λ watch. watch.when ≡ when) }
     ensures text { IfOk result (λ watch. string_bytes watch.text ≡ text.now) }
     ensures is { IfOk result (IsWatch board.now) }
+    ensures bad { IfErr result (λ e. (callers : List Caller) → IsBadValue callers board.now (key_of when) number (string text.now) e) }
 {
     match claims_in(alloc, text) {
         Ok(Some(claims)) => claimed(alloc, board, when, number, text, claims),
@@ -109,6 +117,7 @@ fn read_watch(
     ensures when { IfOk result (λ watch. watch.when ≡ when) }
     ensures text { IfOk result (λ watch. as_str (view value.now) ≡ Some (string_bytes watch.text)) }
     ensures is { IfOk result (IsWatch board.now) }
+    ensures bad { IfErr result (λ e. (callers : List Caller) → IsBadValue callers board.now (key_of when) number (view value.now) e) }
 {
     match value.as_str() {
         Some(text) => watch_in(alloc, board, when, number, text),
@@ -126,11 +135,11 @@ fn read_values(
     ensures texts { IfOk result (λ all. all_given as_str (items_view values.now) ≡ Some (map (λ watch. string_bytes watch.text) all.items)) }
     ensures when { IfOk result (λ all. map watch_text all.items ≡ map (λ text. (when, text)) (map (λ watch. string_bytes watch.text) all.items)) }
     ensures are { IfOk result (λ all. AreWatches board.now all.items) }
+    ensures bad { IfErr result (λ e. (callers : List Caller) → IsBadList callers board.now (key_of when) (items_view values.now) e) }
 {
     let mut all = Vec::new(alloc);
-    for value in values {
-        let number = all.len().saturating_add(1);
-        let watch = match read_watch(alloc, board, when, number, value) {
+    for (i, value) in values.iter().enumerate() {
+        let watch = match read_watch(alloc, board, when, i + 1, value) {
             Ok(watch) => watch,
             Err(fault) => return Err(fault),
         };
@@ -151,6 +160,7 @@ fn watches_at(
 ) -> Result<Vec<Watch>, AskFault>
     ensures texts { IfOk result (λ all. watched_at when (table_view table.now) ≡ Some (map watch_text all.items)) }
     ensures are { IfOk result (λ all. AreWatches board.now all.items) }
+    ensures why { IfErr result (λ e. (callers : List Caller) → IsWhy callers board.now (table_view table.now) e) }
 {
     match field(table, when_key(when)) {
         Some(value) => match value.as_array() {
@@ -163,7 +173,8 @@ fn watches_at(
 
 // These with others behind them.
 fn joined(watches: Vec<Watch>, others: Vec<Watch>) -> Result<Vec<Watch>, AskFault>
-    ensures { IfOk result (λ all. all.items ≡ watches.items ++ others.items) }
+    ensures items { IfOk result (λ all. all.items ≡ watches.items ++ others.items) }
+    ensures memory { IfErr result (λ e. e ≡ AskFault.Memory) }
 {
     let mut all = watches;
     for watch in others {
@@ -179,6 +190,7 @@ fn joined(watches: Vec<Watch>, others: Vec<Watch>) -> Result<Vec<Watch>, AskFaul
 fn put_together(watches: Vec<Watch>, others: Vec<Watch>) -> Result<Vec<Watch>, AskFault>
     ensures items { IfOk result (λ all. all.items ≡ watches.items ++ others.items) }
     ensures are { IfOk result (λ all. (board : Board) → AreWatches board watches.items → AreWatches board others.items → AreWatches board all.items) }
+    ensures memory { IfErr result (λ e. e ≡ AskFault.Memory) }
 {
     match joined(watches, others) {
         Ok(all) => Ok(all),
@@ -194,6 +206,7 @@ pub(crate) fn read_watches(
 ) -> Result<Vec<Watch>, AskFault>
     ensures texts { IfOk result (λ all. watched_in (table_view table.now) ≡ Some (map watch_text all.items)) }
     ensures are { IfOk result (λ all. AreWatches board.now all.items) }
+    ensures why { IfErr result (λ e. (callers : List Caller) → IsWhy callers board.now (table_view table.now) e) }
 {
     let never = match watches_at(alloc, board, When::Never, table) {
         Ok(never) => never,

@@ -5,4 +5,4 @@ use Rattle.lab_scenario_orders.proofs.watch_texts.put_together.Goals as goal
 
 pub returns-in-Ok-clause-are : goal.returns-in-Ok-clause-are
 returns-in-Ok-clause-are c = λ board one other.
-    All-same (IsWatch board) c.in-Ok.all.items (c.args.watches.items ++ c.args.others.items) c.in-Ok.ensures (All-append (IsWatch board) c.args.watches.items c.args.others.items one other)
+    All-same (IsWatch board) c.in-Ok.all.items (c.args.watches.items ++ c.args.others.items) c.in-Ok.ensures.items (All-append (IsWatch board) c.args.watches.items c.args.others.items one other)

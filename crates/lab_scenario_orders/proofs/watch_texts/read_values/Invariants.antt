@@ -8,9 +8,9 @@ use Rattle.lab_scenario_orders.specs.Watches.{AreWatches}
 use Rattle.lab_scenario_orders.specs.declared.watches.Watch.{Watch}
 use Rattle.lab_scenario_orders.proofs.watch_texts.read_values.Given as goal
 
-abbrev pub invariant-loop-value : goal.invariant-loop-value
-invariant-loop-value l = record {
-  texts : option_map (λ texts. map (λ (watch : Watch). string_bytes watch.text) l.all.items ++ texts) (all_given as_str (items_view (drop l.value-index l.values))) ≡ all_given as_str (items_view l.values);
+abbrev pub invariant-loop-i : goal.invariant-loop-i
+invariant-loop-i l = record {
+  texts : option_map (λ texts. map (λ (watch : Watch). string_bytes watch.text) l.all.items ++ texts) (all_given as_str (items_view (drop l.i l.values))) ≡ all_given as_str (items_view l.values);
   when : map watch_text l.all.items ≡ map (λ text. (l.when, text)) (map (λ (watch : Watch). string_bytes watch.text) l.all.items);
   are : AreWatches l.board l.all.items;
 }
