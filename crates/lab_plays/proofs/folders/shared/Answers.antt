@@ -1,9 +1,9 @@
 use Rattle.std.proofs.Common.{◌∙◌, sym}
-use Rattle.lab_plays.proofs.FolderLemmas.{all_shared, none_shared}
+use Rattle.lab_plays.proofs.FolderLemmas.{none_shared, shared_below}
 use Rattle.lab_plays.proofs.folders.shared.Goals as goal
 
-pub returns-then-starts_with-clause-count : goal.returns-then-starts_with-clause-count
-returns-then-starts_with-clause-count c = all_shared c.args.names.now c.args.folder.now (sym c.starts_with.ensures.value ∙ c.if-starts_with.true)
+pub returns-then-goes_on-clause-count : goal.returns-then-goes_on-clause-count
+returns-then-goes_on-clause-count c = shared_below c.args.steps.now c.args.folder.now c.begun.result (sym c.goes_on.ensures ∙ c.if-goes_on.true) c.begun.ensures.count
 
-pub returns-else-starts_with-clause-count : goal.returns-else-starts_with-clause-count
-returns-else-starts_with-clause-count c = none_shared c.args.names.now c.args.folder.now (sym c.starts_with.ensures.value ∙ c.if-starts_with.false)
+pub returns-else-goes_on-clause-count : goal.returns-else-goes_on-clause-count
+returns-else-goes_on-clause-count c = none_shared c.args.steps.now c.args.folder.now (sym c.goes_on.ensures ∙ c.if-goes_on.false)
