@@ -156,12 +156,12 @@ line_unread (Err why) line value at h = unread_on line value at why h
 pub line_refused : (board : Board) (when : When) (line : List ℕ) (number : ℕ) (why : NotAsked) → IsUnreadAt line why → IsLineFault board (Some when) line number (line_fault when number why)
 line_refused board when line number not_asked.Value h = (refl, refl)
 line_refused board when line number (not_asked.Text n meant) h = (refl, refl, h)
-line_refused board when line number not_asked.Memory h = tt
+line_refused board when line number not_asked.Memory h = refl
 
 -- and of the line in a loop
 pub unasked_at : {A : Type 0} (f : A → List ℕ) (lines : List A) (i : ℕ) (d : A) (board : Board) (is : Bool) (o : Option When) (fault : StepsFault) → i < length lines
     → o ≡ when_asked is (f (get_or lines i d)) → IsLineFault board o (f (get_or lines i d)) (i + 1) fault → IsUnasked board (map f lines) fault
-unasked_at f lines i d board is o (Text fault) lt at h = tt
+unasked_at f lines i d board is o (Text fault) lt at h = h
 unasked_at f lines i d board is o Mixed lt at h = absurd h
 unasked_at f lines i d board is o Mutex lt at h = absurd h
 unasked_at f lines i d board is o Limit lt at h = absurd h

@@ -1,5 +1,5 @@
 -- Which texts are gone through step by step, and what is read of one, or why it isn't.
-use Rattle.std.proofs.Common.{◌≡◌, ℕ, ◌&&◌, Bool, true, false, List, None, Some, Result, Ok, Err, IfOk, IfErr, inr, sym, ap, ◌∙◌, subst}
+use Rattle.std.proofs.Common.{◌≡◌, ℕ, ◌&&◌, Bool, true, false, List, None, Some, Result, Ok, Err, IfOk, IfErr, inl, inr, sym, ap, ◌∙◌, subst}
 use Rattle.std.specs.Str.{is_utf8}
 use Rattle.std.specs.Str.Lines.{lines}
 use Rattle.evl_base.specs.declared.board.Board.{Board}
@@ -67,7 +67,7 @@ crew_there (Err e) extras read n watches there kept is = tt
 -- or why there are none
 kept_for : (lined : List (List ℕ)) (scenario text : List ℕ) (count n : ℕ) (read : CallersText) → text ≡ scenario → IsRead None text read → n ≡ set_up count read → (fault : StepsFault)
     → IsKept read n fault → IsStopped lined scenario count fault
-kept_for lined scenario text count n read same is all (Text fault) h = inr (read, subst (λ (t : List ℕ). IsRead None t read) same is)
+kept_for lined scenario text count n read same is all (Text fault) h = inl h
 kept_for lined scenario text count n read same is all Mixed h = absurd h
 kept_for lined scenario text count n read same is all (WhatIf line) h = absurd h
 kept_for lined scenario text count n read same is all (Lasts line) h = absurd h
@@ -88,7 +88,7 @@ kept_read (Err fault) lined scenario text count n read same is all h = kept_for 
 
 pub unasked_read : (lined : List (List ℕ)) (scenario text : List ℕ) (count : ℕ) (read : CallersText) → text ≡ scenario → IsRead None text read → (fault : StepsFault)
     → IsUnasked read.board lined fault → IsStopped lined scenario count fault
-unasked_read lined scenario text count read same is (Text fault) h = inr (read, subst (λ (t : List ℕ). IsRead None t read) same is)
+unasked_read lined scenario text count read same is (Text fault) h = inl h
 unasked_read lined scenario text count read same is Mixed h = absurd h
 unasked_read lined scenario text count read same is Mutex h = absurd h
 unasked_read lined scenario text count read same is Limit h = absurd h

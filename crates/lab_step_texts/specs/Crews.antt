@@ -77,7 +77,7 @@ pub record IsReadAs (text : List ℕ) (crew : Crew) : Type 0 where
 
 -- Why a text of callers that was read isn't gone through.
 abbrev pub IsKept : CallersText → ℕ → StepsFault → Type 0
-IsKept read count (Text e) = Unit {0}
+IsKept read count (Text e) = e ≡ fault.Memory
 IsKept read count Mixed = ⊥
 IsKept read count (WhatIf line) = ⊥
 IsKept read count (Lasts line) = ⊥
@@ -89,9 +89,9 @@ IsKept read count Limit = read.limit < length read.steps.items
 IsKept read count (Step n why) =
     ((why ≡ Setup) × (unattached read.board.threads 1 [] (take count read.steps.items) ≡ Some n)) ⊎ (calls_behind read.board.threads count read.steps.items ≡ Err (n, why))
 
--- why a scenario of callers isn't: it is refused, for that fault; or it is read, and there is a reason, or no memory
+-- why a scenario of callers isn't: it is refused, for that fault (want of memory among them); or it is read, and there is a reason
 abbrev pub IsKeptOf : List ℕ → ℕ → StepsFault → Type 0
-IsKeptOf scenario count (Text e) = texts.IsRefused None scenario e ⊎ ((read : CallersText) × IsRead None scenario read)
+IsKeptOf scenario count (Text e) = texts.IsRefused None scenario e
 IsKeptOf scenario count why = (read : CallersText) × IsRead None scenario read × IsKept read (set_up count read) why
 
 -- or these lines ask something else of its moments

@@ -141,7 +141,7 @@ line_fault when number not_asked.Memory = Text Memory
 
 -- of a line: it sets such a key, and not to facts, or to facts of what the board lacks
 abbrev pub IsLineFault : Board → Option When → List ℕ → ℕ → StepsFault → Type 0
-IsLineFault board when line number (Text fault) = Unit {0}
+IsLineFault board when line number (Text fault) = fault ≡ Memory
 IsLineFault board when line number (Question n) = (n ≡ number) × (is_some when ≡ true)
 IsLineFault board when line number (Facts n unread) = (n ≡ number) × (when ≡ Some unread.when) × IsUnreadAt line (not_asked.Text unread.number unread.meant)
 IsLineFault board when line number (Lacking n) = (n ≡ number) × ((watches : List StepWatch) × LineAsks when line watches × (are_there board watches ≡ false))
@@ -152,7 +152,7 @@ abbrev pub IsAt : (List ℕ → Type 0) → List (List ℕ) → ℕ → Type 0
 IsAt Is all number = IsSomeAnd (slice_get all (number - 1)) Is
 
 abbrev pub IsUnasked : Board → List (List ℕ) → StepsFault → Type 0
-IsUnasked board all (Text fault) = Unit {0}
+IsUnasked board all (Text fault) = fault ≡ Memory
 IsUnasked board all (Question n) = IsAt (λ line. is_some (when_set line) ≡ true) all n
 IsUnasked board all (Facts n unread) = IsAt (λ line. (when_set line ≡ Some unread.when) × IsUnreadAt line (not_asked.Text unread.number unread.meant)) all n
 IsUnasked board all (Lacking n) = IsAt (λ line. (watches : List StepWatch) × LineAsks (when_set line) line watches × (are_there board watches ≡ false)) all n

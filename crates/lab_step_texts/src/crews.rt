@@ -234,7 +234,7 @@ fn crew_with(
     extras: &Extras,
     calls: &[CallerCall],
     watches: Vec<StepWatch>,
-) -> Result<Crew, Fault>
+) -> Result<Crew, AllocError>
     requires { count ≤ length read.steps.items }
     ensures board { IfOk result (λ crew. crew.board ≡ read.board) }
     ensures limit { IfOk result (λ crew. crew.limit ≡ read.limit) }
@@ -253,18 +253,13 @@ fn crew_with(
     let first = &steps.as_slice()[..count];
     let behind = &steps.as_slice()[count..];
     let ways = extras.ways.as_slice();
-    let Ok(setup) = setup_of(alloc, first) else {
-        return Err(Fault::Memory);
-    };
-    let Ok(callers) = callers_of(alloc, board.threads, first, behind, ways, calls) else {
-        return Err(Fault::Memory);
-    };
-    let Ok(all) = steps_of(alloc, steps) else {
-        return Err(Fault::Memory);
-    };
+    let setup = setup_of(alloc, first)?;
+    let callers = callers_of(alloc, board.threads, first, behind, ways, calls)?;
+    let all = steps_of(alloc, steps)?;
     match Crew::new(board, limit, setup, all, callers, extras.what_if, watches) {
         Ok(crew) => Ok(crew),
-        Err(_) => Err(Fault::Board),
+        // No board that was read is out of its limits.
+        Err(_) => Err(AllocError),
     }
 }
 
@@ -298,6 +293,6 @@ pub(crate) fn crew_of(
     };
     match crew_with(alloc, read, count, extras, calls.as_slice(), watches) {
         Ok(crew) => Ok(crew),
-        Err(fault) => Err(StepsFault::Text(fault)),
+        Err(_) => Err(StepsFault::Text(Fault::Memory)),
     }
 }

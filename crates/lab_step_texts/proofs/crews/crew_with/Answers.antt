@@ -7,9 +7,9 @@ use Rattle.lab_step_texts.specs.Extras.{own_ways}
 use Rattle.lab_step_texts.proofs.CrewLaws.{rest_whole}
 use Rattle.lab_step_texts.proofs.crews.crew_with.Goals as goal
 
-pub returns-in-Ok-new-clause-callers : goal.returns-in-Ok-new-clause-callers
-returns-in-Ok-new-clause-callers c = λ k caller e.
+pub returns-in-Ok-clause-callers : goal.returns-in-Ok-clause-callers
+returns-in-Ok-clause-callers c = λ k caller e.
     let count = c.args.count in
-    let told = c.in-Ok-callers_of.ensures.callers k caller (subst (λ (l : List CrewCaller). slice_get l k ≡ Some caller) (ap (λ v. v.items) c.in-Ok-new.ensures.callers) e) in
+    let told = c.in_ok-callers.ensures.callers k caller (subst (λ (l : List CrewCaller). slice_get l k ≡ Some caller) (ap (λ v. v.items) c.in-Ok.ensures.callers) e) in
     let rest = rest_whole c.as_slice-2.result.now count ∙ ap (λ (l : List CallersStep). drop count l) c.as_slice-2.ensures.value in
     (told.0 ∙ ap (λ (l : List CallersStep). stage_in k (take count l)) c.as_slice.ensures.value, told.1, told.2 ∙ (λ i. own_ways k (c.as_slice-ways.ensures.value i) 0 (rest i)))

@@ -1,4 +1,4 @@
-use Rattle.std.proofs.Common.{◌≡◌, ℕ, ◌∙◌, List, length, ap, inl, subst}
+use Rattle.std.proofs.Common.{◌≡◌, ℕ, ◌∙◌, List, length, ap, subst}
 use Rattle.std.specs.Prelude.{None, min}
 use Rattle.std.specs.Str.Lines.{lines}
 use Rattle.lab_callers_text.specs.Readings.{IsRefused}
@@ -33,4 +33,4 @@ returns-in-Err-questions_of-clause-kept c =
     c.in-Err-questions_of.ensures.refused
 
 pub returns-in-Err-clause-kept : goal.returns-in-Err-clause-kept
-returns-in-Err-clause-kept c = inl (subst (λ (t : List ℕ). IsRefused None t c.in-Err.fault) (c.as_bytes.ensures.value ∙ c.as_str.ensures.value) c.in-Err.ensures.refused)
+returns-in-Err-clause-kept c = subst (λ (t : List ℕ). IsRefused None t c.in-Err.fault) (c.as_bytes.ensures.value ∙ c.as_str.ensures.value) c.in-Err.ensures.refused
