@@ -233,12 +233,13 @@ module _ (c : Crew) (gates mutexes : List Shared) (k : ℕ) where
     by None e = (tt, tt)
     by (Some m) e = here mutex m e (λ x. x.word ≡ m.word) refl
 
+  finish_said : (b : Bool) → AheadMay (if b then Visits asked.Finish else Turns (refuses Invalid))
+  finish_said true = tt
+  finish_said false = (tt, tt)
+
   finish_wait_may : (wait : Option Waiting) (keep held : Bool) → AheadMay (finish_wait wait keep held)
-  finish_wait_may None keep held = (tt, tt)
-  finish_wait_may (Some wait.Element) keep held = by (beq keep held) where
-    by : (b : Bool) → AheadMay (if b then Visits asked.Finish else Turns (refuses Invalid))
-    by true = tt
-    by false = (tt, tt)
+  finish_wait_may None keep held = finish_said (beq keep held)
+  finish_wait_may (Some wait.Element) keep held = finish_said (beq keep held)
   finish_wait_may (Some (wait.Mutex mutex)) keep held = (tt, tt)
 
   first_may : (w : Option Waiting) (call : WordCall) → AheadMay (first_ahead c gates mutexes k w call)

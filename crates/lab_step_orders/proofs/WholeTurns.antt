@@ -368,12 +368,13 @@ module _ (c : Crew) (gates mutexes : List Shared) (k : ℕ) where
       by None = refuse Invalid
       by (Some m) = all mutex m.word
 
+    finish_said : P (Visits asked.Finish) → (b : Bool) → P (if b then Visits asked.Finish else Turns (refuses Invalid))
+    finish_said all true = all
+    finish_said all false = refuse Invalid
+
     wait_so : P (Visits asked.Finish) → (w : Option Waiting) (keep held : Bool) → P (finish_wait w keep held)
-    wait_so all None keep held = refuse Invalid
-    wait_so all (Some wait.Element) keep held = by (beq keep held) where
-      by : (b : Bool) → P (if b then Visits asked.Finish else Turns (refuses Invalid))
-      by true = all
-      by false = refuse Invalid
+    wait_so all None keep held = finish_said all (beq keep held)
+    wait_so all (Some wait.Element) keep held = finish_said all (beq keep held)
     wait_so all (Some (wait.Mutex mutex)) keep held = refuse Invalid
 
   first_local : (w : Option Waiting) (one : WordCall) → AheadLocal (first_ahead c gates mutexes k w one)

@@ -130,11 +130,11 @@ finish_mutex mutexes None = Turns (refuses Invalid)
 abbrev pub holds_some : List Shared → ℕ → Bool
 holds_some all k = list_any (λ shared. holds shared k) all
 
--- another wait is ended by one that says whether it holds something
+-- another wait is ended by one that says whether it holds something; whether there is one the kernel knows
 abbrev pub finish_wait : Option Waiting → Bool → Bool → Ahead
 finish_wait (Some wait.Element) keep held = if beq keep held then Visits asked.Finish else Turns (refuses Invalid)
 finish_wait (Some (wait.Mutex mutex)) keep held = Turns (refuses Invalid)
-finish_wait None keep held = Turns (refuses Invalid)
+finish_wait None keep held = if beq keep held then Visits asked.Finish else Turns (refuses Invalid)
 
 -- what is ahead of one that begins a call
 abbrev pub first_ahead : Crew → List Shared → List Shared → ℕ → Option Waiting → WordCall → Ahead

@@ -303,14 +303,14 @@ fn finish_wait(wait: Option<Waiting>, keep: bool, held: bool) -> Ahead
     ensures { result ≡ turns.finish_wait wait keep held }
 {
     match wait {
-        Some(Waiting::Element) => {
+        Some(Waiting::Mutex(_)) => Ahead::Turns(refuses(Refusal::Invalid)),
+        Some(Waiting::Element) | None => {
             if keep == held {
                 Ahead::Visits(Asked::Finish)
             } else {
                 Ahead::Turns(refuses(Refusal::Invalid))
             }
         }
-        Some(Waiting::Mutex(_)) | None => Ahead::Turns(refuses(Refusal::Invalid)),
     }
 }
 

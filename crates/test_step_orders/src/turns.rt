@@ -43,6 +43,23 @@ fn who_finds_the_core_taken_gives_up(rt: HostRuntime) {
 }
 
 #[test]
+fn finish_without_a_wait_finds_the_core_taken(rt: HostRuntime) {
+    let rows: [Row; 2] = [
+        (Stage::Oob, &[WordCall::BeginLockMutex(M0, None)]),
+        (Stage::Oob, &[WordCall::Finish(false)]),
+    ];
+    let found = counts_by(
+        rt.alloc(),
+        &[10, 10],
+        &rows,
+        CoreUse::Tries,
+        None,
+        "T1 -> CoreBusy",
+    );
+    assert!(rt; found == wanted(5, 3, 15, 2));
+}
+
+#[test]
 fn offer_without_its_mark_loses_a_waiter(rt: HostRuntime) {
     let found = counts_by(
         rt.alloc(),
