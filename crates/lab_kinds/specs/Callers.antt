@@ -3,7 +3,7 @@ use Rattle.std.specs.Prelude.{◌≡◌, ◌⊎◌, ℕ, ◌==◌, Bool, ◌&&�
 use Rattle.std.specs.Str.{bytes_eq}
 use Rattle.evl_scenario.specs.declared.faults.Fault.{Fault}
 use Rattle.evl_scenario.specs.declared.faults.Fault.TheVariants.{Text, Board, Step}
-use Rattle.lab_callers_text.specs.Readings.{IsRead}
+use Rattle.lab_callers_text.specs.Readings.{IsRead, IsRefused}
 use Rattle.lab_callers_text.specs.declared.reading.CallersText.{CallersText}
 use Rattle.lab_faults.specs.Boards.{heading_faults, is_of_board, item_faults, threads_faults}
 use Rattle.lab_faults.specs.Checks.{FindsText, IsLed}
@@ -85,11 +85,12 @@ faults_in_steps text = all_callers_step_faults text (text_keys text)
 abbrev pub faults_in_all : List ℕ → List Told
 faults_in_all text = callers_board_faults text (text_headings text) (text_keys text) ++ faults_in_steps text
 
--- by what it is refused for
+-- by what it is refused for, which is neither want of memory nor a write
 abbrev pub CallersFind : List ℕ → Fault → List Told → Type 0
 CallersFind text Text faults = FindsText text faults
+CallersFind text Board faults = faults ≡ faults_in_all text
 CallersFind text (Step number) faults = faults ≡ faults_in_steps text
-CallersFind text _ faults = faults ≡ faults_in_all text
+CallersFind text _ faults = ⊥
 
 -- the fault that it is refused for comes first
 pub record CallersTell (text : List ℕ) (fault : Fault) (faults : List Told) : Type 0 where
@@ -97,6 +98,9 @@ pub record CallersTell (text : List ℕ) (fault : Fault) (faults : List Told) : 
   pub finds : CallersFind text fault found
   pub led : IsLed fault found faults
 
--- a text that is read has none; any other is refused for one
+-- a text that is refused, for this fault; one that is read has none
+abbrev pub TellsRefused : List ℕ → List Told → Type 0
+TellsRefused text faults = (fault : Fault) × IsRefused None text fault × CallersTell text fault faults
+
 abbrev pub TellsCallers : List ℕ → List Told → Type 0
-TellsCallers text faults = ((read : CallersText) × IsRead None text read × (faults ≡ [])) ⊎ ((fault : Fault) × CallersTell text fault faults)
+TellsCallers text faults = ((read : CallersText) × IsRead None text read × (faults ≡ [])) ⊎ TellsRefused text faults

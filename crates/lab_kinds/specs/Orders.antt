@@ -22,7 +22,7 @@ use Rattle.lab_faults.specs.declared.tokens.Token.{Token}
 use Rattle.lab_callers_text.specs.Readings.{IsRead}
 use Rattle.lab_callers_text.specs.declared.reading.CallersText.{CallersText}
 use Rattle.lab_kinds.specs.Asking.{AskedLast, open_text, told_on}
-use Rattle.lab_kinds.specs.Callers.{CallersTell}
+use Rattle.lab_kinds.specs.Callers.{TellsRefused}
 use Rattle.lab_kinds.specs.Kinds.{is_headed, kind_of}
 use Rattle.lab_kinds.specs.Plains.{open_question, plain_within, unquestioned_within}
 use Rattle.lab_kinds.specs.Tables.{field_faults}
@@ -203,7 +203,7 @@ QuestionsTell text scenario setup own None faults = AskedTells text scenario set
 abbrev pub StepsTell : List ℕ → List ℕ → ℕ → List ℕ → List ℕ → List Told → Type 0
 StepsTell text scenario setup asked own faults =
     ((read : CallersText) × IsRead None scenario read × QuestionsTell text scenario setup own (open_question asked) faults)
-    ⊎ ((fault : Fault) × CallersTell scenario fault faults)
+    ⊎ TellsRefused scenario faults
 
 abbrev pub PartsTell : List ℕ → List ℕ → List ℕ → ℕ → List ℕ → List ℕ → List Told → Type 0
 PartsTell text scenario plain setup asked own faults =

@@ -259,8 +259,9 @@ fn all_found(alloc: Global, text: &[u8], fault: Fault) -> Result<Vec<Found>, All
 {
     match fault {
         Fault::Text => found_in_text(alloc, text),
+        Fault::Board => found_in_board(alloc, text),
         Fault::Step(_) => found_in_steps(alloc, text),
-        _ => found_in_board(alloc, text),
+        Fault::Memory | Fault::Write => Err(AllocError),
     }
 }
 
@@ -284,7 +285,6 @@ pub fn check_callers(alloc: Global, text: &[u8]) -> Result<Vec<Found>, AllocErro
             drop(read);
             Ok(Vec::new(alloc))
         }
-        Err(Fault::Memory) => Err(AllocError),
         Err(fault) => {
             let found = explain(alloc, text, fault)?;
             Ok(found)

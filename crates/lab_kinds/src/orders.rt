@@ -217,7 +217,6 @@ fn found_in_steps(
             let found = found_in_questions(alloc, text, scenario, setup, asked, own)?;
             Ok(found)
         }
-        Err(Fault::Memory) => Err(AllocError),
         Err(fault) => {
             let found = explain(alloc, scenario, fault)?;
             Ok(found)

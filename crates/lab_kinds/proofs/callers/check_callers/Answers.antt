@@ -7,4 +7,4 @@ pub returns-in-Ok : goal.returns-in-Ok
 returns-in-Ok c = inl (c.in-Ok.read, c.in-Ok.ensures.opens, ap (λ (found : List Found). map fault_told found) c.new.ensures.items)
 
 pub returns-in_ok-found-in-Err : goal.returns-in_ok-found-in-Err
-returns-in_ok-found-in-Err c = inr (c.in-Err.fault, c.in_ok-found-in-Err.ensures)
+returns-in_ok-found-in-Err c = inr (c.in-Err.fault, c.in-Err.ensures.refused, c.in_ok-found-in-Err.ensures)
