@@ -12,7 +12,7 @@ use Rattle.lab_callers.specs.declared.passes.StepFault.{StepFault}
 use Rattle.lab_callers.specs.declared.playing.Ending.{Ending}
 use Rattle.lab_callers.specs.declared.playing.Ending.TheVariants as ending
 use Rattle.lab_callers.specs.declared.playing.Played.{Played as Made}
-use Rattle.lab_callers_text.specs.Readings.{IsRead}
+use Rattle.lab_callers_text.specs.Readings.{IsRead, IsRefused}
 use Rattle.lab_callers_text.specs.declared.reading.CallersText.{CallersText}
 use Rattle.evl_c.specs.Windows.{window}
 use Rattle.evl_c.specs.declared.callers.Story.{Story as Telling}
@@ -65,11 +65,11 @@ TellsPlayed bank asked story =
     ((made : Made) × PlaysOver bank asked made × (story ≡ ended made))
     ⊎ ((can_open asked.board (length bank) asked.limit ≡ false) × (story ≡ record { text = []; step = 0; status = 2 }))
 
--- what a text asks for, under a limit that may be handed in; or it is refused for some fault
+-- what a text asks for, under a limit that may be handed in; or it is refused, for that fault
 abbrev pub PlaysCallers : List Handler → Option ℕ → List ℕ → Story → Type 0
 PlaysCallers bank limit text story =
     ((asked : CallersText) × IsRead limit text asked × TellsPlayed bank asked story)
-    ⊎ ((e : Fault) × IsSomeAnd (fault_ended e) (λ s. story ≡ s))
+    ⊎ ((e : Fault) × IsRefused limit text e × IsSomeAnd (fault_ended e) (λ s. story ≡ s))
 
 -- C is told so, or memory ran out, and nothing is told
 abbrev pub TellsCallers : List Handler → Option ℕ → List ℕ → ℕ → List ℕ → List ℕ → Played → ℕ → Type 0

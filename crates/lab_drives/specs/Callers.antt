@@ -6,7 +6,7 @@ use Rattle.evl_scenario.specs.Lines.{line_feed}
 use Rattle.evl_scenario.specs.declared.faults.Fault.{Fault}
 use Rattle.evl_plans.specs.Told.{handler_of}
 use Rattle.evl_plans.specs.declared.planned.Planned.{Planned}
-use Rattle.lab_callers_text.specs.Readings.{IsRead}
+use Rattle.lab_callers_text.specs.Readings.{IsRead, IsRefused}
 use Rattle.lab_callers_text.specs.declared.reading.CallersText.{CallersText}
 use Rattle.lab_callers.specs.Faults as callers
 use Rattle.lab_callers.specs.Plays.{IsTold}
@@ -46,11 +46,11 @@ abbrev pub TellsPlayed : List Handler → List ℕ → CallersText → Output �
 TellsPlayed bank name asked output =
     ((played : Played) × PlaysOver bank asked played × (output ≡ played_told name played)) ⊎ ((can_open asked.board (length bank) asked.limit ≡ false) × (output ≡ refuses 2 (line_about name (codes "bad board"))))
 
--- what a text asks for, under a limit that may be handed in; or it is refused for some fault
+-- what a text asks for, under a limit that may be handed in; or it is refused, for that fault
 abbrev pub TellsText : List Handler → Option ℕ → List ℕ → List ℕ → Output → Type 0
 TellsText bank limit name text output =
     ((asked : CallersText) × IsRead limit text asked × TellsPlayed bank name asked output)
-    ⊎ ((fault : Fault) × IsSomeAnd (kinded_words (as_callers (kind_of text)) fault) (λ words. output ≡ refuses 2 (line_about name words)))
+    ⊎ ((fault : Fault) × IsRefused limit text fault × IsSomeAnd (kinded_words (as_callers (kind_of text)) fault) (λ words. output ≡ refuses 2 (line_about name words)))
 
 -- of a file, by what was read of it
 abbrev pub TellsRead : List Handler → Option ℕ → List ℕ → Reading → Output → Type 0

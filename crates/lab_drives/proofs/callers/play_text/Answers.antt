@@ -17,4 +17,4 @@ returns-in_ok-kind-in-Err-clause-writes g c =
     let name = c.args.name.now in
     let text = c.args.text.now in
     told_kinded _ (TellsText (map handler_of c.args.plans.items) c.args.limit name text) _ _ _ name _ (as_callers (kind_of text)) c.in-Err.fault c.tell_fault_by.result c.refused.result
-    (c.as_callers.ensures ∙ ap as_callers c.in_ok-kind-in-Err.ensures) (λ output h. inr (c.in-Err.fault, h)) c.tell_fault_by.ensures.line c.refused.ensures.status
+    (c.as_callers.ensures ∙ ap as_callers c.in_ok-kind-in-Err.ensures) (λ output h. inr (c.in-Err.fault, c.in-Err.ensures.refused, h)) c.tell_fault_by.ensures.line c.refused.ensures.status
