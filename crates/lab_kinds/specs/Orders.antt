@@ -24,9 +24,9 @@ use Rattle.lab_callers_text.specs.declared.reading.CallersText.{CallersText}
 use Rattle.lab_kinds.specs.Asking.{AskedLast, open_text, told_on}
 use Rattle.lab_kinds.specs.Callers.{TellsRefused}
 use Rattle.lab_kinds.specs.Kinds.{is_headed, kind_of}
-use Rattle.lab_kinds.specs.Plains.{open_question, plain_within, unquestioned_within}
-use Rattle.lab_kinds.specs.Tables.{field_faults}
-use Rattle.lab_kinds.specs.Words.{ask_keys, is_word, step_ask_keys}
+use Rattle.lab_kinds.specs.Plains.{is_question_key, open_question, plain_within, unquestioned_within}
+use Rattle.lab_kinds.specs.Tables.{field_faults, unknown_text}
+use Rattle.lab_kinds.specs.Words.{ask_keys, is_word, step_ask_keys, step_ask_names}
 use Rattle.lab_kinds.specs.declared.kinds.TextKind.{TextKind}
 use Rattle.lab_kinds.specs.declared.kinds.TextKind.TheVariants.{Callers}
 use Rattle.lab_scenario_orders.specs.Asks.{begins}
@@ -148,9 +148,21 @@ answer_faults text is_of_steps piece name (Some answer) =
 abbrev pub is_listed : ℕ × ℕ → Token → Bool
 is_listed value piece = is_word piece.kind && (nat_le value.0 piece.from && nat_le piece.to value.1)
 
--- the keys of what is asked of whole calls, or of callers' steps
-abbrev pub keys_for : Bool → List (List ℕ)
-keys_for is_of_steps = if is_of_steps then step_ask_keys else ask_keys
+-- a key that asks of moments stands without quotes
+unfoldable pub quoted_text : List ℕ → List ℕ
+quoted_text key = codes "[ask]: " ++ (key ++ codes " is written without quotes")
+
+-- of a key of what is asked of callers' steps, but for the lines that ask of moments
+abbrev pub step_key_faults : List ℕ → Item → List Told
+step_key_faults text item =
+    let key = name_between text item.key in
+    if is_among step_ask_keys key then field_faults text Board (codes "[ask]: ") step_ask_keys item
+    else if is_question_key key then told_at text Board item.key.0 (quoted_text key) ∷ []
+    else told_at text Board item.key.0 (unknown_text (codes "[ask]: ") step_ask_names key) ∷ []
+
+-- of callers' steps, or of whole calls
+abbrev pub key_faults : List ℕ → Bool → Item → List Told
+key_faults text is_of_steps item = if is_of_steps then step_key_faults text item else field_faults text Board (codes "[ask]: ") ask_keys item
 
 module _ (text : List ℕ) (callers : List (List ℕ)) (is_of_steps : Bool) where
   unfoldable pub never_faults : Token → List Told
@@ -165,7 +177,7 @@ module _ (text : List ℕ) (callers : List (List ℕ)) (is_of_steps : Bool) wher
 
   -- of a key of what is asked
   unfoldable pub ask_item_faults : List Token → Item → List Told
-  ask_item_faults pieces item = field_faults text Board (codes "[ask]: ") (keys_for is_of_steps) item ++ never_item_faults pieces item
+  ask_item_faults pieces item = key_faults text is_of_steps item ++ never_item_faults pieces item
 
   unfoldable pub ask_faults : List Told
   ask_faults = flat_map (ask_item_faults (pieces text)) (text_keys text)

@@ -54,9 +54,13 @@ ask_keys =
     codes "never" ∷ codes "always_ends" ∷ codes "ends_waits" ∷ codes "as_picked" ∷ codes "never_state" ∷ codes "sometimes"
     ∷ codes "always" ∷ codes "outcomes" ∷ []
 
--- the keys of `[ask]` where steps of callers are gone through
+-- the keys of `[ask]` where steps of callers are gone through, but for those that ask of moments; and all of them
 unfoldable pub step_ask_keys : List (List ℕ)
 step_ask_keys = codes "never" ∷ codes "always_ends" ∷ codes "ends_waits" ∷ codes "outcomes" ∷ []
+
+unfoldable pub step_ask_names : List (List ℕ)
+step_ask_names =
+    codes "never" ∷ codes "always_ends" ∷ codes "ends_waits" ∷ codes "never_state" ∷ codes "sometimes" ∷ codes "always" ∷ codes "outcomes" ∷ []
 
 unfoldable pub callback_keys : List (List ℕ)
 callback_keys = codes "accepts" ∷ codes "do" ∷ []

@@ -3,11 +3,12 @@ ghost use Rattle.std.specs.Prelude.{◌≡◌, ◌++◌, flat_map, codes, map, o
 ghost use Rattle.std.specs.List.{list_any};
 ghost use Rattle.lab_faults.specs.Told.{Adds};
 ghost use Rattle.lab_kinds.specs.Orders as orders;
-ghost use Rattle.lab_kinds.specs.Orders.{answer_of, ask_faults, ask_item_faults, caller_of, callers_of, listed_faults, never_faults, never_item_faults, no_answer_text, no_caller_text};
+ghost use Rattle.lab_kinds.specs.Orders.{answer_of, ask_faults, ask_item_faults, caller_of, callers_of, key_faults, listed_faults, never_faults, never_item_faults, no_answer_text, no_caller_text, quoted_text, step_key_faults};
 
 use crate::parts::begins;
-use crate::tables::check_field;
-use crate::words::{ask_keys, is_word, step_ask_keys};
+use crate::plains::is_question_key;
+use crate::tables::{check_field, unknown_words};
+use crate::words::{ask_keys, is_word, step_ask_keys, step_ask_names};
 use evl_scenario::Fault;
 use lab_faults::{
     Finding, Item, Token, is_among, items_of, named, near_text, number_of, tokens_of,
@@ -307,15 +308,50 @@ fn check_nevers(
     Ok(())
 }
 
-// The keys of what is asked of whole calls, or of callers' steps.
-fn keys_for(is_of_steps: bool) -> &'static [&'static str]
-    ensures { map (λ key. key.now) result.now ≡ orders.keys_for is_of_steps }
+// What is said of a key that asks of moments and stands in quotes.
+#[tactic(auto, unfolding(crate::specs::Orders::quoted_text))]
+fn quoted_words(alloc: Global, key: &str) -> Result<String, AllocError>
+    ensures { IfOk result (λ words. string_bytes words ≡ quoted_text key.now) }
+{
+    format!(in alloc; "[ask]: {key} is written without quotes")
+}
+
+// Notes the faults of a key of what is asked of callers' steps.
+fn check_step_key(alloc: Global, finding: &mut Finding<'_>, item: Item) -> Result<(), AllocError>
+    ensures { OnOk result (Adds finding.old finding.new (step_key_faults finding.old.text.now item)) }
+{
+    let key = named(finding.text, item.key);
+    if is_among(step_ask_keys(), key) {
+        return check_field(
+            alloc,
+            finding,
+            Fault::Board,
+            "[ask]: ",
+            step_ask_keys(),
+            item,
+        );
+    }
+    if is_question_key(key) {
+        let words = quoted_words(alloc, key)?;
+        return finding.note(Fault::Board, item.key.0, words);
+    }
+    let words = unknown_words(alloc, "[ask]: ", step_ask_names(), key)?;
+    finding.note(Fault::Board, item.key.0, words)
+}
+
+// The same of callers' steps, or of whole calls.
+fn check_key(
+    alloc: Global,
+    finding: &mut Finding<'_>,
+    is_of_steps: bool,
+    item: Item,
+) -> Result<(), AllocError>
+    ensures { OnOk result (Adds finding.old finding.new (key_faults finding.old.text.now is_of_steps item)) }
 {
     if is_of_steps {
-        step_ask_keys()
-    } else {
-        ask_keys()
+        return check_step_key(alloc, finding, item);
     }
+    check_field(alloc, finding, Fault::Board, "[ask]: ", ask_keys(), item)
 }
 
 // Notes the faults of a key of what is asked.
@@ -330,8 +366,7 @@ fn check_ask_item(
 ) -> Result<(), AllocError>
     ensures { OnOk result (Adds finding.old finding.new (ask_item_faults finding.old.text.now (map (λ who. who.now) callers.now) is_of_steps pieces.now item)) }
 {
-    let keys = keys_for(is_of_steps);
-    check_field(alloc, finding, Fault::Board, "[ask]: ", keys, item)?;
+    check_key(alloc, finding, is_of_steps, item)?;
     check_nevers(alloc, finding, callers, is_of_steps, pieces, item)
 }
 

@@ -142,8 +142,8 @@ fn around_equals(text: &str) -> Option<(&str, &str)>
     }
 }
 
-// Whether a key asks of moments.
-fn is_question_key(key: &str) -> bool
+/// Whether a key asks of moments.
+pub fn is_question_key(key: &str) -> bool
     ensures { result ≡ is_question_key key.now }
 {
     key == "never_state" || key == "sometimes" || key == "always"

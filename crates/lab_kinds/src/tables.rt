@@ -9,9 +9,14 @@ use evl_scenario::Fault;
 use lab_faults::{Finding, Item, is_among, is_optional, item_at, listed, named, near_text, shown};
 use std::alloc::{AllocError, Global};
 
-// What is said of a key that the table doesn't have.
+/// What is said of a key that the table doesn't have.
 #[tactic(auto, unfolding(crate::specs::Tables::unknown_text))]
-fn unknown_words(alloc: Global, place: &str, keys: &[&str], key: &str) -> Result<String, AllocError>
+pub fn unknown_words(
+    alloc: Global,
+    place: &str,
+    keys: &[&str],
+    key: &str,
+) -> Result<String, AllocError>
     ensures { IfOk result (λ words. string_bytes words ≡ unknown_text place.now (map (λ key. key.now) keys.now) key.now) }
 {
     let hint = near_text(alloc, key, keys)?;

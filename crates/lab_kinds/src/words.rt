@@ -34,6 +34,16 @@ const ASK_KEYS: [&str; 8] = [
 
 const STEP_ASK_KEYS: [&str; 4] = ["never", "always_ends", "ends_waits", "outcomes"];
 
+const STEP_ASK_NAMES: [&str; 7] = [
+    "never",
+    "always_ends",
+    "ends_waits",
+    "never_state",
+    "sometimes",
+    "always",
+    "outcomes",
+];
+
 const CALLBACK_KEYS: [&str; 2] = ["accepts", "do"];
 
 const ROW_KEYS: [&str; 7] = [
@@ -90,12 +100,20 @@ pub fn ask_keys() -> &'static [&'static str]
     &ASK_KEYS
 }
 
-/// The keys of `[ask]` where steps of callers are gone through.
+/// The keys of `[ask]` where steps of callers are gone through, but for those that ask of moments.
 #[tactic(auto, unfolding(crate::specs::Words::step_ask_keys))]
 pub fn step_ask_keys() -> &'static [&'static str]
     ensures { map (λ key. key.now) result.now ≡ words.step_ask_keys }
 {
     &STEP_ASK_KEYS
+}
+
+/// All keys of `[ask]` where steps of callers are gone through.
+#[tactic(auto, unfolding(crate::specs::Words::step_ask_names))]
+pub fn step_ask_names() -> &'static [&'static str]
+    ensures { map (λ key. key.now) result.now ≡ words.step_ask_names }
+{
+    &STEP_ASK_NAMES
 }
 
 /// The keys of a callback.
