@@ -2,7 +2,7 @@
 use Rattle.std.specs.Prelude.{◌≡◌, ◌⊎◌, ◌==◌, ℕ, Bool, true, false, MatchBool, List, [], ◌∷◌, ◌++◌, codes, Option, Some, None, Ok, Err}
 use Rattle.std.specs.Io.KnownBytes.{Appends}
 use Rattle.std.specs.Option.{option_map_or}
-use Rattle.lab_kinds.specs.Kinds.{kind_of}
+use Rattle.lab_kinds.specs.Kinds.{checked_kind, kind_of}
 use Rattle.lab_kinds.specs.Reports.{Reports}
 use Rattle.lab_kinds.specs.declared.kinds.TextKind.{TextKind}
 use Rattle.lab_kinds.specs.declared.kinds.TextKind.TheVariants as kind
@@ -20,8 +20,14 @@ use Rattle.lab.specs.declared.explains.Takes.TheVariants as takes
 abbrev pub is_taken : Takes → TextKind → Bool
 is_taken own kind.Scenario = true
 is_taken takes.Orders kind.Orders = true
+is_taken takes.Orders kind.Callers = true
 is_taken takes.Callers kind.Callers = true
 is_taken _ _ = false
+
+-- where a text is checked as one that the part doesn't take: one of callers is for all their orders then
+abbrev pub misplaced_text : Takes → TextKind → List ℕ → List ℕ
+misplaced_text takes.Callers kind.Callers name = name ++ codes ": has lasts or [what_if]: a text for lab orders\n"
+misplaced_text _ _ name = []
 
 -- the first line of a report
 abbrev pub first_line : List ℕ → List ℕ
@@ -39,9 +45,10 @@ ExplainsKind own name text said =
     (report : List ℕ) × (at_fault : Bool) × Reports own name text [] report at_fault
     × MatchBool at_fault ((line : List ℕ) × IsFirstLine report line × (said ≡ fault_text name line)) (said ≡ [])
 
--- of one that the part doesn't take nothing
+-- of one that the part doesn't take, by what it is checked as, at most for which part it is
 abbrev pub ExplainsText : Takes → List ℕ → List ℕ → List ℕ → Type 0
-ExplainsText own name text said = MatchBool (is_taken own (kind_of text)) (ExplainsKind (kind_of text) name text said) (said ≡ [])
+ExplainsText own name text said =
+    MatchBool (is_taken own (checked_kind text)) (ExplainsKind (checked_kind text) name text said) (said ≡ misplaced_text own (kind_of text) name)
 
 -- of what stands for a text; of lines that can't be read the part has told the place
 abbrev pub ExplainsGiven : Takes → List ℕ → List ℕ → List ℕ → Type 0

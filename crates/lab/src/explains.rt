@@ -4,7 +4,7 @@ ghost use Rattle.std.specs.Io.KnownBytes.{Appends};
 ghost use Rattle.lab_drives.specs.Callers.{TellsCallers};
 ghost use Rattle.lab_draws.specs.Draws.{Draws};
 ghost use Rattle.lab.specs.Explains as explains;
-ghost use Rattle.lab.specs.Explains.{Behind, Explains, ExplainsEach, ExplainsFile, ExplainsGiven, ExplainsKind, ExplainsText, IsFirstLine, fault_text, named};
+ghost use Rattle.lab.specs.Explains.{Behind, Explains, ExplainsEach, ExplainsFile, ExplainsGiven, ExplainsKind, ExplainsText, IsFirstLine, fault_text, misplaced_text, named};
 ghost use Rattle.lab_asks.specs.Orders.{TellsOrders};
 ghost use Rattle.lab_notes.specs.States.{TellsUnlessRefused};
 ghost use Rattle.lab_plays.specs.Plays.{PlaysUnlessRefused};
@@ -14,7 +14,7 @@ ghost use Rattle.lab_traces.specs.Parts.{around};
 use lab_asks::tell_orders;
 use lab_draws::draw;
 use lab_drives::drive_callers;
-use lab_kinds::{TextKind, kind_of, report_kind};
+use lab_kinds::{TextKind, checked_kind, kind_of, report_kind};
 use lab_lines::{LinesFault, plain_text};
 use lab_notes::tell_states;
 use lab_plays::play_files;
@@ -37,7 +37,7 @@ fn is_taken(takes: Takes, kind: TextKind) -> bool
 {
     match (takes, kind) {
         (_, TextKind::Scenario) => true,
-        (Takes::Orders, TextKind::Orders) => true,
+        (Takes::Orders, TextKind::Orders | TextKind::Callers) => true,
         (Takes::Callers, TextKind::Callers) => true,
         _ => false,
     }
@@ -87,7 +87,24 @@ fn explained_kind(
     }
 }
 
-// The same of a text that the part takes.
+// For which part a text of a kind is that is checked as one that the part doesn't take.
+fn misplaced_text(
+    alloc: Global,
+    takes: Takes,
+    kind: TextKind,
+    name: &str,
+) -> Result<String, AllocError>
+    ensures { IfOk result (λ text. string_bytes text ≡ misplaced_text takes kind name.now) }
+{
+    match (takes, kind) {
+        (Takes::Callers, TextKind::Callers) => {
+            format!(in alloc; "{name}: has lasts or [what_if]: a text for lab orders\n")
+        }
+        _ => Ok(String::new(alloc)),
+    }
+}
+
+// The same of a text, by the kind as which it is checked.
 fn explained_text(
     alloc: Global,
     takes: Takes,
@@ -96,11 +113,11 @@ fn explained_text(
 ) -> Result<String, AllocError>
     ensures { IfOk result (λ said. ExplainsText takes name.now text.now (string_bytes said)) }
 {
-    let kind = kind_of(alloc, text)?;
+    let kind = checked_kind(alloc, text)?;
     if is_taken(takes, kind) {
         explained_kind(alloc, kind, name, text)
     } else {
-        Ok(String::new(alloc))
+        misplaced_text(alloc, takes, kind_of(alloc, text)?, name)
     }
 }
 
