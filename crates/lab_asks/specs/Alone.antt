@@ -10,7 +10,6 @@ use Rattle.lab_scenario_orders.specs.declared.asks.Ask.{Ask}
 use Rattle.lab_scenario_orders.specs.declared.callers.Callers.{Callers}
 use Rattle.lab_streams.specs.Endings.{line_about}
 use Rattle.lab_streams.specs.Outputs.{Output, refuses}
-use Rattle.lab_asks.specs.OneOrder.{unasked_text}
 use Rattle.lab_asks.specs.Verdicts.{holds_text, unanswered_text}
 
 -- how many orders there are, and how many are against what is asked
@@ -26,9 +25,13 @@ against_head found = decimal found.against ++ (codes " against what is asked, " 
 abbrev pub head_text : Verdict → List ℕ
 head_text found = orders_head found.orders ++ against_head found
 
+-- how many outcomes there are isn't known then
+abbrev pub uncounted_text : List ℕ → List ℕ
+uncounted_text name = codes "lab: " ++ (name ++ codes ": not answered: --ask counts no outcomes\n")
+
 -- nothing is against it: it holds in all orders, or it isn't known
 abbrev pub quiet_text : List ℕ → Ask → Verdict → List ℕ
-quiet_text name asks found = if found.whole then (if is_some asks.outcomes then unasked_text name else holds_text name asks found.orders) else unanswered_text name found.steps
+quiet_text name asks found = if found.whole then (if is_some asks.outcomes then uncounted_text name else holds_text name asks found.orders) else unanswered_text name found.steps
 
 abbrev pub quiet_status : Ask → Verdict → ℕ
 quiet_status asks found = if found.whole then (if is_some asks.outcomes then 5 else 0) else 5

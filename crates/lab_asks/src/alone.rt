@@ -2,18 +2,17 @@
 ghost use Rattle.std.specs.Prelude.{◌≡◌, IfErr, IfOk, OnOk, Some, false, map};
 ghost use Rattle.std.specs.Io.KnownBytes.{Appends};
 ghost use Rattle.evl_plans.specs.Told.{handler_of};
-ghost use Rattle.lab_asks.specs.Alone.{TellsAlone, TellsVerdict, against_head, against_line, against_words, alone_status, alone_text, head_text, order_word, orders_head, place_status, place_text, quiet_status, quiet_text, verdict_told};
+ghost use Rattle.lab_asks.specs.Alone.{TellsAlone, TellsVerdict, against_head, against_line, against_words, alone_status, alone_text, head_text, order_word, orders_head, place_status, place_text, quiet_status, quiet_text, uncounted_text, verdict_told};
 ghost use Rattle.lab_asks.specs.OneOrder.{text_name};
 ghost use Rattle.lab_scenario_orders.specs.Verdicts as verdicts;
 ghost use Rattle.lab_streams.specs.Outputs.{Writes};
 ghost use Rattle.lab_streams.specs.Streams.{EndsEarly};
 
 use crate::copies::Copies;
-use crate::one_order::tell_unasked;
 use crate::verdicts::{tell_holds, tell_unanswered};
 use lab_orders::OrdersError;
 use lab_scenario_orders::{Ask, Callers, Verdict, ask_alone, asks_anything, state_against};
-use lab_streams::{AGAINST, Asked, Stream, refused, tell_refused};
+use lab_streams::{AGAINST, Asked, Stream, UNANSWERED, refused, tell_refused};
 use std::alloc::{AllocError, Global};
 use std::io;
 
@@ -53,6 +52,16 @@ fn print_head<O: Stream>(found: &Verdict, out: &mut O) -> io::Result<()>
     Ok(())
 }
 
+// Tells that outcomes aren't counted, and answers the status.
+fn tell_uncounted<E: Stream>(err: &mut E, name: &str) -> io::Result<u8>
+    ensures status { IfOk result (λ status. status ≡ 5) }
+    ensures line { OnOk result (Appends (E.contents err.old) (E.contents err.new) (uncounted_text name.now)) }
+    ensures early { IfErr result (EndsEarly false false (E.has_failed err.new)) }
+{
+    writeln!(err, "lab: {name}: not answered: --ask counts no outcomes")?;
+    Ok(UNANSWERED)
+}
+
 // Tells what holds where no end is against what is asked and no question about moments is, and answers the status.
 fn tell_quiet<E: Stream>(err: &mut E, name: &str, ask: &Ask, found: &Verdict) -> io::Result<u8>
     ensures status { IfOk result (λ status. status ≡ quiet_status ask.now found.now) }
@@ -63,7 +72,7 @@ fn tell_quiet<E: Stream>(err: &mut E, name: &str, ask: &Ask, found: &Verdict) ->
         return tell_unanswered(err, name, found.steps);
     }
     if ask.outcomes.is_some() {
-        return tell_unasked(err, name);
+        return tell_uncounted(err, name);
     }
     tell_holds(err, name, ask, found.orders)
 }

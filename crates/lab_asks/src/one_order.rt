@@ -49,8 +49,8 @@ fn tell_order_against<E: Stream>(err: &mut E, name: &str, order: &[u16]) -> io::
     Ok(AGAINST)
 }
 
-/// Tells that no order is, where it is asked what only all orders tell, and answers the status.
-pub(crate) fn tell_unasked<E: Stream>(err: &mut E, name: &str) -> io::Result<u8>
+// Tells that no order is, where it is asked what only all orders tell, and answers the status.
+fn tell_unasked<E: Stream>(err: &mut E, name: &str) -> io::Result<u8>
     ensures status { IfOk result (λ status. status ≡ 5) }
     ensures line { OnOk result (Appends (E.contents err.old) (E.contents err.new) (unasked_text name.now)) }
     ensures early { IfErr result (EndsEarly false false (E.has_failed err.new)) }
