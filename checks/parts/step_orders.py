@@ -2,7 +2,7 @@
 
 Words are plain numbers here, written again by the pages CALLERS_TEXT and STEP_ORDERS: a stax's word has how many hold it in its
 low half, bit 30 for the stage of the last ones in and bit 31 for the mark; a mutex's has one more than its owner's number.
-Nobody claims in a text, so no mark is ever set."""
+Nobody claims in a text, so no mark is ever set; and nobody waits, so the kernel refuses each `finish`, in a visit."""
 import collections
 import re
 import subprocess
@@ -17,7 +17,7 @@ PART = re.compile(r"(.+?) in (\d+) orders?(?:, |$)")
 
 
 class Text:
-    """Callers on their stages, with their calls: kind, number and name."""
+    """Callers on their stages, with their calls: word, key, number and name; or of a `finish` its `keep`, and how it takes the core."""
 
     def __init__(self, staxes, mutexes, callers):
         self.staxes, self.mutexes, self.callers = staxes, mutexes, callers
@@ -32,14 +32,18 @@ class Text:
         for who, (stage, calls) in enumerate(self.callers):
             for do, key, number, name in calls:
                 lines.append(f'[[step]]\ndo = "{do}"\nwho = {who}')
-                lines.append(f'pass = "{name}"' if key == "pass" else f'{key} = {number}\nas = "{name}"')
+                if key == "keep":
+                    lines += [f"keep = {number}".lower()] + [f"lasts = {name}".lower()] * (name is not None)
+                else:
+                    lines.append(f'pass = "{name}"' if key == "pass" else f'{key} = {number}\nas = "{name}"')
         return "\n".join(lines) + "\n"
 
     def first(self):
-        """The state before any step: words, who holds each, where each caller stands, how many of its calls are over, its answers."""
+        """The state before any step: words, who holds each, where each caller stands, how many of its calls are over, its answers, and
+        who has the core."""
         none = (False,) * len(self.callers)
         words = tuple((0, none) for _ in self.staxes), tuple((0, none) for _ in range(self.mutexes))
-        return words + ((None,) * len(self.callers), (0,) * len(self.callers), ((),) * len(self.callers))
+        return words + ((None,) * len(self.callers), (0,) * len(self.callers), ((),) * len(self.callers), None)
 
     def refusal(self, stax, word, stage):
         """Why a word of a stax lets nobody of this stage in, if it doesn't."""
@@ -69,30 +73,51 @@ class Text:
             return "refused", word, held, None, "Deadlock" if stage == "oob" else "WrongStage"
         return ("try", word, held, None, "Busy") if word else ("try", who + 1, True, None, "pass")
 
+    def at_word(self, who, call, words, place):
+        """A turn at a stax or mutex: the step, the words behind it, and the place or the answer."""
+        if call[2] >= len(words):
+            return "refused", words, None, "Unknown"
+        word, held = words[call[2]]
+        if call[0].endswith("stax"):
+            step, word, holds, place, answer = self.at_stax(who, self.callers[who][0], call, place, word, held[who])
+        else:
+            step, word, holds, place, answer = self.at_mutex(who, self.callers[who][0], call, word, held[who])
+        return step, changed(words, call[2], (word, changed(held, who, holds))), place, answer
+
+    def at_core(self, who, call, core, holds):
+        """One of a `finish`: the step, who has the core then, and the answer; none where another has the core, for which it waits."""
+        _, _, keep, lasts = call
+        if core == who:
+            return "give", None, "Invalid"
+        if keep != holds:
+            return "refused", core, "Invalid"
+        if core is not None:
+            return ("refused", core, "CoreBusy") if lasts is False else None
+        return ("refused", core, "Invalid") if lasts is None else ("take", who, None)
+
     def turn(self, state, who):
-        """A caller's next turn, and the state behind it; none where its calls are over."""
-        staxes, mutexes, places, made, answers = state
-        stage, calls = self.callers[who]
+        """A caller's next turn, and the state behind it; none where its calls are over, or it waits for the core."""
+        staxes, mutexes, places, made, answers, core = state
+        calls, place = self.callers[who][1], None
         if made[who] == len(calls):
             return None
         call = calls[made[who]]
-        of_stax = call[0].endswith("stax")
-        words, number = staxes if of_stax else mutexes, call[2]
-        if number >= len(words):
-            step, place, answer = "refused", None, "Unknown"
+        if call[0] == "finish":
+            turn = self.at_core(who, call, core, any(held[who] for _, held in staxes + mutexes))
+            if turn is None:
+                return None
+            step, core, answer = turn
+        elif call[0].endswith("stax"):
+            step, staxes, place, answer = self.at_word(who, call, staxes, places[who])
         else:
-            word, held = words[number]
-            args = (who, stage, call) + ((places[who],) if of_stax else ()) + (word, held[who])
-            step, word, holds, place, answer = (self.at_stax if of_stax else self.at_mutex)(*args)
-            words = changed(words, number, (word, changed(held, who, holds)))
-        staxes, mutexes = (words, mutexes) if of_stax else (staxes, words)
+            step, mutexes, place, answer = self.at_word(who, call, mutexes, None)
         if answer is not None:
             made, answers = changed(made, who, made[who] + 1), changed(answers, who, answers[who] + (answer,))
-        return step, (staxes, mutexes, changed(places, who, place), made, answers)
+        return step, (staxes, mutexes, changed(places, who, place), made, answers, core)
 
     def told(self, state):
         """What is reported of a state at the end."""
-        staxes, mutexes, _, _, answers = state
+        staxes, mutexes, _, _, answers, _ = state
         lines = ["# T%d -> %s" % (who, " -> ".join(said)) for who, said in enumerate(answers) if said]
         for number, (word, _) in enumerate(staxes):
             lines.append(f"# stax {number}: {'oob' if word & OOB else 'inband'}, held by {word & HOLDERS}")
@@ -139,6 +164,9 @@ def random_text(dice):
     for _ in range(dice.choice([2, 2, 3])):
         calls, names = [], {}
         while len(calls) < dice.choice([2, 3, 4]):
+            if dice.random() < 0.2:
+                calls.append(("finish", "keep", dice.random() < 0.3, dice.choice([None, True, False])))
+                continue
             if names and dice.random() < 0.5:
                 name = dice.choice(sorted(names))
                 calls.append(("unlock_stax" if names[name][0] == "stax" else "unlock_mutex_fast", "pass", names[name][1], name))
