@@ -128,11 +128,14 @@ unfoldable pub no_caller_text : List ℕ → List ℕ
 no_caller_text name = codes "never: \"" ++ (name ++ codes "\": a thread that has a [[step]] and one answer are wanted, as \"T1 -> timed out\"")
 
 -- a near answer is named
-abbrev pub near_answer_text : List ℕ → List ℕ
-near_answer_text answer = hint_text answer plain_answers ++ hint_text answer refusal_answers
+abbrev pub near_step_text : Bool → List ℕ → List ℕ
+near_step_text is_of_steps answer = if is_of_steps then hint_text answer step_answers else []
 
-unfoldable pub no_answer_text : List ℕ → List ℕ
-no_answer_text answer = codes "never: no call is answered \"" ++ (answer ++ (codes "\"" ++ near_answer_text answer))
+abbrev pub near_answer_text : Bool → List ℕ → List ℕ
+near_answer_text is_of_steps answer = (hint_text answer plain_answers ++ hint_text answer refusal_answers) ++ near_step_text is_of_steps answer
+
+unfoldable pub no_answer_text : Bool → List ℕ → List ℕ
+no_answer_text is_of_steps answer = codes "never: no call is answered \"" ++ (answer ++ (codes "\"" ++ near_answer_text is_of_steps answer))
 
 -- some call is answered so, or, where steps of callers are gone through, some step
 abbrev pub is_answer_of : Bool → List ℕ → Bool
@@ -142,7 +145,7 @@ is_answer_of is_of_steps answer = is_answer answer || (is_of_steps && is_among s
 abbrev pub answer_faults : List ℕ → Bool → Token → List ℕ → Option (List ℕ) → List Told
 answer_faults text is_of_steps piece name None = told_at text Board piece.from (no_caller_text name) ∷ []
 answer_faults text is_of_steps piece name (Some answer) =
-    if is_answer_of is_of_steps answer then [] else told_at text Board piece.from (no_answer_text answer) ∷ []
+    if is_answer_of is_of_steps answer then [] else told_at text Board piece.from (no_answer_text is_of_steps answer) ∷ []
 
 -- a text in a list
 abbrev pub is_listed : ℕ × ℕ → Token → Bool

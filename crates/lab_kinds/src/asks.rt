@@ -191,22 +191,34 @@ fn no_caller_words(alloc: Global, name: &str) -> Result<String, AllocError>
     )
 }
 
+// What is said of a near answer of steps, where these are gone through.
+fn near_step(alloc: Global, is_of_steps: bool, answer: &str) -> Result<String, AllocError>
+    ensures { IfOk result (λ hint. string_bytes hint ≡ orders.near_step_text is_of_steps answer.now) }
+{
+    if is_of_steps {
+        return near_text(alloc, answer, step_answers());
+    }
+    Ok(String::new(alloc))
+}
+
 // What is said of a near answer.
-fn near_answer(alloc: Global, answer: &str) -> Result<String, AllocError>
-    ensures { IfOk result (λ hint. string_bytes hint ≡ orders.near_answer_text answer.now) }
+fn near_answer(alloc: Global, is_of_steps: bool, answer: &str) -> Result<String, AllocError>
+    ensures { IfOk result (λ hint. string_bytes hint ≡ orders.near_answer_text is_of_steps answer.now) }
 {
     let mut hint = near_text(alloc, answer, plain_answers())?;
     let refusal = near_text(alloc, answer, refusal_answers())?;
     hint.push_str(refusal.as_str())?;
+    let step = near_step(alloc, is_of_steps, answer)?;
+    hint.push_str(step.as_str())?;
     Ok(hint)
 }
 
 // What is said of an answer that no call has.
 #[tactic(auto, unfolding(crate::specs::Orders::no_answer_text))]
-fn no_answer_words(alloc: Global, answer: &str) -> Result<String, AllocError>
-    ensures { IfOk result (λ words. string_bytes words ≡ no_answer_text answer.now) }
+fn no_answer_words(alloc: Global, is_of_steps: bool, answer: &str) -> Result<String, AllocError>
+    ensures { IfOk result (λ words. string_bytes words ≡ no_answer_text is_of_steps answer.now) }
 {
-    let hint = near_answer(alloc, answer)?;
+    let hint = near_answer(alloc, is_of_steps, answer)?;
     format!(in alloc; "never: no call is answered \"{answer}\"{hint}")
 }
 
@@ -230,7 +242,7 @@ fn check_answer(
             if is_answer_of(is_of_steps, answer) {
                 return Ok(());
             }
-            let words = no_answer_words(alloc, answer)?;
+            let words = no_answer_words(alloc, is_of_steps, answer)?;
             finding.note(Fault::Board, piece.from, words)
         }
     }
