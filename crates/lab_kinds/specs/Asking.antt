@@ -90,7 +90,7 @@ impossible_words never (Some word) =
     codes "[ask]: " ++ (string_bytes never.who ++ (codes " is never answered \"" ++ (string_bytes never.answer
     ++ (codes "\"; did you mean \"" ++ (word ++ codes "\"?")))))
 
--- of facts that don't end on the line of their key
+-- of facts that are no list on the line of their key
 abbrev pub open_text : List ℕ
 open_text = codes "facts are asked on one line, as never_state = [\"T1 has the core and mutex 0 claimed\"]"
 

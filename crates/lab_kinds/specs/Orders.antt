@@ -209,7 +209,7 @@ pub record TextTells (text scenario : List ℕ) (setup : ℕ) (asked : List ℕ)
   pub refused : (fault : Fault) → scenario_of None scenario ≡ Err fault → Tells scenario fault faults
   pub read : is_ok (scenario_of None scenario) ≡ true → AskedTells text scenario setup asked faults
 
--- facts of moments that don't end on their line, or else what is asked beside them
+-- facts of moments that are no list on their line, or else what is asked beside them
 abbrev pub QuestionsTell : List ℕ → List ℕ → ℕ → List ℕ → Option ℕ → List Told → Type 0
 QuestionsTell text scenario setup own (Some line) faults = faults ≡ told_on (Some line) open_text ∷ []
 QuestionsTell text scenario setup own None faults = AskedTells text scenario setup own faults

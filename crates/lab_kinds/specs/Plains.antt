@@ -6,7 +6,8 @@ use Rattle.std.specs.Str.{bytes_eq, trim}
 use Rattle.std.specs.Str.Lines.{lines}
 use Rattle.evl_scenario.specs.Lines.{line_feed}
 use Rattle.evl_scenario.specs.Values.{past_front}
-use Rattle.lab_scenario_orders.specs.KeyLines.{key_set}
+use Rattle.lab_scenario_orders.specs.Asks.{begins}
+use Rattle.lab_scenario_orders.specs.KeyLines.{around_equals, key_set}
 use Rattle.lab_scenario_orders.specs.Splits.{as_step, bare, is_asked, is_head, is_table}
 
 -- to what a line sets a key, if it does
@@ -51,9 +52,13 @@ is_question_key key = (bytes_eq key (codes "never_state") || bytes_eq key (codes
 abbrev pub is_question : List ℕ → Bool
 is_question line = option_map_or is_question_key (key_set line) false
 
--- the facts of a question don't end on its line
+-- a list of texts begins and ends here, with a bracket and a quote
+abbrev pub is_closed : List ℕ → Bool
+is_closed value = begins (codes "[\"") value && ends_with nat_eq value (codes "\"]")
+
+-- the facts of a question aren't such a list on its line
 abbrev pub is_open : List ℕ → Bool
-is_open line = is_question line && not (ends_with nat_eq (bare line) (codes "]"))
+is_open line = option_map_or (λ parts. is_question_key (trim parts.0) && not (is_closed (trim parts.1))) (around_equals (bare line)) false
 
 -- the number of the first such line, where these are numbered from n
 abbrev pub open_from : ℕ → List (List ℕ) → Option ℕ

@@ -82,8 +82,8 @@ fn found_unasked(alloc: Global, text: &str, callers: &Callers) -> Result<Vec<Fou
     }
 }
 
-/// The fault of facts that don't end on the line of their key, which has this number. `AllocError` where memory couldn't
-/// grow.
+/// The fault of facts that are no list on the line of their key, which has this number. `AllocError` where memory
+/// couldn't grow.
 pub fn found_open(alloc: Global, line: usize) -> Result<Vec<Found>, AllocError>
     ensures { IfOk result (λ found. map fault_told found.items ≡ told_on (Some line) open_text ∷ []) }
 {

@@ -168,7 +168,8 @@ fn found_around(
     Ok(found)
 }
 
-// The fault of facts of moments that don't end on this line, where there are some, or else of what is asked beside them.
+// The fault of facts of moments that are no list on this line, where there are some, or else of what is asked beside
+// them.
 fn found_at_open(
     alloc: Global,
     text: &[u8],

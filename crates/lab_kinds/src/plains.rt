@@ -159,11 +159,21 @@ fn is_question(line: &str) -> bool
     }
 }
 
-// Whether the facts of a question don't end on its line.
+// Whether a list of texts begins and ends here, with a bracket and a quote.
+fn is_closed(value: &str) -> bool
+    ensures { result ≡ plains.is_closed value.now }
+{
+    begins(b"[\"", value.as_bytes()) && value.as_bytes().ends_with(b"\"]")
+}
+
+// Whether the facts of a question aren't such a list on its line.
 fn is_open(line: &str) -> bool
     ensures { result ≡ plains.is_open line.now }
 {
-    is_question(line) && !bare(line).as_bytes().ends_with(b"]")
+    match around_equals(bare(line)) {
+        Some((key, value)) => is_question_key(key.trim()) && !is_closed(value.trim()),
+        None => false,
+    }
 }
 
 // The number of the first such line, from 1.
@@ -178,7 +188,7 @@ fn open_line(lines: &[&str]) -> Option<usize>
     None
 }
 
-/// The number, from 1, of the first line of what is asked that asks of moments and doesn't end there. `AllocError` where
+/// The number, from 1, of the first line of what is asked that asks of moments by no list on that line. `AllocError` where
 /// memory couldn't grow.
 pub fn open_question(alloc: Global, asked: &str) -> Result<Option<usize>, AllocError>
     ensures { IfOk result (λ line. line ≡ plains.open_question asked.now) }
