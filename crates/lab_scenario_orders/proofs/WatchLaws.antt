@@ -1,11 +1,12 @@
 -- What is noted of a moment, and texts with `and` between them.
-use Rattle.std.proofs.Common.{Bor, append_assoc, ◌≡◌, ℕ, zero, suc, Bool, false, List, [], ◌∷◌, ◌++◌, map, refl, sym, ◌∙◌, ap}
+use Rattle.std.proofs.Common.{All, Bor, append_assoc, ◌≡◌, ℕ, zero, suc, Bool, false, List, [], ◌∷◌, ◌++◌, map, refl, sym, ◌∙◌, ap}
 use Rattle.std.specs.Prelude.{codes, slice_get, unwrap_or}
 use Rattle.std.proofs.lemmas.List.{map-append}
+use Rattle.std.proofs.lemmas.List.Elements.{All-push, All-same}
 use Rattle.evl_kernel.specs.state.States.{State, Handler}
 use Rattle.evl_kernel.specs.histories.Replays.{Outcome}
 use Rattle.lab_scenario_orders.specs.Callers.{Seen, after}
-use Rattle.lab_scenario_orders.specs.Claims.{joined}
+use Rattle.lab_scenario_orders.specs.Claims.{IsSingle, joined}
 use Rattle.lab_scenario_orders.specs.Moments.{IsMoment, IsNoted, held_in, seen_at}
 use Rattle.lab_scenario_orders.specs.Watches.{is_noted, is_noted_at}
 use Rattle.lab_scenario_orders.specs.declared.callers.Callers.{Callers}
@@ -46,3 +47,11 @@ parts_more done all one rest behind text more is whole =
     ∙ (ap joined (append_assoc (map (λ part. part.now) done) (one.now ∷ []) (behind ∷ []))
     ∙ (joined_more (map (λ part. part.now) done) one.now behind
     ∙ (ap (λ (x : List ℕ). joined (map (λ part. part.now) done ++ x ∷ [])) (sym is) ∙ whole))))
+
+-- each of them is single
+pub parted_more : (done all : List (Bor (List ℕ))) (one : Bor (List ℕ)) → all ≡ done ++ one ∷ [] → IsSingle one.now
+    → All IsSingle (map (λ part. part.now) done) → All IsSingle (map (λ part. part.now) all)
+parted_more done all one more none before =
+    All-same IsSingle (map (λ part. part.now) all) (map (λ part. part.now) done ++ one.now ∷ [])
+    (ap (λ (xs : List (Bor (List ℕ))). map (λ part. part.now) xs) more ∙ map-append (λ (part : Bor (List ℕ)). part.now) done (one ∷ []))
+    (All-push IsSingle (map (λ part. part.now) done) one.now before none)

@@ -8,7 +8,7 @@ use Rattle.evl_base.specs.declared.board.Board.{Board}
 use Rattle.evl_scenario.specs.Tables.{all_given, has_only, value_or}
 use Rattle.evl_scenario.specs.Values.{truth_from}
 use Rattle.lab_scenario_orders.specs.Asks.{ask_keys, ask_table, is_caller_text, number_given}
-use Rattle.lab_scenario_orders.specs.Claims.{Claims, first_lacked, near_word}
+use Rattle.lab_scenario_orders.specs.Claims.{Claims, IsUnread, first_lacked, near_word}
 use Rattle.lab_scenario_orders.specs.Splits.{ask_part}
 use Rattle.lab_scenario_orders.specs.WatchTexts.{texts_in, when_key}
 use Rattle.lab_scenario_orders.specs.declared.asks.AskFault.{AskFault}
@@ -47,7 +47,7 @@ IsNoAnswer callers text = (before behind : List ℕ) → IsAroundArrow text befo
 
 -- of a text that isn't facts: this word may be meant in it; of one that is: this part is the first that it names and the board lacks
 abbrev pub IsNoFacts : Board → FactFault → List ℕ → Type 0
-IsNoFacts board (facts.Unread word) text = option_map (λ w. w.now) word ≡ near_word text
+IsNoFacts board (facts.Unread word) text = IsUnread text × (option_map (λ w. w.now) word ≡ near_word text)
 IsNoFacts board (facts.Lacking part) text = (claims : List Claim) × Claims text claims × (first_lacked board claims ≡ Some part)
 
 -- ---- why a table can't be asked

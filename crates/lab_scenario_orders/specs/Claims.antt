@@ -1,7 +1,8 @@
 -- Facts with `and` between them.
-use Rattle.std.specs.Prelude.{ℕ, ◌≡◌, ◌++◌, ◌==◌, Bool, ◌&&◌, not, nat_le, List, [], ◌∷◌, codes, find, map, Option, Some, None}
+use Rattle.std.specs.Prelude.{ℕ, ◌≡◌, ◌++◌, ◌==◌, Bool, true, ◌&&◌, not, nat_le, All, List, [], ◌∷◌, codes, find, is_none, map, Option, Some, None}
 use Rattle.std.specs.List.{list_any, slice_split}
 use Rattle.std.specs.Str.{bytes_eq}
+use Rattle.std.specs.Str.Iter.{HasSubslice}
 use Rattle.evl_base.specs.declared.board.Board.{Board}
 use Rattle.lab_scenario_orders.specs.Answers.{edits}
 use Rattle.lab_scenario_orders.specs.FactTexts.{claim_in}
@@ -20,6 +21,21 @@ pub record Claims (text : List ℕ) (claims : List Claim) : Type 0 where
   pub texts : List (List ℕ)
   pub written : text ≡ joined texts
   pub each : map claim_in texts ≡ map (λ claim. Some claim) claims
+
+-- no `and` stands in a text
+abbrev pub IsSingle : List ℕ → Type 0
+IsSingle text = HasSubslice text (codes " and ") → ⊥
+
+-- one of these texts isn't a fact
+abbrev pub has_strange : List (List ℕ) → Bool
+has_strange texts = list_any (λ text. is_none (claim_in text)) texts
+
+-- a text isn't facts: parted at its `and`s, one of its texts is none
+pub record IsUnread (text : List ℕ) : Type 0 where
+  pub texts : List (List ℕ)
+  pub written : text ≡ joined texts
+  pub parted : All IsSingle texts
+  pub strange : has_strange texts ≡ true
 
 -- the first of what claims name that a board lacks
 abbrev pub first_lacked_of : Option Part → Option Part → Option Part

@@ -1,8 +1,8 @@
 //! Texts of facts with `and` between them.
-ghost use Rattle.std.specs.Prelude.{◌≡◌, ◌++◌, IfOk, IfSome, None, Some, codes, find, map, option_map};
+ghost use Rattle.std.specs.Prelude.{◌≡◌, ◌++◌, All, IfNone, IfOk, IfSome, None, Some, codes, find, map, option_map, true};
 ghost use Rattle.std.specs.List.{list_any};
 ghost use Rattle.std.specs.Str.{bytes_eq};
-ghost use Rattle.lab_scenario_orders.specs.Claims.{Claims, fact_words, first_lacked, is_mistaken, is_word_for, joined, near_word, words_of};
+ghost use Rattle.lab_scenario_orders.specs.Claims.{Claims, IsSingle, IsUnread, fact_words, first_lacked, has_strange, is_mistaken, is_word_for, joined, near_word, words_of};
 ghost use Rattle.lab_scenario_orders.specs.FactTexts.{claim_in};
 
 use crate::fact_texts::claim_in;
@@ -14,7 +14,9 @@ use strsim::levenshtein;
 
 // What stands before the first `and` in a text, and behind it.
 fn around_and(text: &str) -> Option<(&str, &str)>
-    ensures { IfSome result (λ parts. text.now ≡ parts.0.now ++ (codes " and " ++ parts.1.now)) }
+    ensures written { IfSome result (λ parts. text.now ≡ parts.0.now ++ (codes " and " ++ parts.1.now)) }
+    ensures first { IfSome result (λ parts. IsSingle parts.0.now) }
+    ensures none { IfNone result (IsSingle text.now) }
 {
     match text.split_once(" and ") {
         Some(parts) => Some(parts),
@@ -24,7 +26,8 @@ fn around_and(text: &str) -> Option<(&str, &str)>
 
 // The texts between which `and` stands.
 fn texts_of(alloc: Global, text: &str) -> Result<Vec<&str>, AllocError>
-    ensures { IfOk result (λ texts. joined (map (λ one. one.now) texts.items) ≡ text.now) }
+    ensures written { IfOk result (λ texts. joined (map (λ one. one.now) texts.items) ≡ text.now) }
+    ensures parted { IfOk result (λ texts. All IsSingle (map (λ one. one.now) texts.items)) }
 {
     let mut texts = Vec::new(alloc);
     let mut rest = text;
@@ -38,7 +41,8 @@ fn texts_of(alloc: Global, text: &str) -> Result<Vec<&str>, AllocError>
 
 // What each of these texts claims; none where one isn't a fact.
 fn claims_of(alloc: Global, texts: &[&str]) -> Result<Option<Vec<Claim>>, AllocError>
-    ensures { IfOk result (λ all. IfSome all (λ claims. map claim_in (map (λ one. one.now) texts.now) ≡ map (λ claim. Some claim) claims.items)) }
+    ensures each { IfOk result (λ all. IfSome all (λ claims. map claim_in (map (λ one. one.now) texts.now) ≡ map (λ claim. Some claim) claims.items)) }
+    ensures strange { IfOk result (λ all. IfNone all (has_strange (map (λ one. one.now) texts.now) ≡ true)) }
 {
     let mut claims = Vec::new(alloc);
     for text in texts {
@@ -52,7 +56,8 @@ fn claims_of(alloc: Global, texts: &[&str]) -> Result<Option<Vec<Claim>>, AllocE
 
 /// What a text claims; none where it isn't facts with `and` between them. `AllocError` where memory couldn't grow.
 pub(crate) fn claims_in(alloc: Global, text: &str) -> Result<Option<Vec<Claim>>, AllocError>
-    ensures { IfOk result (λ all. IfSome all (λ claims. Claims text.now claims.items)) }
+    ensures claims { IfOk result (λ all. IfSome all (λ claims. Claims text.now claims.items)) }
+    ensures unread { IfOk result (λ all. IfNone all (IsUnread text.now)) }
 {
     let texts = texts_of(alloc, text)?;
     claims_of(alloc, texts.as_slice())

@@ -3,7 +3,7 @@ ghost use Rattle.std.specs.Prelude.{◌≡◌, ◌++◌, IfErr, IfOk, List, None
 ghost use Rattle.evl_scenario.specs.Tables.{all_given};
 ghost use Rattle.evl_base.specs.declared.board.Board.{Board};
 ghost use Rattle.lab_scenario_orders.specs.AskFaults.{IsBadList, IsBadValue, IsWhy, key_of};
-ghost use Rattle.lab_scenario_orders.specs.Claims.{Claims, first_lacked};
+ghost use Rattle.lab_scenario_orders.specs.Claims.{Claims, IsUnread, first_lacked};
 ghost use Rattle.lab_scenario_orders.specs.declared.callers.Caller.{Caller};
 ghost use Rattle.lab_scenario_orders.specs.WatchTexts.{texts_in, watch_text, watched_at, watched_in, when_key};
 ghost use Rattle.lab_scenario_orders.specs.Watches.{AreWatches, IsWatch};
@@ -43,6 +43,7 @@ fn key_of(when: When) -> AskKey
 
 // Why a text isn't facts.
 fn unread(alloc: Global, when: When, number: usize, text: &str) -> AskFault
+    requires { IsUnread text.now }
     ensures { (callers : List Caller) (board : Board) → IsBadValue callers board (key_of when) number (string text.now) result }
 {
     match near_word(alloc, text) {
