@@ -112,7 +112,8 @@ def _open(kind: Type[ctypes.CDLL]) -> ctypes.CDLL:
         library.evlsim_c_close.restype = None
         abi = library.evlsim_abi()
     except (OSError, AttributeError) as why:
-        told = "tools/library builds it, in minutes by --unproved; ./install installs it; EVLSIM_LIBRARY may name it"
+        told = "tools/library builds it, in minutes by --unproved, and prints the FOLDER: set "
+        told += "EVLSIM_LIBRARY=FOLDER/libevlsim.so.0; ./install installs it"
         raise ImportError(f"{why} ({told})") from None
     if abi != ABI:
         raise ImportError(f"{name} has the ABI number {abi}, and this module wants {ABI}: install both of one version")
