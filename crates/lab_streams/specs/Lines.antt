@@ -1,5 +1,5 @@
 -- What `lab convert` prints, and the faults of a text of lines.
-use Rattle.std.specs.Prelude.{◌≡◌, ◌⊎◌, ℕ, List, ◌++◌, codes, decimal, string_bytes, Bool, true, false, not, Option, Some, None, IsSomeAnd, Ok}
+use Rattle.std.specs.Prelude.{◌≡◌, ◌⊎◌, ℕ, List, ◌++◌, codes, decimal, string_bytes, Bool, true, false, not, nat_lt, MatchBool, Option, Some, None, IsSomeAnd, Ok}
 use Rattle.evl_scenario.specs.Lines.{line_feed}
 use Rattle.evl_scenario.specs.Scenarios.{Script, scenario_of}
 use Rattle.evl_scenario.specs.declared.writing.Unwritten.TheVariants as unwritten
@@ -60,12 +60,20 @@ Converts as_lines name text output =
     ⊎ ((e : Unlined) × IsUnlined (scenario_of None text) e
     × IsSomeAnd (unlined_words (kind_of text) e) (λ words. output ≡ refuses 2 (line_about name words)))
 
+-- of lines in which a step is set up neither form tells that: they are for `lab orders`
+abbrev pub set_up_words : List ℕ
+set_up_words = codes "has a line with setup: a text for lab orders"
+
+abbrev pub ConvertsMeant : Bool → List ℕ → Meant → Output → Type 0
+ConvertsMeant as_lines name meant output =
+    MatchBool (nat_lt 0 meant.setup) (output ≡ refuses 2 (line_about name set_up_words)) (Converts as_lines name (string_bytes meant.scenario) output)
+
 -- A text of lines is printed as a scenario, unless lines are asked for, and the scenario in any other text as lines, unless a
 -- scenario is. What they expect is left out.
 abbrev pub ConvertsText : Converting → List ℕ → List ℕ → Output → Type 0
 ConvertsText asked name text output =
     ((is_lines text ≡ false) × Converts (not asked.toml) name (unexpecting text) output)
-    ⊎ (((meant : Meant) × IsRead text meant × Converts asked.lines name (string_bytes meant.scenario) output)
+    ⊎ (((meant : Meant) × IsRead text meant × ConvertsMeant asked.lines name meant output)
     ⊎ ((said : List ℕ) × SaysUnread name text said × (output ≡ refuses 2 said)))
 
 -- of a file, by what was read of it

@@ -5,7 +5,7 @@ ghost use Rattle.evl_scenario.specs.Scenarios.{Script, scenario_of};
 ghost use Rattle.lab_lines.specs.Kinds.{is_lines};
 ghost use Rattle.lab_lines.specs.Writings.{IsUnlined};
 ghost use Rattle.lab_streams.specs.Endings.{line_about};
-ghost use Rattle.lab_streams.specs.Lines.{Converts, ConvertsRead, ConvertsText, IsForm, place_line, place_text, unlined_words};
+ghost use Rattle.lab_streams.specs.Lines.{Converts, ConvertsMeant, ConvertsRead, ConvertsText, IsForm, place_line, place_text, set_up_words, unlined_words};
 ghost use Rattle.lab_streams.specs.Outputs.{Writes, WritesOfText};
 ghost use Rattle.lab_streams.specs.Streams.{EndsEarly};
 
@@ -17,7 +17,7 @@ use crate::words::Converting;
 use evl_scenario::Unwritten;
 use lab_kinds::{TextKind, kind_of};
 use lab_lines::{
-    LinesFault, Unlined, is_lines, read_lines, unexpecting, write_lines, write_tables,
+    LinesFault, Meant, Unlined, is_lines, read_lines, unexpecting, write_lines, write_tables,
 };
 use std::alloc::{AllocError, Global};
 use std::io::{self, Read};
@@ -122,6 +122,29 @@ fn convert_scenario<O: Stream, E: Stream>(
     }
 }
 
+// Prints the scenario of a text of lines in a form, and answers the status. Where steps are set up it is refused, since
+// no form would tell that.
+fn convert_meant<O: Stream, E: Stream>(
+    alloc: Global,
+    as_lines: bool,
+    name: &str,
+    meant: &Meant,
+    out: &mut O,
+    err: &mut E,
+) -> io::Result<u8>
+    ensures writes { IfOk result (Writes (ConvertsMeant as_lines name.now meant.now) (O.contents out.old) (O.contents out.new) (E.contents err.old) (E.contents err.new)) }
+    ensures early { IfErr result (EndsEarly false (O.has_failed out.new) (E.has_failed err.new)) }
+{
+    if meant.setup > 0 {
+        return refused(tell_refused(
+            err,
+            name,
+            "has a line with setup: a text for lab orders",
+        ));
+    }
+    convert_scenario(alloc, as_lines, name, meant.scenario.as_bytes(), out, err)
+}
+
 // Prints a text of lines in a form, and answers the status.
 fn convert_lines<O: Stream, E: Stream>(
     alloc: Global,
@@ -136,10 +159,7 @@ fn convert_lines<O: Stream, E: Stream>(
     ensures early { IfErr result (EndsEarly false (O.has_failed out.new) (E.has_failed err.new)) }
 {
     match read_lines(alloc, text) {
-        Ok(meant) => {
-            let scenario = meant.scenario.as_bytes();
-            convert_scenario(alloc, asked.lines, name, scenario, out, err)
-        }
+        Ok(meant) => convert_meant(alloc, asked.lines, name, &meant, out, err),
         Err(fault) => refused(tell_place(err, name, &fault)),
     }
 }

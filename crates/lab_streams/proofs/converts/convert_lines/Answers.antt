@@ -6,8 +6,7 @@ use Rattle.lab_streams.proofs.converts.convert_lines.Goals as goal
 
 pub returns-in-Ok-clause-writes : goal.returns-in-Ok-clause-writes
 returns-in-Ok-clause-writes g c =
-    lines_converted _ c.args.asked c.args.name.now c.args.text.now c.in-Ok.meant c.as_bytes-scenario.result.now _ _ _ _ c.convert_scenario.result c.requires c.in-Ok.ensures.means
-    c.as_bytes-scenario.ensures.value c.convert_scenario.ensures.writes
+    lines_converted _ c.args.asked c.args.name.now c.args.text.now c.in-Ok.meant _ _ _ _ c.convert_meant.result c.requires c.in-Ok.ensures.means c.convert_meant.ensures.writes
 
 pub returns-in-Err-clause-writes : goal.returns-in-Err-clause-writes
 returns-in-Err-clause-writes g c =
