@@ -88,5 +88,5 @@ AsksAs (Err refusal) told status = status ≡ 11
 -- A caller was there, and is: it took the kernel, which told this, and gave it back, or found it taken.
 abbrev pub Asks : ℕ → QuestionForm → Option HostState → Option HostState → ReadingForm → Type 0
 Asks status question (Some old) (Some new) told =
-    (r : Result ReadingForm Refusal) × Steps (λ a b. Looks (λ kernel. reading_of kernel question) r a b) old.staxes old.mutexes old new × AsksAs r told status
+    (r : Result ReadingForm Refusal) × Steps (λ a b. Looks old.machine (λ kernel. reading_of kernel question) r a b) old.staxes old.mutexes old new × AsksAs r told status
 Asks status question _ _ told = ⊥

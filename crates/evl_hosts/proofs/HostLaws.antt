@@ -1,9 +1,11 @@
--- What is told of a trace, and the callers of a machine that are set apart one after the other.
-use Rattle.std.proofs.Common.{◌≡◌, ◌⊎◌, inl, inr, ℕ, List, [], ◌∷◌, ◌++◌, map, All, IfOk, IfErr, Result, Ok, Err, String, Global, string_bytes, ap, sym, ◌∙◌, refl, append_assoc}
+-- What is told of a trace, the kernel that is given back, and the callers of a machine that are set apart one after the other.
+use Rattle.std.proofs.Common.{◌≡◌, ◌⊎◌, inl, inr, ℕ, List, [], ◌∷◌, ◌++◌, map, All, IfOk, IfErr, IsSomeAnd, Option, Some, Result, Ok, Err, String, Global, string_bytes, ap, subst, sym, ◌∙◌, refl, append_assoc}
 use Rattle.std.proofs.lemmas.List.Elements.{All-map}
 use Rattle.evl_base.specs.declared.refusal.Refusal.{Refusal}
 use Rattle.evl_base.specs.declared.refusal.Refusal.TheVariants.{NoMemory}
-use Rattle.evl_machine.specs.callers.Handles.{CallerState, MachineState, newcomer_of, newcomers_of}
+use Rattle.evl_core.specs.worlds.Events.{Gives}
+use Rattle.evl_machine.specs.calls.Calls.{TookKernel}
+use Rattle.evl_machine.specs.callers.Handles.{CallerState, HeldState, MachineState, newcomer_of, newcomers_of}
 use Rattle.evl_plans.specs.declared.planned.Planned.{Planned}
 use Rattle.evl_hosts.specs.Hosts.{bytes_of}
 use Rattle.std.specs.List.{range_with_len}
@@ -23,3 +25,10 @@ made_more {A} {B} f done new b x had rest all cut is made whole =
 -- each caller of a new machine is of that machine
 pub all_belong : (m : MachineState Planned) (n : ℕ) → All (λ c. c.machine ≡ m) (newcomers_of m n)
 all_belong m n = All-map (λ (c : CallerState Planned). c.machine ≡ m) (newcomer_of m) (range_with_len 0 n) (λ k d below. refl)
+
+-- the kernel is given back to the machine that it was taken from, which is that of a host's caller
+pub given_back : (m : MachineState Planned) (had : Option (CallerState Planned)) (a : CallerState Planned) (h : HeldState Planned) (b : CallerState Planned) → had ≡ Some a
+    → IsSomeAnd had (λ c. c.machine ≡ m) → TookKernel a h → Gives h.caller.machine.first h.caller.account h.kernel b.account → Gives m.first h.caller.account h.kernel b.account
+given_back m had a h b is there took gives =
+    let of_host : a.machine ≡ m = subst (λ (o : Option (CallerState Planned)). IsSomeAnd o (λ c. c.machine ≡ m)) is there in
+    subst (λ (n : MachineState Planned). Gives n.first h.caller.account h.kernel b.account) (ap (λ (c : CallerState Planned). c.machine) took.caller ∙ of_host) gives

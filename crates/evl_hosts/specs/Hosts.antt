@@ -9,6 +9,7 @@ use Rattle.evl_base.specs.declared.reply.Reply.{Reply}
 use Rattle.std.specs.declared.alloc.Global.{Global}
 use Rattle.evl_base.specs.declared.board.Board.{Board}
 use Rattle.evl_kernel.specs.state.KernelViews.{IsOpened, KernelView}
+use Rattle.evl_core.specs.worlds.Events.{FailsToTake, Gives, Takes}
 use Rattle.evl_machine.specs.callers.Handles.{CallerState, HeldState, MachineState, newcomers_of, returned, turned_away}
 use Rattle.evl_machine.specs.calls.Calls.{Called, TookKernel, stage_of_caller}
 use Rattle.evl_machine.specs.declared.locking.Begun.{Begun}
@@ -104,17 +105,23 @@ abbrev pub bytes_of : Result (String Global) Refusal → Result (List ℕ) Refus
 bytes_of (Ok text) = Ok (string_bytes text)
 bytes_of (Err refusal) = Err refusal
 
--- The caller takes the kernel and gives it back, and its trace is told, or there is no memory for it. Or another has the kernel.
+-- the caller finds that another has the kernel, and has lost a take more
+abbrev pub FindsTaken : {T : Type 0} → MachineState Planned → Result T Refusal → CallerState Planned → CallerState Planned → Type 0
+FindsTaken machine r a b = (r ≡ Err CoreBusy) × (b ≡ turned_away a) × FailsToTake machine.first a.account b.account
+
+-- the caller takes the kernel and gives it back as it is
+abbrev pub TakesAndGives : MachineState Planned → KernelView Planned → CallerState Planned → CallerState Planned → Type 0
+TakesAndGives machine k a b =
+    (h : HeldState Planned) × (h.kernel ≡ k) × TookKernel a h × Takes machine.first a.account h.caller.account × (b ≡ returned k.history h.caller) × Gives machine.first h.caller.account k b.account
+
+-- The trace of the kernel that the caller takes is told, or there is no memory for it. Or another has the kernel.
 abbrev pub TellsTrace : MachineState Planned → Result (List ℕ) Refusal → CallerState Planned → CallerState Planned → Type 0
 TellsTrace machine r a b =
-    ((r ≡ Err CoreBusy) × (b ≡ turned_away a))
-    ⊎ ((h : HeldState Planned) × TookKernel a h × (b ≡ returned h.kernel.history h.caller) × ((r ≡ Ok (kernel_trace machine h.kernel)) ⊎ (r ≡ Err NoMemory)))
+    FindsTaken machine r a b ⊎ ((k : KernelView Planned) × TakesAndGives machine k a b × ((r ≡ Ok (kernel_trace machine k)) ⊎ (r ≡ Err NoMemory)))
 
--- The caller takes the kernel and gives it back, and what it tells is told. Or another has the kernel.
-abbrev pub Looks : {T : Type 0} → (KernelView Planned → T) → Result T Refusal → CallerState Planned → CallerState Planned → Type 0
-Looks told_of r a b =
-    ((r ≡ Err CoreBusy) × (b ≡ turned_away a))
-    ⊎ ((h : HeldState Planned) × TookKernel a h × (b ≡ returned h.kernel.history h.caller) × (r ≡ Ok (told_of h.kernel)))
+-- What the kernel that the caller takes tells is told. Or another has the kernel.
+abbrev pub Looks : {T : Type 0} → MachineState Planned → (KernelView Planned → T) → Result T Refusal → CallerState Planned → CallerState Planned → Type 0
+Looks machine told_of r a b = FindsTaken machine r a b ⊎ ((k : KernelView Planned) × TakesAndGives machine k a b × (r ≡ Ok (told_of k)))
 
 -- the callers of a machine that was made of these
 abbrev pub AreOpened : Board → List Planned → ℕ → List HostState → Type 0

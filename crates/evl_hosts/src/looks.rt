@@ -29,7 +29,7 @@ impl Host {
     /// What the kernel tells to a question, by one take and one give: no call is entered. `CoreBusy` where another caller
     /// has the kernel.
     pub fn look<Q: Question>(&mut self, question: &Q) -> Result<Q::Told, Refusal>
-        ensures looked { Steps (λ a b. Looks (Q.told_of question.now) result a b) self.old.staxes self.old.mutexes self.old self.new }
+        ensures looked { Steps (λ a b. Looks self.old.machine (Q.told_of question.now) result a b) self.old.staxes self.old.mutexes self.old self.new }
     {
         let Some(caller) = self.caller.take() else {
             unreachable!()

@@ -1,6 +1,6 @@
 use Rattle.std.proofs.Common.{◌≡◌, inl, inr, refl, sym, ◌∙◌}
 use Rattle.evl_hosts.specs.Hosts.{kernel_trace}
-use Rattle.evl_hosts.proofs.HostLaws.{told}
+use Rattle.evl_hosts.proofs.HostLaws.{given_back, told}
 use Rattle.evl_scenario.specs.Traces.{history_trace}
 use Rattle.std.specs.Arc.{arc_value}
 use Rattle.evl_hosts.proofs.hosts.Host.trace.Goals as goal
@@ -11,7 +11,7 @@ returns-in-Err c = rw (← c.self.view_is) (record {
     before = c.in-Some.caller;
     after = c.in-Err.caller;
     had = sym c.take.ensures.value ∙ c.in-Some.is;
-    done = inl (refl, c.in-Err.ensures.taken);
+    done = inl (refl, c.in-Err.ensures.taken, rw (← (c.machine.ensures.machine ∙ c.deref.ensures)) c.in-Err.ensures.event);
     has = refl;
   };
 })
@@ -25,7 +25,12 @@ returns c =
         before = c.in-Some.caller;
         after = c.give.result;
         had = sym c.take.ensures.value ∙ c.in-Some.is;
-        done = inr (c.in-Ok.held, c.in-Ok.ensures.taken, c.give.ensures.given, told c.trace_history-text.result _ _ same c.trace_history-text.ensures.trace c.trace_history-text.ensures.refused);
+        done = inr (c.in-Ok.held.kernel, (
+          c.in-Ok.held, refl, c.in-Ok.ensures.taken,
+          rw (← (c.machine.ensures.machine ∙ c.deref.ensures)) c.in-Ok.ensures.event,
+          c.give.ensures.given,
+          given_back (arc_value c.self.inside.shared) c.self.inside.caller c.in-Some.caller c.in-Ok.held c.give.result (sym c.take.ensures.value ∙ c.in-Some.is) c.self.invariant c.in-Ok.ensures.taken c.give.ensures.event,
+        ), told c.trace_history-text.result _ _ same c.trace_history-text.ensures.trace c.trace_history-text.ensures.refused);
         has = refl;
       };
     })
