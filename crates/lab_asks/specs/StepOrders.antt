@@ -18,7 +18,7 @@ use Rattle.lab_step_orders.specs.declared.crews.CrewCaller.{CrewCaller}
 use Rattle.lab_step_orders.specs.declared.outcomes.StepOutcomes.{StepOutcomes}
 use Rattle.lab_step_pictures.specs.Lines.{order_lines}
 use Rattle.lab_step_texts.specs.Answers.{first_impossible}
-use Rattle.lab_step_texts.specs.Asks.{IsAskOf}
+use Rattle.lab_step_texts.specs.Asks.{IsAskOf, IsUnaskedFor}
 use Rattle.lab_step_texts.specs.Crews.{IsReadAs, IsRefused}
 use Rattle.lab_step_texts.specs.Faults.{step_words, unread_words}
 use Rattle.lab_step_texts.specs.Questions.{unasked_part}
@@ -165,11 +165,11 @@ abbrev pub TellsUnpicked : ℕ → Shown → List ℕ → Crew → Ask → Bool 
 TellsUnpicked most one name crew asks whole output =
     MatchBool whole (output ≡ refuses 2 (line_about name (codes "as_picked is for orders of whole calls"))) (TellsPossible most one name crew asks (impossible_in crew asks) output)
 
--- what is asked; or it can't be read, for some fault
+-- what is asked; or why it can't be read
 abbrev pub TellsAsked : ℕ → Shown → List ℕ → Crew → List ℕ → Output → Type 0
 TellsAsked most one name crew text output =
     ((asks : Ask) × IsAskOf text crew asks × TellsUnpicked most one name crew asks (asks_whole asks) output)
-    ⊎ ((fault : AskFault) × IsPlaced (unasked_part text) fault × IsSomeAnd (ask_fault_line name fault) (λ line. output ≡ refuses 2 line))
+    ⊎ ((fault : AskFault) × IsUnaskedFor text fault × IsPlaced (unasked_part text) fault × IsSomeAnd (ask_fault_line name fault) (λ line. output ≡ refuses 2 line))
 
 -- ---- the text
 

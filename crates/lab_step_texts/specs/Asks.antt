@@ -1,9 +1,15 @@
 -- What a text asks of the orders of steps.
-use Rattle.std.specs.Prelude.{ℕ, ◌≡◌, List, [], IsSomeAnd, map, option_and_then}
+use Rattle.std.specs.Prelude.{ℕ, ◌≡◌, ◌⊎◌, Bool, true, false, List, [], ◌∷◌, IsSomeAnd, map, option_and_then}
+use Rattle.std.specs.Str.{is_utf8}
 use Rattle.toml.specs.Parse.{parse_document}
+use Rattle.lab_scenario_orders.specs.AskFaults.{IsWhyOf}
 use Rattle.lab_scenario_orders.specs.Asks.{Asks, ask_table}
 use Rattle.lab_scenario_orders.specs.Splits.{ask_part}
 use Rattle.lab_scenario_orders.specs.declared.asks.Ask.{Ask}
+use Rattle.lab_scenario_orders.specs.declared.asks.AskFault.{AskFault}
+use Rattle.lab_scenario_orders.specs.declared.asks.AskFault.TheVariants as fault
+use Rattle.lab_scenario_orders.specs.declared.callers.Callers.{Callers}
+use Rattle.lab_scenario_orders.specs.declared.watches.Watch.{Watch}
 use Rattle.lab_step_orders.specs.declared.crews.Crew.{Crew}
 use Rattle.lab_step_texts.specs.Questions.{unasked_part}
 
@@ -16,6 +22,20 @@ pub record AreJoined (crew : Crew) (read asks : Ask) : Type 0 where
   pub as_picked : asks.as_picked ≡ read.as_picked
   pub outcomes : asks.outcomes ≡ read.outcomes
   pub states : map (λ watch. watch.when) asks.watches.items ≡ map (λ watch. watch.when) crew.watches.items
+
+abbrev pub are_none : List Watch → Bool
+are_none [] = true
+are_none (one ∷ rest) = false
+
+-- the tables `[ask]` of a text without the lines of questions can't be asked of some callers, or ask of moments
+abbrev pub IsWhyJoined : List ℕ → AskFault → Type 0
+IsWhyJoined plain e =
+    ((callers : Callers) × IsWhyOf callers.callers.items callers.board plain e)
+    ⊎ ((e ≡ fault.Table) × ((read : Ask) × IsSomeAnd (option_and_then ask_table (parse_document (ask_part plain))) (λ table. Asks table read) × (are_none read.watches.items ≡ false)))
+
+-- why a text asks nothing of the orders of steps
+abbrev pub IsUnaskedFor : List ℕ → AskFault → Type 0
+IsUnaskedFor text e = (e ≡ fault.Memory) ⊎ (((e ≡ fault.Table) × (is_utf8 text ≡ false)) ⊎ IsWhyJoined (unasked_part text) e)
 
 -- the tables `[ask]` of a text ask this
 abbrev pub IsAskOf : List ℕ → Crew → Ask → Type 0

@@ -1,7 +1,8 @@
 -- Questions about moments, each on a line of a table `[ask]`.
-use Rattle.std.specs.Prelude.{ℕ, ◌≡◌, ◌-◌, nat_lt, Bool, false, true, ◌&&◌, List, [], ◌∷◌, ◌++◌, All, IsSomeAnd, codes, if◌then◌else◌, is_some, length, map, Option, Some, None, option_and_then, option_map, slice_get, string_bytes}
-use Rattle.std.specs.List.{list_all}
+use Rattle.std.specs.Prelude.{ℕ, ◌≡◌, ◌-◌, nat_lt, Bool, false, true, ◌&&◌, List, [], ◌∷◌, ◌++◌, All, IsSomeAnd, codes, if◌then◌else◌, is_none, is_some, length, map, Option, Some, None, option_and_then, option_map, slice_get, string_bytes}
+use Rattle.std.specs.List.{list_all, list_any}
 use Rattle.std.specs.Str.{bytes_eq, trim}
+use Rattle.std.specs.Str.Iter.{HasSubslice}
 use Rattle.std.specs.Str.Lines.{lines}
 use Rattle.evl_base.specs.declared.board.Board.{Board}
 use Rattle.evl_scenario.specs.declared.faults.Fault.TheVariants.{Memory}
@@ -45,6 +46,15 @@ joined_by between [] = []
 joined_by between (text ∷ []) = text
 joined_by between (text ∷ (next ∷ rest)) = text ++ (between ++ joined_by between (next ∷ rest))
 
+-- this stands nowhere in a text
+abbrev pub IsWithout : List ℕ → List ℕ → Type 0
+IsWithout between text = HasSubslice text between → ⊥
+
+-- a text is parted into these wherever this stands
+pub record IsParted (between text : List ℕ) (texts : List (List ℕ)) : Type 0 where
+  pub written : joined_by between texts ≡ text
+  pub single : All (IsWithout between) texts
+
 -- a text claims this: facts with `and` between them
 pub record Claims (text : List ℕ) (claims : List StepClaim) : Type 0 where
   pub texts : List (List ℕ)
@@ -54,6 +64,21 @@ pub record Claims (text : List ℕ) (claims : List StepClaim) : Type 0 where
 pub record IsOne (kind : When) (watch : StepWatch) : Type 0 where
   pub when : watch.when ≡ kind
   pub claims : Claims (string_bytes watch.text) watch.claims.items
+
+-- one of these texts isn't a fact
+abbrev pub has_strange : List (List ℕ) → Bool
+has_strange texts = list_any (λ text. is_none (claim_in text)) texts
+
+-- a text isn't facts: parted at its `and`s, one of its texts is none
+pub record IsNoFacts (text : List ℕ) : Type 0 where
+  pub texts : List (List ℕ)
+  pub parted : IsParted (codes " and ") text texts
+  pub strange : has_strange texts ≡ true
+
+-- a value is this between brackets and quotes, and no such end stands in it
+pub record IsListed (value text : List ℕ) : Type 0 where
+  pub written : value ≡ codes "[\"" ++ (text ++ codes "\"]")
+  pub whole : IsWithout (codes "\"]") text
 
 -- what a line asks that sets a key to this: texts in quotes, with commas between them
 pub record AreOn (when : When) (value : List ℕ) (watches : List StepWatch) : Type 0 where
@@ -106,30 +131,30 @@ are_there board watches = list_all (names_there board) watches
 -- a text isn't facts: the one with this number, for which this word may be meant
 abbrev pub IsUnread : ℕ → List ℕ → NotAsked → Type 0
 IsUnread number text not_asked.Value = ⊥
-IsUnread number text (not_asked.Text n meant) = (n ≡ number) × (option_map (λ word. word.now) meant ≡ near_word text)
+IsUnread number text (not_asked.Text n meant) = (n ≡ number) × IsNoFacts text × (option_map (λ word. word.now) meant ≡ near_word text)
 IsUnread number text not_asked.Memory = Unit {0}
 
 -- one of these, which are numbered from 1
 abbrev pub IsUnreadOf : List (List ℕ) → NotAsked → Type 0
 IsUnreadOf texts not_asked.Value = ⊥
-IsUnreadOf texts (not_asked.Text n meant) = IsSomeAnd (slice_get texts (n - 1)) (λ text. option_map (λ word. word.now) meant ≡ near_word text)
+IsUnreadOf texts (not_asked.Text n meant) = IsSomeAnd (slice_get texts (n - 1)) (λ text. IsNoFacts text × (option_map (λ word. word.now) meant ≡ near_word text))
 IsUnreadOf texts not_asked.Memory = Unit {0}
 
 -- which stand in quotes, with commas between them
 abbrev pub IsUnreadIn : List ℕ → NotAsked → Type 0
 IsUnreadIn text not_asked.Value = ⊥
-IsUnreadIn text (not_asked.Text n meant) = (texts : List (List ℕ)) × (joined_by (codes "\", \"") texts ≡ text) × IsUnreadOf texts (not_asked.Text n meant)
+IsUnreadIn text (not_asked.Text n meant) = (texts : List (List ℕ)) × IsParted (codes "\", \"") text texts × IsUnreadOf texts (not_asked.Text n meant)
 IsUnreadIn text not_asked.Memory = Unit {0}
 
--- in brackets
+-- in brackets, or there are none
 abbrev pub IsUnlisted : List ℕ → NotAsked → Type 0
-IsUnlisted value not_asked.Value = Unit {0}
-IsUnlisted value (not_asked.Text n meant) = (text : List ℕ) × (value ≡ codes "[\"" ++ (text ++ codes "\"]")) × IsUnreadIn text (not_asked.Text n meant)
+IsUnlisted value not_asked.Value = (text : List ℕ) → IsListed value text → ⊥
+IsUnlisted value (not_asked.Text n meant) = (text : List ℕ) × IsListed value text × IsUnreadIn text (not_asked.Text n meant)
 IsUnlisted value not_asked.Memory = Unit {0}
 
 -- to which a line sets its key
 abbrev pub IsUnreadAt : List ℕ → NotAsked → Type 0
-IsUnreadAt line not_asked.Value = Unit {0}
+IsUnreadAt line not_asked.Value = (value : List ℕ) → value_set line ≡ Some value → IsUnlisted value not_asked.Value
 IsUnreadAt line (not_asked.Text n meant) = (value : List ℕ) × (value_set line ≡ Some value) × IsUnlisted value (not_asked.Text n meant)
 IsUnreadAt line not_asked.Memory = Unit {0}
 
@@ -142,7 +167,7 @@ line_fault when number not_asked.Memory = Text Memory
 -- of a line: it sets such a key, and not to facts, or to facts of what the board lacks
 abbrev pub IsLineFault : Board → Option When → List ℕ → ℕ → StepsFault → Type 0
 IsLineFault board when line number (Text fault) = fault ≡ Memory
-IsLineFault board when line number (Question n) = (n ≡ number) × (is_some when ≡ true)
+IsLineFault board when line number (Question n) = (n ≡ number) × (is_some when ≡ true) × IsUnreadAt line not_asked.Value
 IsLineFault board when line number (Facts n unread) = (n ≡ number) × (when ≡ Some unread.when) × IsUnreadAt line (not_asked.Text unread.number unread.meant)
 IsLineFault board when line number (Lacking n) = (n ≡ number) × ((watches : List StepWatch) × LineAsks when line watches × (are_there board watches ≡ false))
 IsLineFault board when line number fault = ⊥
@@ -153,7 +178,7 @@ IsAt Is all number = IsSomeAnd (slice_get all (number - 1)) Is
 
 abbrev pub IsUnasked : Board → List (List ℕ) → StepsFault → Type 0
 IsUnasked board all (Text fault) = fault ≡ Memory
-IsUnasked board all (Question n) = IsAt (λ line. is_some (when_set line) ≡ true) all n
+IsUnasked board all (Question n) = IsAt (λ line. (is_some (when_set line) ≡ true) × IsUnreadAt line not_asked.Value) all n
 IsUnasked board all (Facts n unread) = IsAt (λ line. (when_set line ≡ Some unread.when) × IsUnreadAt line (not_asked.Text unread.number unread.meant)) all n
 IsUnasked board all (Lacking n) = IsAt (λ line. (watches : List StepWatch) × LineAsks (when_set line) line watches × (are_there board watches ≡ false)) all n
 IsUnasked board all fault = ⊥

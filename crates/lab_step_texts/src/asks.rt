@@ -1,11 +1,12 @@
 //! What is asked of the orders of steps.
-ghost use Rattle.std.specs.Prelude.{[], ◌≡◌, IfErr, IfOk, IsSomeAnd, map, option_and_then, string_bytes, true};
+ghost use Rattle.std.specs.Prelude.{◌≡◌, ◌⊎◌, IfErr, IfOk, IsSomeAnd, map, option_and_then, string_bytes};
 ghost use Rattle.toml.specs.Parse.{parse_document};
+ghost use Rattle.lab_scenario_orders.specs.AskFaults.{IsWhyOf};
 ghost use Rattle.lab_scenario_orders.specs.Asks.{Asks, ask_table};
 ghost use Rattle.lab_scenario_orders.specs.KeyLines.{IsPlaced};
 ghost use Rattle.lab_scenario_orders.specs.declared.asks.Ask.{Ask};
 ghost use Rattle.lab_scenario_orders.specs.Splits.{ask_part};
-ghost use Rattle.lab_step_texts.specs.Asks.{AreJoined, IsAskOf};
+ghost use Rattle.lab_step_texts.specs.Asks.{AreJoined, IsAskOf, IsUnaskedFor, IsWhyJoined, are_none};
 ghost use Rattle.lab_step_texts.specs.Questions.{unasked_part};
 
 use crate::extras::lines_of;
@@ -48,6 +49,7 @@ fn named(alloc: Global, crew: &Crew) -> Result<Callers, AskFault> {
 fn ask_of(alloc: Global, callers: &Callers, bytes: &[u8]) -> Result<Ask, AskFault>
     ensures asks { IfOk result (λ ask. IsSomeAnd (option_and_then ask_table (parse_document (ask_part bytes.now))) (λ table. Asks table ask)) }
     ensures placed { IfErr result (IsPlaced bytes.now) }
+    ensures why { IfErr result (IsWhyOf callers.now.callers.items callers.now.board bytes.now) }
 {
     match read_ask(alloc, callers, bytes) {
         Ok(ask) => Ok(ask),
@@ -72,7 +74,7 @@ fn states_of(alloc: Global, watches: &[StepWatch]) -> Result<Vec<Watch>, AllocEr
 
 // Whether there are no questions.
 fn are_none(watches: &[Watch]) -> bool
-    ensures { result ≡ true → watches.now ≡ [] }
+    ensures { result ≡ are_none watches.now }
 {
     matches!(watches, [])
 }
@@ -108,6 +110,7 @@ fn with_states(ask: Ask, watches: Vec<Watch>) -> Ask
 fn read_joined(alloc: Global, crew: &Crew, callers: &Callers, bytes: &[u8]) -> Result<Ask, AskFault>
     ensures asks { IfOk result (λ ask. (read : Ask) × IsSomeAnd (option_and_then ask_table (parse_document (ask_part bytes.now))) (λ table. Asks table read) × AreJoined crew.now read ask) }
     ensures placed { IfErr result (IsPlaced bytes.now) }
+    ensures why { IfErr result (λ e. (e ≡ AskFault.Memory) ⊎ IsWhyJoined bytes.now e) }
 {
     let ask = match ask_of(alloc, callers, bytes) {
         Ok(ask) => ask,
@@ -137,6 +140,9 @@ pub fn read_step_ask(alloc: Global, crew: &Crew, bytes: &[u8]) -> Result<Ask, As
 
     // A fault of a key is told with the first line that sets it.
     ensures placed { IfErr result (IsPlaced (unasked_part bytes.now)) }
+
+    // It is refused only for what is wrong with it, for a question that isn't on a line of its own, or for want of memory.
+    ensures why { IfErr result (IsUnaskedFor bytes.now) }
 {
     let Ok(text) = str::from_utf8(bytes) else {
         return Err(AskFault::Table);

@@ -1,11 +1,11 @@
 //! Questions about moments, each on a line of a table `[ask]`.
-ghost use Rattle.std.specs.Prelude.{ℕ, List, ◌≡◌, ◌++◌, ◌<◌, All, IfErr, IfOk, IfSome, OnOk, Some, codes, false, is_some, length, map, option_map, string_bytes, true};
+ghost use Rattle.std.specs.Prelude.{ℕ, List, ◌≡◌, ◌++◌, ◌<◌, All, IfErr, IfNone, IfOk, IfSome, MatchOption, OnOk, Some, codes, false, is_some, length, map, option_map, string_bytes, true};
 ghost use Rattle.evl_scenario.specs.Lines.{line_feed};
 ghost use Rattle.lab_scenario_orders.specs.KeyLines as keys;
 ghost use Rattle.lab_scenario_orders.specs.Splits.{joined_lines};
 ghost use Rattle.lab_step_orders.specs.declared.watches.StepWatch.{StepWatch};
 ghost use Rattle.lab_step_texts.specs.FactTexts.{claim_in};
-ghost use Rattle.lab_step_texts.specs.Questions.{AreAsked, AreOn, Claims, IsLineFault, IsOne, IsUnasked, IsUnlisted, IsUnread, IsUnreadAt, IsUnreadIn, IsUnreadOf, LineAsks, are_there, is_there, joined_by, line_fault, names_there, unasked_line, unasked_lines, value_set, when_asked, when_named, when_set};
+ghost use Rattle.lab_step_texts.specs.Questions.{AreAsked, AreOn, Claims, IsLineFault, IsListed, IsNoFacts, IsOne, IsParted, IsUnasked, IsUnlisted, IsUnread, IsUnreadAt, IsUnreadIn, IsUnreadOf, IsWithout, LineAsks, are_there, has_strange, is_there, joined_by, line_fault, names_there, unasked_line, unasked_lines, value_set, when_asked, when_named, when_set};
 
 use crate::fact_texts::claim_in;
 use crate::faults::{StepsFault, Unread};
@@ -79,7 +79,10 @@ fn value_set(line: &str) -> Option<&str>
 
 // What stands before and behind a text in another one.
 fn around<'a>(text: &'a str, between: &str) -> Option<(&'a str, &'a str)>
-    ensures { IfSome result (λ parts. text.now ≡ parts.0.now ++ (between.now ++ parts.1.now)) }
+    requires { 0 < length between.now }
+    ensures written { IfSome result (λ parts. text.now ≡ parts.0.now ++ (between.now ++ parts.1.now)) }
+    ensures first { IfSome result (λ parts. IsWithout between.now parts.0.now) }
+    ensures none { IfNone result (IsWithout between.now text.now) }
 {
     match text.split_once(between) {
         Some(parts) => Some(parts),
@@ -87,23 +90,48 @@ fn around<'a>(text: &'a str, between: &str) -> Option<(&'a str, &'a str)>
     }
 }
 
+// What follows this front part of a text.
+fn behind<'a>(text: &'a str, front: &str) -> Option<&'a str>
+    ensures { MatchOption result ((rest : List ℕ) → text.now ≡ front.now ++ rest → ⊥) (λ rest. text.now ≡ front.now ++ rest.now) }
+{
+    match text.strip_prefix(front) {
+        Some(rest) => Some(rest),
+        None => None,
+    }
+}
+
+// What stands before this end of a text.
+fn before<'a>(text: &'a str, end: &str) -> Option<&'a str>
+    ensures { MatchOption result ((front : List ℕ) → text.now ≡ front ++ end.now → ⊥) (λ front. text.now ≡ front.now ++ end.now) }
+{
+    match text.strip_suffix(end) {
+        Some(front) => Some(front),
+        None => None,
+    }
+}
+
 // What stands within the brackets of a list and its first and last quotes.
 fn listed(value: &str) -> Option<&str>
-    ensures { IfSome result (λ texts. value.now ≡ codes "[\"" ++ (texts.now ++ codes "\"]")) }
+    ensures listed { IfSome result (λ texts. IsListed value.now texts.now) }
+    ensures none { IfNone result ((texts : List ℕ) → IsListed value.now texts → ⊥) }
 {
-    let (front, rest) = around(value, "[\"")?;
-    let (texts, behind) = around(rest, "\"]")?;
-    if front == "" && behind == "" {
-        Some(texts)
-    } else {
+    let Some(quoted) = behind(value, "[\"") else {
+        return None;
+    };
+    let Some(texts) = before(quoted, "\"]") else {
+        return None;
+    };
+    if texts.contains("\"]") {
         None
+    } else {
+        Some(texts)
     }
 }
 
 // The texts between which this stands.
 fn pieces<'a>(alloc: Global, text: &'a str, between: &str) -> Result<Vec<&'a str>, AllocError>
     requires { 0 < length between.now }
-    ensures { IfOk result (λ texts. joined_by between.now (map (λ one. one.now) texts.items) ≡ text.now) }
+    ensures { IfOk result (λ texts. IsParted between.now text.now (map (λ one. one.now) texts.items)) }
 {
     let mut texts = Vec::new(alloc);
     let mut rest = text;
@@ -117,7 +145,8 @@ fn pieces<'a>(alloc: Global, text: &'a str, between: &str) -> Result<Vec<&'a str
 
 // What each of these texts claims; none where one isn't a fact.
 fn claims_of(alloc: Global, texts: &[&str]) -> Result<Option<Vec<StepClaim>>, AllocError>
-    ensures { IfOk result (λ all. IfSome all (λ claims. map claim_in (map (λ one. one.now) texts.now) ≡ map (λ claim. Some claim) claims.items)) }
+    ensures each { IfOk result (λ all. IfSome all (λ claims. map claim_in (map (λ one. one.now) texts.now) ≡ map (λ claim. Some claim) claims.items)) }
+    ensures strange { IfOk result (λ all. IfNone all (has_strange (map (λ one. one.now) texts.now) ≡ true)) }
 {
     let mut claims = Vec::new(alloc);
     for text in texts {
@@ -131,7 +160,8 @@ fn claims_of(alloc: Global, texts: &[&str]) -> Result<Option<Vec<StepClaim>>, Al
 
 // What a text claims; none where it isn't facts with `and` between them.
 fn claims_in(alloc: Global, text: &str) -> Result<Option<Vec<StepClaim>>, AllocError>
-    ensures { IfOk result (λ all. IfSome all (λ claims. Claims text.now claims.items)) }
+    ensures claims { IfOk result (λ all. IfSome all (λ claims. Claims text.now claims.items)) }
+    ensures none { IfOk result (λ all. IfNone all (IsNoFacts text.now)) }
 {
     let texts = pieces(alloc, text, " and ")?;
     claims_of(alloc, texts.as_slice())
@@ -154,6 +184,7 @@ fn claimed(
 
 // The text with this number isn't facts.
 fn unread(alloc: Global, number: usize, text: &str) -> NotAsked
+    requires { IsNoFacts text.now }
     ensures { IsUnread number text.now result }
 {
     match near_word(alloc, text) {
