@@ -9,6 +9,7 @@ use Rattle.lab_lines.specs.Kinds.{IsOfCallers}
 use Rattle.lab_orders.specs.declared.levels.OrdersError.TheVariants.{Count}
 use Rattle.lab_orders.specs.declared.tallies.Tally.{Tally}
 use Rattle.lab_scenario_orders.specs.Answers.{first_impossible, near_answer}
+use Rattle.lab_scenario_orders.specs.AskFaults.{IsWhyOf}
 use Rattle.lab_scenario_orders.specs.Asks.{AreOfCallers, Asks, ask_table, is_against}
 use Rattle.lab_scenario_orders.specs.Callers.{IsRefused, IsSetUp}
 use Rattle.lab_scenario_orders.specs.KeyLines.{IsPlaced, key_name}
@@ -228,11 +229,11 @@ module _ (bank : List Handler) (most one : ℕ) where
   TellsPossible callers asks None answer = (set : Callers) × IsSetTo callers asks set × TellsOutcomes set asks answer
   TellsPossible callers asks (Some never) answer = answer ≡ refuses 10 0 (impossible_words never (near_answer callers.steps.items never))
 
-  -- what is asked; or it can't be read, for some fault
+  -- what is asked; or why it can't be read
   abbrev pub TellsAsked : Callers → List ℕ → Answer → Type 0
   TellsAsked callers text answer =
       ((asks : Ask) × AsksOf text callers asks × TellsPossible callers asks (impossible_in callers asks) answer)
-      ⊎ ((e : AskFault) × IsPlaced text e × IsSomeAnd (ask_words e) (λ words. answer ≡ refuses 10 0 words))
+      ⊎ ((e : AskFault) × IsWhyOf callers.callers.items callers.board text e × IsPlaced text e × IsSomeAnd (ask_words e) (λ words. answer ≡ refuses 10 0 words))
 
   -- the callers of a text, or why it is refused
   abbrev pub TellsText : List ℕ → Answer → Type 0

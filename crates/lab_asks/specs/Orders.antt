@@ -7,6 +7,7 @@ use Rattle.lab_kinds.specs.Kinds.{kind_of}
 use Rattle.lab_kinds.specs.declared.kinds.TextKind.{TextKind}
 use Rattle.lab_lines.specs.Kinds.{IsOfCallers}
 use Rattle.lab_scenario_orders.specs.Answers.{first_impossible, near_answer}
+use Rattle.lab_scenario_orders.specs.AskFaults.{IsWhyOf}
 use Rattle.lab_scenario_orders.specs.Asks.{AreOfCallers, Asks, ask_table}
 use Rattle.lab_scenario_orders.specs.Callers.{IsRefused, IsSetUp}
 use Rattle.lab_scenario_orders.specs.KeyLines.{IsPlaced, key_name}
@@ -71,11 +72,11 @@ abbrev pub TellsPossible : List Handler → ℕ → Shown → List ℕ → Calle
 TellsPossible bank most one name callers asks None output = (set : Callers) × IsSetTo callers asks set × TellsOutcomes bank most one name set asks output
 TellsPossible bank most one name callers asks (Some never) output = output ≡ refuses 2 (impossible_text name never (near_answer callers.steps.items never))
 
--- what is asked; or it can't be read, for some fault
+-- what is asked; or why it can't be read
 abbrev pub TellsAsked : List Handler → ℕ → Shown → List ℕ → Callers → List ℕ → Output → Type 0
 TellsAsked bank most one name callers text output =
     ((asks : Ask) × AsksOf text callers asks × TellsPossible bank most one name callers asks (impossible_in callers asks) output)
-    ⊎ ((fault : AskFault) × IsPlaced text fault × IsSomeAnd (ask_fault_line name fault) (λ line. output ≡ refuses 2 line))
+    ⊎ ((fault : AskFault) × IsWhyOf callers.callers.items callers.board text fault × IsPlaced text fault × IsSomeAnd (ask_fault_line name fault) (λ line. output ≡ refuses 2 line))
 
 -- ---- the text
 

@@ -6,6 +6,7 @@ use Rattle.evl_scenario.specs.declared.faults.Fault.TheVariants as scenario
 use Rattle.evl_scenario.specs.declared.steps.Step.{Step}
 use Rattle.lab_faults.specs.Told.{Told}
 use Rattle.lab_scenario_orders.specs.Answers.{first_impossible, near_answer}
+use Rattle.lab_scenario_orders.specs.AskFaults.{IsWhyOf}
 use Rattle.lab_scenario_orders.specs.Asks.{AreOfCallers, Asks, ask_table, begins}
 use Rattle.lab_scenario_orders.specs.Callers.{IsRefused, IsSetUp}
 use Rattle.lab_scenario_orders.specs.KeyLines.{IsPlaced, key_name, line_set}
@@ -123,11 +124,11 @@ abbrev pub impossible_faults : List ℕ → List Step → Option Never → List 
 impossible_faults text steps None = []
 impossible_faults text steps (Some never) = told_on (line_set (Some (codes "never")) text) (impossible_words never (near_answer steps never)) ∷ []
 
--- what is asked can be read, with answers that may be; or it can't
+-- what is asked can be read, with answers that may be; or why it can't
 abbrev pub AskTells : List ℕ → Callers → List Told → Type 0
 AskTells text callers faults =
     ((asks : Ask) × AsksOf text callers asks × (faults ≡ impossible_faults text callers.steps.items (first_impossible callers.steps.items asks.never.items)))
-    ⊎ ((fault : AskFault) × IsPlaced text fault × IsSomeAnd (ask_words fault) (λ words. faults ≡ told_on (ask_line fault) words ∷ []))
+    ⊎ ((fault : AskFault) × IsWhyOf callers.callers.items callers.board text fault × IsPlaced text fault × IsSomeAnd (ask_words fault) (λ words. faults ≡ told_on (ask_line fault) words ∷ []))
 
 -- of a text: where there is none, its orders can be asked for
 abbrev pub AskedLast : List ℕ → List Told → Type 0

@@ -14,4 +14,4 @@ returns-in-Ok c =
     (λ a h. inl (ask, asks, h)) c.tell_possible.ensures
 
 pub returns-in_ok-words-in-Err : goal.returns-in_ok-words-in-Err
-returns-in_ok-words-in-Err c = inr (c.in-Err.fault, c.in-Err.ensures.placed, refused_words _ _ _ c.in_ok-words-in-Err.ensures c.refuse.ensures)
+returns-in_ok-words-in-Err c = inr (c.in-Err.fault, c.in-Err.ensures.why, c.in-Err.ensures.placed, refused_words _ _ _ c.in_ok-words-in-Err.ensures c.refuse.ensures)

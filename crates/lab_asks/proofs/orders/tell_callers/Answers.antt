@@ -21,4 +21,4 @@ pub returns-in-Err-clause-writes : goal.returns-in-Err-clause-writes
 returns-in-Err-clause-writes g c =
     let name = unwrap_or (option_map (λ file. file.now) c.args.asked.now.file) (codes "-") in
     told_of _ (TellsAsked (map told_by c.args.plans.now) c.args.asked.now.most c.args.asked.now.shown name c.args.callers c.args.text.now) _ _ _ (λ (l : List ℕ). l) (ask_fault_line name c.in-Err.fault)
-    c.tell_ask_fault-told.result c.refused.result (λ output h. inr (c.in-Err.fault, c.in-Err.ensures.placed, h)) (rw c.name.ensures at c.tell_ask_fault-told.ensures.text) c.refused.ensures.status
+    c.tell_ask_fault-told.result c.refused.result (λ output h. inr (c.in-Err.fault, c.in-Err.ensures.why, c.in-Err.ensures.placed, h)) (rw c.name.ensures at c.tell_ask_fault-told.ensures.text) c.refused.ensures.status
