@@ -136,11 +136,7 @@ fn convert_meant<O: Stream, E: Stream>(
     ensures early { IfErr result (EndsEarly false (O.has_failed out.new) (E.has_failed err.new)) }
 {
     if meant.setup > 0 {
-        return refused(tell_refused(
-            err,
-            name,
-            "has a line with setup: a text for lab orders",
-        ));
+        return refused(tell_refused(err, name, "has a line with setup: a text for lab orders"));
     }
     convert_scenario(alloc, as_lines, name, meant.scenario.as_bytes(), out, err)
 }

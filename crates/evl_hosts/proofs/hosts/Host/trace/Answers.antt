@@ -25,12 +25,18 @@ returns c =
         before = c.in-Some.caller;
         after = c.give.result;
         had = sym c.take.ensures.value ∙ c.in-Some.is;
-        done = inr (c.in-Ok.held.kernel, (
-          c.in-Ok.held, refl, c.in-Ok.ensures.taken,
-          rw (← (c.machine.ensures.machine ∙ c.deref.ensures)) c.in-Ok.ensures.event,
-          c.give.ensures.given,
-          given_back (arc_value c.self.inside.shared) c.self.inside.caller c.in-Some.caller c.in-Ok.held c.give.result (sym c.take.ensures.value ∙ c.in-Some.is) c.self.invariant c.in-Ok.ensures.taken c.give.ensures.event,
-        ), told c.trace_history-text.result _ _ same c.trace_history-text.ensures.trace c.trace_history-text.ensures.refused);
+        done = inr (
+          c.in-Ok.held.kernel,
+          (
+            c.in-Ok.held,
+            refl,
+            c.in-Ok.ensures.taken,
+            rw (← (c.machine.ensures.machine ∙ c.deref.ensures)) c.in-Ok.ensures.event,
+            c.give.ensures.given,
+            given_back (arc_value c.self.inside.shared) c.self.inside.caller c.in-Some.caller c.in-Ok.held c.give.result (sym c.take.ensures.value ∙ c.in-Some.is) c.self.invariant c.in-Ok.ensures.taken c.give.ensures.event,
+          ),
+          told c.trace_history-text.result _ _ same c.trace_history-text.ensures.trace c.trace_history-text.ensures.refused,
+        );
         has = refl;
       };
     })
