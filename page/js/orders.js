@@ -95,7 +95,7 @@ function show_orders(it) {
   $('verdict').className = how;
   $('verdict').textContent = says;
   $('asked').innerHTML = it.asks
-    ? `<b>Asked</b> ${it.asks.split('\n').slice(1).map(line => `<code>${escaped(line)}</code>`).join(' ')}`
+    ? `<b>Asked</b> ${it.asks.split('\n').slice(1).map(line => `<code>${escaped(line)}</code>`).join(', ')}`
     : 'To ask, add a table <code>[ask]</code>, as <code>always_ends = true</code>.';
   $('doubts').innerHTML = it.doubts.map(doubt => `<li>${escaped(doubt)}</li>`).join('');
   const heads = ['outcome', 'orders', 'ends', 'answers of each caller', 'first order'];
