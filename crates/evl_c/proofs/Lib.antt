@@ -4,6 +4,7 @@ mod BoxLaws
 mod Crossing
 pub mod DrawLemmas
 pub mod HandleLemmas
+pub mod HostCallLemmas
 mod HostCrossing
 pub mod OrderLemmas
 pub mod PictureLemmas
