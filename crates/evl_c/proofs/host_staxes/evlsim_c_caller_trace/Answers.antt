@@ -1,6 +1,5 @@
-use Rattle.std.proofs.Common.{◌≡◌, ◌∙◌, ℕ, List, Result, Ok, Err, String, Global, ap, refl, rules, string_bytes, subst, sym}
+use Rattle.std.proofs.Common.{ℕ, List, Result, Ok, Err, String, Global, refl, rules, string_bytes, subst, sym}
 use Rattle.evl_base.specs.declared.refusal.Refusal.{Refusal}
-use Rattle.evl_base.specs.declared.refusal.Refusal.TheVariants.{CoreBusy}
 use Rattle.evl_hosts.specs.Hosts.{Steps, TellsTrace, bytes_of}
 use Rattle.evl_c.specs.Texts.{TellsText}
 use Rattle.evl_c.proofs.HostCallLemmas.{traces_as}
@@ -14,11 +13,10 @@ returns-in-Ok-clause-told c = λ there.
 
 pub returns-in-Err-CoreBusy-clause-told : goal.returns-in-Err-CoreBusy-clause-told
 returns-in-Err-CoreBusy-clause-told c = λ there.
-    traces_as 11 c.args.start _ _ c.in-Some.there.value c.deref_mut.result.now c.trace-text.new.self (Err CoreBusy) c.args.out.now c.args.out.now c.args.length.now
+    traces_as 11 c.args.start _ _ c.in-Some.there.value c.deref_mut.result.now c.trace-text.new.self (Err c.in-Err-CoreBusy.field-0) c.args.out.now c.args.out.now c.args.length.now
     (sym c.in-Some.ensures.taken) c.deref_mut.ensures.value c.put.ensures
-    (subst (λ (r : Result (String Global) Refusal). Steps (λ a b. TellsTrace c.deref_mut.result.now.machine (bytes_of r) a b) c.deref_mut.result.now.staxes c.deref_mut.result.now.mutexes c.deref_mut.result.now c.trace-text.new.self)
-    (c.in-Err-CoreBusy.is ∙ ap Err c.in-Err-CoreBusy.field-0-is) c.trace-text.ensures.traced)
-    (refl, refl)
+    (subst (λ (r : Result (String Global) Refusal). Steps (λ a b. TellsTrace c.deref_mut.result.now.machine (bytes_of r) a b) c.deref_mut.result.now.staxes c.deref_mut.result.now.mutexes c.deref_mut.result.now c.trace-text.new.self) c.in-Err-CoreBusy.is c.trace-text.ensures.traced)
+    (search rules, refl)
 
 pub returns-in-Err : goal.returns-in-Err
 returns-in-Err c = record {
