@@ -10,6 +10,8 @@ MODULES = ('now', 'program', 'text', 'reads', 'states', 'asks', 'kept', 'complet
            'orders', 'console', 'exercise', 'mine', 'qr', 'share', 'page')
 # A line of a trace in a lesson: a click goes to its step.
 STEP = r'<button class="at" data-step="\1">\g<0></button>'
+# The text of the page's first lesson; page/stories.md explains it.
+START = 'board threads=2 sems=[0]\nT1 attach policy=fifo 10 stage=oob\nT1 begin_get sem=0\nT0 put sem=0\nT1 finish\n'
 # Where texts lie: in examples/, or at the top.
 FOLDERS = ('examples', '.')
 
@@ -54,27 +56,60 @@ def story_of(title, body):
     return ''.join(parts)
 
 
-def lessons_of(top):
-    """The lessons with their text of docs/use/LESSONS.md, the exercises, the orders and the callers' texts."""
-    folder, lessons = os.path.join(folder_of(top, 'scenarios'), 'lessons'), []
-    for section in re.split(r'^## ', read(top, 'docs/use/LESSONS.md'), flags=re.M)[1:]:
+def named_stories(page, heads):
+    """The sections of a page that begin with the name of a text, as `stalled_inband_stage`: title and story of each."""
+    found = {}
+    for section in re.split(rf'^{heads} ', page, flags=re.M)[1:]:
         title, _, body = section.partition('\n')
-        named = re.match(r'\s*`(\w+)`', body)
-        file = named and os.path.join(folder, named[1] + '.toml')
-        if file and os.path.isfile(file):
-            story = story_of(title.strip(), body)
-            lessons.append({'group': 'Lessons', 'title': f'{len(lessons) + 1}. {title.strip()}', 'text': read(file),
-                            'story': story})
-    if not lessons:
-        sys.exit('page: docs/use/LESSONS.md names no lesson')
+        named = re.match(r'\s*`(\w+)`\. ', body)
+        if named:
+            title, body = title.strip(), re.split(r'^##? ', body[named.end():], flags=re.M)[0]
+            found[named[1]] = (title, story_of(title, body))
+    return found
+
+
+def plain_title(name):
+    title = name.replace('_', ' ')
+    return title[0].upper() + title[1:]
+
+
+def exercises():
     for it in json.loads(read(HERE, 'exercises.json')):
         it |= {key: '\n'.join(it[key]) + '\n' for key in ('text', 'solution', 'ask') if key in it}
         it['question'] = ' '.join(it['question'])
-        lessons.append({'group': 'Exercises', 'title': it['title'], 'exercise': it})
-    for group, name in (('Orders', 'orders'), ('Callers', 'callers')):
-        for file in texts_of(folder_of(top, name)):
-            title = os.path.basename(file)[:-5].replace('_', ' ')
-            lessons.append({'group': group, 'title': title[0].upper() + title[1:], 'text': read(file)})
+        yield {'group': 'Exercises', 'title': it['title'], 'exercise': it}
+
+
+def texts_with_stories(group, folders, stories):
+    """Texts as lessons: first those that have a story, in the first folder that has them, then the first folder's others."""
+    named = {name: next(filter(os.path.isfile, (os.path.join(it, name + '.toml') for it in folders)), '') for name in stories}
+    for name, file in named.items():
+        if not file:
+            sys.exit(f'page: there is no text {name}')
+        yield {'group': group, 'title': stories[name][0], 'text': read(file), 'story': stories[name][1]}
+    for file in texts_of(folders[0]):
+        if file not in named.values():
+            yield {'group': group, 'title': plain_title(os.path.basename(file)[:-5]), 'text': read(file)}
+
+
+def lessons_of(top):
+    """The lessons with their text of docs/use/LESSONS.md, the exercises, the orders and the callers' texts."""
+    folder = os.path.join(folder_of(top, 'scenarios'), 'lessons')
+    stories = {name: it for name, it in named_stories(read(top, 'docs/use/LESSONS.md'), '##').items()
+               if os.path.isfile(os.path.join(folder, name + '.toml'))}
+    if not stories:
+        sys.exit('page: docs/use/LESSONS.md names no lesson')
+    own = named_stories(read(HERE, 'stories.md'), '##')
+    title, story = own.pop('start')
+    lessons = [{'group': 'Lessons', 'title': title, 'text': START, 'story': story}]
+    for number, (name, (title, story)) in enumerate(stories.items(), 1):
+        text = read(folder, name + '.toml')
+        lessons.append({'group': 'Lessons', 'title': f'{number}. {title}', 'text': text, 'story': story})
+    lessons += exercises()
+    orders = folder_of(top, 'orders')
+    lessons += texts_with_stories('Orders', (orders, f'{orders}/asked', f'{orders}/steps'), own)
+    told = named_stories(read(top, 'docs/use/CALLERS_TEXT.md'), '###')
+    lessons += texts_with_stories('Callers', (folder_of(top, 'callers'),), told)
     return lessons
 
 

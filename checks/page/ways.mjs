@@ -66,8 +66,18 @@ export class Page {
   }
 }
 
+/** The page begins with what it is; at the end of each lesson is the way on. */
 async function opens(page) {
   const { browser } = page;
+  assert.equal(await page.see('name'), 'Start here');
+  assert.match(await page.see('lines'), /2 T1 begin_get sem=0 until=none -> begun/);
+  await browser.click('#story .at[data-step="2"]');
+  await page.step(2);
+  await browser.until(`document.querySelector('#state .blocked')`);
+  await page.shot('start');
+  const turn = await page.turn();
+  await browser.click('#next');
+  await page.played(turn);
   assert.match(await page.see('name'), /^1\. An interrupt through a stalled/);
   assert.equal(await page.see('kind'), 'scenario');
   assert.match(await page.see('faults'), /^warning step 6 .*pending inband already/);
@@ -236,7 +246,7 @@ async function edits(page) {
   await page.played(turn);
   assert.match(await page.see('faults'), /fault line 1/);
   assert.equal(await browser.evaluate(`document.querySelectorAll('#under u').length`), 1);
-  assert.match(await page.see('kept'), /kept in this browser/);
+  assert.match(await page.see('kept'), /^saved$/);
   turn = await page.turn();
   await browser.undo();
   if (await page.value('text') !== own) await browser.undo();
@@ -406,17 +416,25 @@ async function orders(page) {
   await page.played(turn);
   assert.equal(await page.see('kind'), 'scenario');
 }
-/** Orders of atomic steps are a table; what lab check, which does not know them, says of them is not told. */
+/** Orders of atomic steps open too, as their steps; what lab check, which does not know them, says of them is not told. */
 async function atomic(page) {
   const { browser } = page, steps = name => fs.readFileSync(path.join(page.top, 'examples/orders/steps', `${name}.toml`), 'utf8');
   await page.lesson('Two locks');
   await page.put(steps('stax_2'));
   assert.equal(await page.see('verdict'), 'No: outcome 4 contradicts what is asked.');
   assert.equal(await page.see('faults'), 'no fault');
-  const rows = `[...document.querySelectorAll('#outcomes tbody tr')].map(it => it.innerText.replace(/\\s+/g, ' '))`;
+  const rows = `[...document.querySelectorAll('#outcomes tbody tr:not(.picture)')].map(it => it.innerText.replace(/\\s+/g, ' '))`;
   const told = await browser.evaluate(rows);
   assert.match(told[3], /^4 ✗.* 2 stax 0: oob, held by 0 T0: Raced, NotOwner T1: pass, done T0 look, T1 look, T1 exchange, T1 leave/);
-  assert.deepEqual([told.length, await browser.evaluate(`document.querySelectorAll('#outcomes [data-open]').length`)], [5, 0]);
+  assert.equal(told.length, 5);
+  await browser.click('[data-open="3"]');
+  await page.step(6);
+  assert.match(await page.see('lines'), /5 T0 exchange stax=0 -> Raced \| stax 0: free/);
+  await browser.click('#lines [data-step="3"]');
+  await browser.until(`document.getElementById('state').textContent.includes('stax 0out-of-band, 1 holder')`);
+  assert.equal(await browser.evaluate(`document.querySelectorAll('#entries svg title').length`), 6);
+  assert.equal(await browser.evaluate(`document.getElementById('viewed-take').hidden`), true);
+  await page.shot('atomic');
   await page.put(steps('set_up_put'));
   assert.match(await page.see('verdict'), /^The orders were not explored: bad step 1: what is set up is attach/);
   assert.doesNotMatch(await page.see('faults'), /staxes/);
@@ -526,7 +544,7 @@ async function stops_play(page) {
 }
 async function callers(page) {
   const { browser } = page;
-  await page.lesson('Stax stages');
+  await page.lesson('A stax between stages');
   assert.equal(await page.see('kind'), 'callers');
   await page.tab('walk');
   await browser.click('#lines [data-step="4"]');
@@ -537,13 +555,13 @@ async function callers(page) {
   assert.match(await row('T0'), /^T0 in-band – w?\d* ?.*p0$/);
   assert.match(await row('T3'), /^T3 oob fifo 10 f10 picked $/);
   await page.shot('callers');
-  await page.lesson('Contended mutex');
+  await page.lesson('A contended mutex');
   await browser.click('#lines [data-step="5"]');
   await browser.until(`document.getElementById('state').textContent.includes('After step 5')`);
   assert.match(await row('T0'), /^T0 oob fifo 10 f10 picked m0$/);
   assert.match(await row('T1'), /^T1 oob fifo 10 f10 blocked mutex 0 $/);
   assert.match(await row('mutex 0 in the kernel'), /owner T0, T1 waiting/);
-  await page.lesson('Core held');
+  await page.lesson('The core is held');
   for (const [step, says] of [[3, 'taken by T0'], [9, 'free']]) {
     await browser.click(`#lines [data-step="${step}"]`);
     await browser.until(`document.getElementById('state').textContent.includes('After step ${step}')`);
@@ -635,7 +653,7 @@ async function handlers(page) {
   assert.match(await page.see('lines'), /count 1 none/);
   assert.equal(await page.see('note'), '');
   await page.put('[[callback]]\ndo = [{ post_semm = 1 }]\n', 'bank');
-  assert.match(await page.see('faults'), /^fault handlers, line 2 .*write post_sem$/);
+  assert.match(await page.see('faults'), /^fault callbacks, line 2 .*write post_sem$/);
   await browser.click('.fix');
   await browser.until(`document.getElementById('bank').value.includes('post_sem ')`);
   await page.put('', 'bank');

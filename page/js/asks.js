@@ -1,11 +1,11 @@
 // What the page asks of the program, all in one place: each view is a run of its own, of 1 to 10 ms. Nothing else of
 // the page knows the program's words, so this module can be exchanged for one over other forms of its answers.
-import { read_calls, read_notices, read_orders, read_refused, read_trace, FILE, BANK } from './reads.js';
+import { is_against, read_calls, read_notices, read_orders, read_refused, read_trace, FILE, BANK } from './reads.js';
 import { Runner } from './program.js';
 import { read_states } from './states.js';
 import { first_steps, is_lines, steps_of } from './text.js';
 
-/** @typedef {{ kind: string, text: string, bank: string }} Text */
+/** @typedef {{ kind: string, text: string, bank: string, turns?: string[] }} Text */
 export const ORDERS_SECONDS = 60;
 /** @type {Runner} One worker for what is short. */
 let short;
@@ -25,12 +25,12 @@ export const run = (words, text) => short.ask([...words, FILE], { [FILE]: text }
 
 const over = (/** @type {Text} */ it) => it.bank.trim() ? ['--bank', BANK] : [];
 const files_of = (/** @type {Text} */ it) => ({ [FILE]: it.text, [BANK]: it.bank });
-const word_of = (/** @type {Text} */ it) => it.kind === 'callers' ? 'callers' : 'play';
+const part_words = (/** @type {Text} */ it) => it.turns ? ['orders', ...it.turns] : [it.kind === 'callers' ? 'callers' : 'play'];
 
 /** A run that was stopped is no answer, and is reported. @param {string} what @param {string} why */
 const left_out = (what, why) =>
   ({ fault: false, column: 0, where: '', says: `the text was not ${what}: ${why.trim()}` });
-/** Faults of a text and of its handlers, and warnings where both are well. @param {Text} it */
+/** Faults of a text and of its callbacks, and warnings where both are well. @param {Text} it */
 export async function checked(it) {
   if (it.kind === 'empty') return [];
   const files = files_of(it), bank = over(it), is_bank = it.kind === 'bank';
@@ -52,21 +52,21 @@ export async function converted(text) {
 }
 /** @param {Text} it */
 export async function played(it) {
-  const answer = await short.ask([word_of(it), FILE, ...over(it)], files_of(it));
+  const answer = await short.ask([...part_words(it), FILE, ...over(it)], files_of(it));
   const told = answer.status === -2 ? [left_out('played', answer.err)]
     : answer.status ? read_refused(answer.err, it.text) : [];
   return { ...answer, entries: read_trace(answer.out), told };
 }
 /**
  * A page of the picture, whose time goes down, across, or by its length; of callers of whom a step can't be made it is
- * that of the lines before it, with no strips.
+ * that of the lines before it, with no strips; of atomic steps that of their lines.
  * @param {Text} it @param {Promise<{ out: string }>} trace @returns {Promise<import('./program.js').Answer>}
  */
 export async function drawn(it, trace, way = '', page = 1) {
   const words = ['draw', ...way ? [`--${way}`] : [], ...page > 1 ? ['--page', `${page}`] : []];
   const none = { status: 0, out: '', err: '', ms: 0, memory: 0 };
-  const whole = it.text ? await side.ask([...words, FILE, ...over(it)], files_of(it)) : none;
-  if (it.kind !== 'callers' || whole.status <= 0) return whole;
+  const whole = it.text && !it.turns ? await side.ask([...words, FILE, ...over(it)], files_of(it)) : none;
+  if (!it.turns && (it.kind !== 'callers' || whole.status <= 0)) return whole;
   const text = (await trace).out;
   return text ? side.ask([...words, 'trace'], { trace: text }) : none;
 }
@@ -105,8 +105,9 @@ export async function said(machine, lines) {
 export async function gone_through(it, asks, heard) {
   long ||= new Runner(short.code);
   const answer = await long.ask(['orders', FILE, ...over(it)], files_of(it), '', ORDERS_SECONDS, heard);
-  const against = [...answer.err.matchAll(/outcome (\d+) is against/g)].map(found => found[1]);
-  return { ...read_orders(answer.out), ...answer, asks, against,
+  const first = answer.err.match(/outcome (\d+) is against/)?.[1], found = read_orders(answer.out);
+  const against = first ? found.outcomes.filter(o => o.number === first || is_against(o, asks)).map(o => o.number) : [];
+  return { ...found, ...answer, asks, against,
     told: answer.status > 1 ? read_refused(answer.err, it.text) : [] };
 }
 /** The list of calls, with their keys, values and answers. */

@@ -3,7 +3,7 @@ import { $, now, escaped } from './now.js';
 import { put_text } from './kept.js';
 import { offer, offered } from './complete.js';
 import { Parts } from './parts.js';
-import { place_of_word } from './text.js';
+import { place_of_word, HOLE_LINE } from './text.js';
 
 const MOST_FAULTS = 40;
 /** How many letters a row has, and how wide one is. */
@@ -20,6 +20,7 @@ function marked(line, it) {
     const parts = [line.slice(0, at), line.slice(at, at + size), line.slice(at + size)].map(escaped);
     body = `${parts[0]}<u class="${it.fault ? '' : 'w'}">${parts[1] || ' '}</u>${parts[2]}`;
   }
+  if (!kind && line.trim() === HOLE_LINE) kind = ' hole';
   return `<span class="line${kind}">${body}</span>`;
 }
 /** What surely needs one row for each line is not laid out while it is far from the view. */
@@ -111,7 +112,7 @@ export function indent(event) {
   event.preventDefault();
   put_text(box, '\n' + above, at, box.selectionEnd);
 }
-/** Opens the lesson, the text or the handlers. @param {string} name */
+/** Opens the lesson, the text or the callbacks. @param {string} name */
 export function open_side(name) {
   for (const it of ['story', 'text', 'bank']) {
     $(`side-${it}`).hidden = it !== name;
@@ -119,6 +120,7 @@ export function open_side(name) {
     $(`${it}-tab`).tabIndex = it === name ? 0 : -1;
   }
   $('bank-tab').classList.toggle('used', !!$('bank').value.trim());
+  document.body.dataset.side = name;
 }
 /** Where the text's caret is on the screen: the painted text below has the same lines. */
 function caret_place() {
@@ -141,7 +143,7 @@ export function offer_in_text(asked = false) {
   const box = $('text');
   offer(box, offered(box.value, box.selectionStart, now.kind), caret_place, asked);
 }
-/** Where the caret of the handlers is, as long as no line of them needs two rows. */
+/** Where the caret of the callbacks is, as long as no line of them needs two rows. */
 function bank_caret_place() {
   const box = $('bank'), at = box.getBoundingClientRect(), style = getComputedStyle(box);
   const high = parseFloat(style.lineHeight);

@@ -23,8 +23,7 @@ export function keep_texts() {
   const well = Object.entries(own).map(([id, text]) =>
     kept.set(`${id} ${now.lesson.key}`, $(id).value === text ? null : $(id).value)).every(Boolean);
   const changed = $('text').value !== own.text || $('bank').value !== own.bank;
-  $('kept').textContent = !well ? 'not kept: this browser stores nothing for this page'
-    : changed ? 'kept in this browser' : '';
+  $('kept').textContent = !well ? 'not saved: this browser stores nothing for this page' : changed ? 'saved' : '';
   $('back-to').disabled = !changed;
 }
 /** So many lines a browser replaces by its own undo in no time; of more it makes seconds. */

@@ -20,6 +20,8 @@ export const escaped = text => text.replace(/\0/g, '\ufffd').replace(/[&<>"]/g, 
 /** @param {string} id @param {string} name @param {(event: any) => void} does */
 export const on = (id, name, does) => $(id).addEventListener(name, does);
 
+/** An outcome of orders as a text: its scenario; of atomic steps the text itself, and which of its orders. */
+export const text_of = (/** @type {any} */ { text, turns }) => ({ kind: turns ? 'turns' : 'play', text, turns, bank: $('bank').value });
 /** The text that is looked at: an outcome of orders, or what the editor has. */
-export const text_now = () => now.viewed ? { kind: 'play', text: now.viewed.text, bank: $('bank').value }
+export const text_now = () => now.viewed ? text_of(now.viewed)
   : { kind: now.kind, text: $('text').value, bank: $('bank').value };

@@ -1,6 +1,6 @@
 // Every order in which the callers may come: a verdict, what was asked, a table of outcomes, each opened by a click.
-import { $, all, now, escaped } from './now.js';
-import { drawn, gone_through, stop_orders, ORDERS_SECONDS } from './asks.js';
+import { $, all, now, escaped, text_of } from './now.js';
+import { drawn, gone_through, played, stop_orders, ORDERS_SECONDS } from './asks.js';
 import { why_of } from './reads.js';
 import { ask_of } from './text.js';
 
@@ -14,7 +14,8 @@ export function verdict_of(it) {
   const why = why_of(it.err);
   const doubt = it.asks ? it.doubts[0] : '';
   if (it.status === -2) return ['unknown', `Not answered: ${why}. Fewer callers or fewer steps have fewer orders.`];
-  if (it.against.length) return ['bad', `No: outcome ${it.against.join(', ')} contradicts what is asked.`];
+  const several = it.against.length > 1;
+  if (it.against.length) return ['bad', `No: outcome${several ? 's' : ''} ${it.against.join(', ')} contradict${several ? '' : 's'} what is asked.`];
   if (it.status === 1) return ['bad', `No: ${why}.`];
   if (it.cut) return ['unknown', `Not answered: cut off; nothing is known about longer orders (${it.orders} ended).`];
   if (it.status) return ['bad', `The orders were not explored: ${why}`];
@@ -53,18 +54,20 @@ function outcome_row(o, i, it, sum) {
   const stuck = o.stuck.map(says => `<b class="refused">stuck: ${escaped(says)}</b>`);
   const ends = [...stuck, ...o.ends.map(escaped)].join('<br>');
   const answers = o.answers.map(a => escaped(a.replace(' -> ', ': ').replace(/ -> /g, ', '))).join('<br>');
-  const opens = o.text ? ` <button data-open="${i}" aria-label="Open outcome ${o.number}">Open</button>` : '';
+  const opens = ` <button data-open="${i}" aria-label="Open outcome ${o.number}">Open</button>`;
   return `<tr class="${bad ? 'bad' : ''}"><th scope="row">${o.number}${sign}${opens}</th><td class="n">${o.count}`
     + `<i style="width:${(60 * o.count / sum).toFixed(0)}px"></i></td><td>${ends}</td><td>${answers}</td>`
     + `<td>${escaped(o.order)}</td></tr>`
-    + (o.text ? `<tr class="picture" hidden><td colspan="5" data-picture="${i}"></td></tr>` : '');
+    + `<tr class="picture" hidden><td colspan="5" data-picture="${i}"></td></tr>`;
 }
 /** @param {string | number} n @param {string} what */
 const count_text = (n, what) => `${n} ${what}${String(n) === '1' ? '' : 's'}`;
+/** Whether there is an order to show: a scenario, or one of atomic steps. @param {any} it */
+const can_open = it => it.text || it.order;
 /** A question about moments, with what was found. @param {any} s @param {number} i */
 function state_row(s, i) {
   const sign = s.against ? ' ✗<span class="heard"> against what is asked</span>' : '';
-  const opens = s.text ? ` <button data-open="${i}" aria-label="Open state ${s.number}">Open</button>` : '';
+  const opens = can_open(s) ? ` <button data-open="${i}" aria-label="Open state ${s.number}">Open</button>` : '';
   return `<tr class="${s.against ? 'bad' : ''}"><th scope="row">${s.number}${sign}${opens}</th><td>${escaped(s.key)}</td>`
     + `<td><code>${escaped(s.asks)}</code></td><td>${escaped(s.found)}</td><td>${escaped(s.order)}</td></tr>`;
 }
@@ -77,11 +80,11 @@ export const image_of = (svg, says) =>
   `<img src="data:image/svg+xml,${encodeURIComponent(svg)}" alt="${escaped(says)}" loading="lazy">`;
 /** Draws the first order of each outcome below its row, one after the other; a click opens it. */
 export async function show_pictures() {
-  const it = shown, bank = $('bank').value;
+  const it = shown;
   $('pictures').hidden = true;
   for (const cell of all('#outcomes [data-picture]').slice(0, MOST_PICTURES)) {
-    const o = all_parts(it)[Number(cell.dataset.picture)], text = { kind: 'play', text: o.text, bank };
-    const svg = await drawn(text, Promise.resolve({ out: '' }));
+    const o = all_parts(it)[Number(cell.dataset.picture)], text = text_of(view_of(o));
+    const svg = await drawn(text, text.turns ? played(text) : Promise.resolve({ out: '' }));
     if (it !== shown) return;
     cell.parentElement.hidden = false;
     cell.innerHTML = svg.out ? `<button data-open="${cell.dataset.picture}">`
@@ -100,24 +103,25 @@ function show_orders(it) {
   $('doubts').innerHTML = it.doubts.map(doubt => `<li>${escaped(doubt)}</li>`).join('');
   const heads = ['outcome', 'orders', 'ends', 'answers of each caller', 'first order'];
   const rows = it.outcomes.slice(0, MOST_OUTCOMES).map((o, i) => outcome_row(o, it.states.length + i, it, sum));
-  $('pictures').hidden = !it.outcomes.some((/** @type {any} */ o) => o.text);
+  $('pictures').hidden = !rows.length;
   const rest = it.outcomes.length - rows.length, head = heads.map(h => `<th scope="col">${h}</th>`).join('');
   $('outcomes').innerHTML = states_table(it.states) + (!rows.length ? '' : `<table><caption>${count_text(it.orders, 'order')}, ${count_text(it.outcomes.length, 'outcome')}, `
-    + `${(it.ms / 1000).toFixed(2)} s. ${it.outcomes.some(o => o.text) ? 'The first order of each outcome opens as trace and picture.' : ''}</caption>`
+    + `${(it.ms / 1000).toFixed(2)} s. The first order of each outcome opens as trace and picture.</caption>`
     + `<thead><tr>${head}</tr></thead><tbody>${rows.join('')}</tbody></table>`
     + (rest > 0 ? `<p>and ${rest} more outcomes</p>` : ''));
 }
 /** What opens as trace and picture: what was found of moments, and outcomes. @param {any} it */
 const all_parts = it => [...it.states, ...it.outcomes];
-/** Of a moment its last step is looked at. @param {any} it */
-const view_of = it => it.asks
-  ? { text: it.text, title: `State ${it.number} (${it.asks}), in the order ${it.order || 'of no step'}`, step: Infinity }
-  : { text: it.text, title: `Outcome ${it.number} (${it.count} orders), in the order ${it.order}`, step: 0 };
+/** The last step is looked at: a moment is as was asked there, or the order ends so. @param {any} it */
+const view_of = it => ({ step: Infinity, ...it.text ? { text: it.text }
+  : { text: $('text').value, turns: [it.asks ? '--state' : '--outcome', it.number] }, title: it.asks
+  ? `State ${it.number} (${it.asks}), in the order ${it.order || 'of no step'}`
+  : `Outcome ${it.number} (${count_text(it.count, 'order')}), in the order ${it.order}` });
 /** What is against what is asked, or else the first outcome. @param {any} it */
 export function first_view(it) {
   const bad = it.outcomes.find((/** @type {any} */ o) => it.against.includes(o.number))
-    || it.states.find((/** @type {any} */ s) => s.against && s.text) || it.outcomes[0];
-  return bad?.text ? view_of(bad) : null;
+    || it.states.find((/** @type {any} */ s) => s.against && can_open(s)) || it.outcomes[0];
+  return bad ? view_of(bad) : null;
 }
 /** @param {number} i */
 export const part_shown = i => view_of(all_parts(shown)[i]);

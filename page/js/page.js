@@ -1,5 +1,5 @@
 // The page: lessons, tabs, bars, keys, and what is done when a text changes.
-import { $, all, now, on, text_now, NARROW } from './now.js';
+import { $, all, escaped, now, on, text_now, NARROW } from './now.js';
 import { begin_program, calls, checked, converted, run, stop_orders, stop_runs } from './asks.js';
 import { close_offers, offer_calls, offer_key, take_offer } from './complete.js';
 import { begin_console, console_key, offer_in_line, say, scenario_of_console } from './console.js';
@@ -18,6 +18,8 @@ import { draw_again, fill_trace, know_bank, play_text, show_none, show_state, tu
 import { has_callers, has_words, is_lines, kind_of, steps_of, KINDS } from './text.js';
 
 const LISTED = 1400, WAIT = 40;
+/** The lessons of the page, in their order. @type {any[]} */
+let lessons = [];
 /** @type {number | undefined} */
 let timer;
 /** When the text was edited last: the first edit after a rest is answered at once, what follows when it rests. */
@@ -63,7 +65,7 @@ async function play() {
     if (mine === now.turn) await play_orders(mine);
   } else if (now.kind === 'bank' || now.kind === 'empty') {
     now.told = await checked(text_now());
-    show_none(now.kind === 'empty' ? 'The text is empty.' : 'These are handlers: they belong in their own tab.');
+    show_none(now.kind === 'empty' ? 'The text is empty.' : 'These are callbacks: they belong in their own tab.');
   } else {
     const shown = play_text(mine), [told, answer] = await Promise.all([checked(text_now()), shown]);
     if (mine !== now.turn) return;
@@ -89,14 +91,14 @@ async function play_orders(mine) {
   if ([0, 1, 5].includes(answer.status)) now.told = now.told.filter(it => !it.fault);
   else if (!now.told.length || has_callers($('text').value)) now.told = answer.told;
   now.viewed = first_view(answer);
-  if (!now.viewed) return show_none(answer.outcomes.length ? 'Outcomes of atomic steps have no trace: their orders are in the table.'
-    : 'There is no outcome to show.');
+  if (!now.viewed) return show_none('There is no outcome to show.');
   await play_text(mine, now.viewed.step);
 }
 function changed_text() {
   now.steps = steps_of($('text').value);
   paint();
   keep_texts();
+  $('status').textContent = '';
   document.body.dataset.waits = 'yes';
   clearTimeout(timer);
   const rests = performance.now() - edited > WAIT;
@@ -104,12 +106,23 @@ function changed_text() {
   if (rests) play();
   else timer = setTimeout(play, WAIT);
 }
+/** The way on, at the end of a lesson. @param {any} it */
+function next_of(it) {
+  const next = lessons[lessons.indexOf(it) + 1];
+  return it.story && next && lessons.includes(it) ? `<p><button id="next">Next: ${escaped(next.title)} ▶</button></p>` : '';
+}
+/** Opens what was chosen, and goes to its name. @param {any} it */
+function choose(it) {
+  $('status').textContent = '';
+  open_lesson(it);
+  $('name').focus();
+}
 /** @param {any} it @param {boolean} plain  whether its own text is taken, whatever is kept of it */
 async function open_lesson(it, plain = false) {
   now.lesson = it;
   now.shown = 0;
   add_mine(it);
-  show_mine(open_mine);
+  show_mine(choose);
   $('name').contentEditable = String(Boolean(it.own));
   $('name').tabIndex = it.own ? 0 : -1;
   for (const button of all('#list button')) {
@@ -122,7 +135,8 @@ async function open_lesson(it, plain = false) {
   document.title = `${it.title} - the lab`;
   $('text').value = (plain ? null : kept.get('text ' + it.key)) ?? it.text;
   $('bank').value = (plain ? null : kept.get('bank ' + it.key)) ?? (it.bank || '');
-  $('story').innerHTML = it.story || '';
+  $('story').innerHTML = (it.story || '') + next_of(it);
+  $('find').value = $('found').textContent = '';
   $('story-tab').hidden = !it.story || it.exercise;
   $('editor').scrollTop = $('side-story').scrollTop = 0;
   kept.set('last', it.key);
@@ -137,13 +151,8 @@ async function open_lesson(it, plain = false) {
   open_tab(innerWidth <= NARROW && it.story ? 'left' : orders ? 'orders' : tab === 'orders' ? 'walk' : tab);
   return play();
 }
-/** @param {any} it */
-function open_mine(it) {
-  open_lesson(it);
-  $('name').focus();
-}
 function rename_text() {
-  if (rename($('name').textContent)) show_mine(open_mine);
+  if (rename($('name').textContent)) show_mine(choose);
   $('name').textContent = now.lesson.title;
   document.title = `${now.lesson.title} - the lab`;
 }
@@ -227,8 +236,8 @@ async function compare() {
   $('compared').textContent = `${same} of ${stored.length} are the same, ${seconds} s`
     + (differ.length ? `; not ${differ.join(', ')}` : '');
 }
-/** What a link brought, as a lesson; a link that can't be read is reported. @param {any[]} lessons */
-async function lesson_of_link(lessons) {
+/** What a link brought, as a lesson; a link that can't be read is reported. */
+async function lesson_of_link() {
   try {
     const it = await handed();
     if (!it) return null;
@@ -247,7 +256,7 @@ async function lesson_of_link(lessons) {
     return null;
   }
 }
-/** A text from a file: handlers go to their own tab; another text or an exercise is a lesson. @param {File} file */
+/** A text from a file: callbacks go to their own tab; another text or an exercise is a lesson. @param {File} file */
 async function take_file(file) {
   const text = (await file.text()).replace(/\r\n/g, '\n'), exercise = read_exercise(text);
   if (exercise) return open_lesson({ ...exercise, own: true }, true);
@@ -259,7 +268,7 @@ async function take_file(file) {
 }
 function save_text() {
   const bank = !$('side-bank').hidden, title = now.lesson.title.toLowerCase().replace(/\.(toml|txt)$/, '');
-  const name = bank ? 'handlers' : title.replace(/[^a-z0-9]+/g, '_').replace(/^_+|_+$/g, '') || 'scenario';
+  const name = bank ? 'callbacks' : title.replace(/[^a-z0-9]+/g, '_').replace(/^_+|_+$/g, '') || 'scenario';
   const text = $(bank ? 'bank' : 'text').value;
   save_file(name + (is_lines(text) ? '.txt' : '.toml'), text);
 }
@@ -326,7 +335,11 @@ function wire_views() {
     if (it) show_state(Number(it.dataset.step));
   };
   on('lines', 'click', to_step);
-  on('story', 'click', to_step);
+  on('story', 'click', event => {
+    if (event.target.id === 'next') choose(lessons[lessons.indexOf(now.lesson) + 1]);
+    else to_step(event);
+    if (event.target.dataset.step && innerWidth <= NARROW) open_tab('walk');
+  });
   on('drawing', 'click', to_step);
   on('slider', 'input', () => show_state(Number($('slider').value)));
   for (const it of all('[data-walk]')) it.onclick = () => walk(it.dataset.walk);
@@ -366,6 +379,7 @@ function wire_views() {
   });
 }
 function wire_head() {
+  on('more', 'click', () => $('more').setAttribute('aria-expanded', String(document.body.classList.toggle('more'))));
   on('lessons-button', 'click', () => show_list(!document.body.classList.contains('listed')));
   on('open', 'click', () => $('file').click());
   on('file', 'change', event => {
@@ -422,8 +436,7 @@ function wire_head() {
     () => !is_wide() && !is_down());
   split('split-picture', () => is_wide() ? '--wide' : '--top', 15, 85, is_wide);
 }
-/** @param {any[]} lessons */
-function list_lessons(lessons) {
+function list_lessons() {
   let group = '', section = $('texts');
   section.innerHTML = '<section id="mine"></section>';
   for (const it of lessons) {
@@ -436,12 +449,12 @@ function list_lessons(lessons) {
     const button = document.createElement('button');
     button.textContent = it.title;
     button.dataset.key = it.key;
-    button.onclick = () => { open_lesson(it); $('name').focus(); };
+    button.onclick = () => choose(it);
     section.append(button);
   }
 }
-/** Hides the lessons that have not all of the words that are sought. @param {any[]} lessons */
-function seek(lessons) {
+/** Hides the lessons that have not all of the words that are sought. */
+function seek() {
   const asked = $('seek').value.trim(), found = new Set(lessons.filter(it => has_words(it, asked)).map(it => it.key));
   for (const button of all('#texts section:not(#mine) button')) button.hidden = !found.has(button.dataset.key);
   for (const section of all('#texts section:not(#mine)')) section.hidden = !section.querySelector('button:not([hidden])');
@@ -451,10 +464,10 @@ async function start() {
   begin_program(await part_of('lab.wasm'));
   const given = await json_of('lessons.json');
   know_bank(new TextDecoder().decode(await part_of('program.toml')));
-  const lessons = given.map((/** @type {any} */ it) =>
+  lessons = given.map((/** @type {any} */ it) =>
     it.exercise ? exercise_lesson(it.exercise) : { key: `${it.group} ${it.title}`, ...it });
-  list_lessons(lessons);
-  on('seek', 'input', () => seek(lessons));
+  list_lessons();
+  on('seek', 'input', seek);
   wire_texts();
   wire_views();
   wire_head();
@@ -467,12 +480,12 @@ async function start() {
     if (innerWidth > NARROW && tab_now() === 'left') open_tab('walk');
     draw_again();
   };
-  window.onhashchange = async () => { const it = await lesson_of_link(lessons); if (it) open_lesson(it); };
+  window.onhashchange = async () => { const it = await lesson_of_link(); if (it) open_lesson(it); };
   $('way').value = kept.get('way') || '';
   show_list(innerWidth >= LISTED);
   open_tab(innerWidth <= NARROW ? 'left' : 'walk');
   const last = lessons.find((/** @type {any} */ it) => it.key === kept.get('last')) || mine_of(kept.get('last'));
-  await open_lesson(await lesson_of_link(lessons) || last || lessons[0]);
+  await open_lesson(await lesson_of_link() || last || lessons[0]);
   offer_calls(await calls());
   document.body.dataset.ready = 'yes';
 }

@@ -1,7 +1,7 @@
 // What the program printed, read: what was found in texts, lines of a trace, outcomes of orders, the list of calls.
 import { HOLE } from './text.js';
 
-export const FILE = 'scenario.toml', BANK = 'handlers.toml';
+export const FILE = 'scenario.toml', BANK = 'callbacks.toml';
 /** @typedef {{ fault: boolean, bank?: boolean, line?: number, column: number, says: string, where: string }} Told */
 
 /** A place in a text: bytes are counted there, characters here. @param {string[]} lines */
@@ -10,17 +10,17 @@ function place_in(lines, /** @type {number} */ line, /** @type {number} */ byte)
   return { line: line - 1, column: new TextDecoder().decode(whole.slice(0, byte - 1)).length };
 }
 /**
- * What `lab check --json` found in a text and in its handlers, each with its place: a fault, a warning at its step, or a
+ * What `lab check --json` found in a text and in its callbacks, each with its place: a fault, a warning at its step, or a
  * step that is answered otherwise than the text expects.
  * @param {string} out @param {string} text @param {{ from: number, to: number }[]} steps @returns {Told[]}
  */
-export function read_notices(out, text, steps, handlers = '') {
-  const lines = { [FILE]: text.split('\n'), [BANK]: handlers.split('\n') };
+export function read_notices(out, text, steps, callbacks = '') {
+  const lines = { [FILE]: text.split('\n'), [BANK]: callbacks.split('\n') };
   return out.split('\n').filter(Boolean).map(line => {
-    const it = JSON.parse(line), bank = it.file === BANK, own = bank ? 'handlers, ' : '';
+    const it = JSON.parse(line), bank = it.file === BANK, own = bank ? 'callbacks, ' : '';
     const at = it.line ? place_in(lines[it.file], it.line, it.byte || 1)
       : { line: bank ? undefined : steps[it.step - 1]?.from, column: 0 };
-    const where = it.line ? `${own}line ${it.line}` : it.step ? `step ${it.step}` : bank ? 'in the handlers' : '';
+    const where = it.line ? `${own}line ${it.line}` : it.step ? `step ${it.step}` : bank ? 'in the callbacks' : '';
     const hole = at.line !== undefined && lines[it.file][at.line]?.includes(HOLE), says = hole ? `a hole (${HOLE}) to fill` : it.says;
     return { fault: it.kind !== 'warning', ...bank ? { bank } : {}, ...at, says, where };
   });
@@ -92,6 +92,16 @@ function read_outcome(part) {
   const { notes, by, order, text } = read_part(rest), answers = notes.filter(it => /^T\d+ ->/.test(it));
   return { number, count, answers, stuck: by('stuck: '), order,
     ends: notes.filter(it => !/^(T\d+ ->|stuck: |order: )/.test(it)), text };
+}
+/**
+ * Whether an outcome is against `always_ends`, or has an answer of `never`: the program names the first such outcome alone.
+ * @param {{ stuck: string[], answers: string[] }} outcome @param {string} asks
+ */
+export function is_against({ stuck, answers }, asks) {
+  const never = [...asks.matchAll(/"\s*(T\d+)\s*->\s*([^"]*?)\s*"/g)].map(it => [it[1], it[2]]);
+  const given = answers.map(line => line.split(' -> '));
+  return /^\s*always_ends\s*=\s*true/m.test(asks) && stuck.length > 0
+    || never.some(([who, answer]) => given.some(it => it[0] === who && it.slice(1).includes(answer)));
 }
 /**
  * What `lab orders` printed: how many orders, what may not be meant so, what was found of each question about moments,

@@ -43,8 +43,8 @@ function thread_of(state, n, it) {
 const threads_text = (/** @type {number[]} */ threads) => threads.map(n => 'T' + n).join(', ');
 const waiting_text = (/** @type {number[]} */ queue) => queue.length ? `, ${threads_text(queue)} waiting` : '';
 /** @param {any} stage */
-const stage_text = stage => (stage.stalled ? 'stalled, ' : '')
-  + (stage.pending.length ? `pending ${stage.pending.join(' ')}` : 'nothing pending');
+const stage_text = stage => (stage.stalled ? 'stalled; ' : '')
+  + (stage.pending.map((/** @type {number} */ n) => n ? `line ${n}` : 'clock').join(', ') || 'nothing') + ' pending';
 /** @param {any} it */
 const way_text = it => `${it.bytes} bytes` + (it.writing.length ? `, ${threads_text(it.writing)} writing` : '')
   + (it.reading.length ? `, ${threads_text(it.reading)} reading` : '');

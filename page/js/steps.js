@@ -9,10 +9,14 @@ import { state_table } from './states.js';
 import { actions_of, HOLE, passes_at, plays_at } from './text.js';
 
 const MOST_THREADS = 12, MARKS = 2000;
+/** The columns of the table of threads, and what each says. */
+const COLUMNS = [['thread', ''], ['stage', 'oob: out-of-band'], ['policy', 'none: the core does not know the thread'],
+  ['rank', 'f: fifo or rr, q: quota, w: weak; ↑: inherited, or a ceiling'], ['state', 'picked: it would run'],
+  ['wait', 'what it waits for, or how its wait ended'], ['holds', 'its passes']];
 /** The picture that is shown: of which text and trace, and which page of how many. */
 const NO_PICTURE = { it: { kind: '', text: '', bank: '' }, out: '', title: '', page: 1, pages: 1 };
 let shown_picture = NO_PICTURE;
-/** The program's own callbacks, where the text has no handlers of its own. */
+/** The program's own callbacks, where the text has none of its own. */
 let own_bank = '';
 export const know_bank = (/** @type {string} */ text) => { own_bank = text; };
 /** The lines of each step, by their places in the trace. @type {Map<number, number[]>} */
@@ -136,8 +140,7 @@ function cell(text, was, head) {
 function show_table(at, before, step) {
   const were = new Map(before.threads.map(it => [it[0], it])), had = new Map(before.rows);
   const when = step ? `After step ${step}; what it changed is marked` : 'At the start';
-  const names = ['thread', 'stage', 'policy', 'rank', 'is', 'its wait', 'holds'].slice(0, at.threads[0]?.length);
-  const heads = names.map(it => `<th scope="col">${it}</th>`);
+  const heads = COLUMNS.slice(0, at.threads[0]?.length).map(([it, says]) => `<th scope="col" title="${says}">${it}</th>`);
   const row_of = it => `<tr>${it.map((text, i) => cell(text, were.get(it[0])?.[i], !i)).join('')}</tr>`;
   const threads = at.threads.map(row_of);
   const rows = at.rows.map(([of, says]) => {
@@ -243,7 +246,7 @@ function show_played(it, answer, svg, title) {
 export async function play_text(mine, step) {
   // All is asked at once: one worker plays and makes the machine, another draws; the trace is shown when it is there.
   const it = text_now(), trace = played(it), picture = drawn(it, trace, way_now());
-  const made = it.kind === 'callers' ? null : machine_of(it), answer = await trace;
+  const made = it.kind === 'play' ? machine_of(it) : null, answer = await trace;
   // Lanes and their lines come together.
   if (mine === now.turn && answer.out && !lanes.wide) show_trace(answer.entries);
   const svg = await picture;
@@ -259,6 +262,7 @@ export async function play_text(mine, step) {
   const undrawn = answer.out && !svg.out;
   $('note').textContent = undrawn ? `not drawn: ${why_of(svg.err)}` : '';
   $('viewed').hidden = !now.viewed;
+  $('viewed-take').hidden = it.kind === 'turns';
   $('viewed-title').textContent = now.viewed ? title : '';
   const memory = (Math.max(answer.memory, svg.memory) / 1048576).toFixed(1);
   $('times').textContent = `play ${answer.ms.toFixed(1)} ms, draw ${svg.ms.toFixed(1)} ms, memory ${memory} MiB`;

@@ -8,7 +8,7 @@ export const CALLERS_WORDS = { try_lock_stax: ['stax', 'as'], unlock_stax: ['pas
   begin_lock_mutex: ['mutex', 'until', 'as'], finish_lock_mutex: ['as'], try_unlock_mutex: ['pass'],
   unlock_mutex_fast: ['pass'], take: [], give: [] };
 /** @type {Record<string, string>} */
-export const KINDS = { play: 'scenario', orders: 'orders', callers: 'callers', bank: 'handlers', empty: 'empty' };
+export const KINDS = { play: 'scenario', orders: 'orders', callers: 'callers', bank: 'callbacks', empty: 'empty' };
 
 /** A line without its comment; a # in quotes begins none. @param {string} line */
 export function bare_of(line) {
@@ -172,7 +172,7 @@ export function lost_line(given, text) {
   }
   return null;
 }
-/** What each callback of handlers says that it does, by its number. @param {string} text */
+/** What each callback of a bank says that it does, by its number. @param {string} text */
 export const actions_of = text => text.split('\n').map(line => bare_of(line).trim()).join('\n')
   .split(/^\[\[\s*callback\s*\]\]$/m).slice(1)
   .map(part => part.split('\n').filter(Boolean).join(' ') || 'handles each event, and asks for nothing');

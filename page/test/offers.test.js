@@ -35,7 +35,7 @@ test('values of a board and of what is asked', () => {
   assert.deepEqual(at('[ask]\nalways_ends = |', 'orders')?.words, ['true']);
   assert.equal(at('[ask]\nnever = |', 'orders'), null);
 });
-test('tables, the board and the handlers', () => {
+test('tables, the board and the callbacks', () => {
   assert.deepEqual(at('[|')?.words, ['[board]', '[[step]]']);
   assert.deepEqual(at('[[se|', 'orders')?.words, ['[ask]', '[[setup]]', '[[step]]', '[board]']);
   assert.ok(at('[board]\nthreads = 1\n|')?.words.includes('sems = '));

@@ -1,7 +1,7 @@
 // node --test test/: what the program printed, read.
 import assert from 'node:assert/strict';
 import test from 'node:test';
-import { read_calls, read_notices, read_orders, read_refused, read_trace, why_of } from '../js/reads.js';
+import { is_against, read_calls, read_notices, read_orders, read_refused, read_trace, why_of } from '../js/reads.js';
 
 test('a trace has entries, plays and other lines', () => {
   const it = read_trace('board threads=1\n1 T0 put sem=0 -> done\n  line 5 oob count 1 none\n- T0 now -> HistoryFull\n'
@@ -16,18 +16,18 @@ const notice = it => JSON.stringify({ file: 'scenario.toml', kind: 'fault', line
 test('what is found has its place, in characters, or that of its step', () => {
   const text = '# é\n[board]\nü = 1\n[[step]]\ndo = "x"\n', steps = [{ from: 3, to: 4 }];
   const told = read_notices([{ line: 3, byte: 1 }, { line: 1, byte: 5 }, { kind: 'warning', step: 1 }, { kind: 'warning' },
-    { kind: 'unexpected', line: 5, step: 1 }, { file: 'handlers.toml', kind: 'unread', says: 'no file' }].map(notice).join('\n'), text, steps);
+    { kind: 'unexpected', line: 5, step: 1 }, { file: 'callbacks.toml', kind: 'unread', says: 'no file' }].map(notice).join('\n'), text, steps);
   assert.deepEqual(told.map(it => [it.fault, it.line, it.column, it.where]), [
     [true, 2, 0, 'line 3'], [true, 0, 3, 'line 1'], [false, 3, 0, 'step 1'], [false, undefined, 0, ''],
-    [true, 4, 0, 'line 5'], [true, undefined, 0, 'in the handlers']]);
+    [true, 4, 0, 'line 5'], [true, undefined, 0, 'in the callbacks']]);
 });
 test('a hole is no fault of the one who fills it', () => {
   const [told] = read_notices(notice({ line: 2, byte: 6, says: 'there is no call "____"' }), '[[step]]\ndo = "____"\n', []);
   assert.deepEqual([told.says, told.where], ['a hole (____) to fill', 'line 2']);
 });
-test('what is found in handlers has its place in the handlers', () => {
-  const told = read_notices(notice({ file: 'handlers.toml', line: 2, byte: 8, says: 'no key' }), '', [], '# a\ndo = "é" x\n');
-  assert.deepEqual(told, [{ fault: true, bank: true, line: 1, column: 7, says: 'no key', where: 'handlers, line 2' }]);
+test('what is found in callbacks has its place there', () => {
+  const told = read_notices(notice({ file: 'callbacks.toml', line: 2, byte: 8, says: 'no key' }), '', [], '# a\ndo = "é" x\n');
+  assert.deepEqual(told, [{ fault: true, bank: true, line: 1, column: 7, says: 'no key', where: 'callbacks, line 2' }]);
 });
 test('why a part refuses a text has a place, or none', () => {
   const told = read_refused('scenario.toml:2:2: no key "b"\nlab: scenario.toml: bad board\n', 'a\nüb\n');
@@ -81,4 +81,10 @@ test('the list of calls has keys, values and answers', () => {
   assert.equal(calls.get('finish')?.keys.get('keep')?.must, false);
   assert.deepEqual(calls.get('finish')?.answers, ['done', 'bits 0', 'bytes 00']);
   assert.deepEqual(refusals, ['Unknown']);
+});
+test('each outcome that is against what is asked is found, though the program names the first alone', () => {
+  const stuck = { stuck: ['T1 waits for sem 1'], answers: ['T1 -> begun'] }, late = { stuck: [], answers: ['T0 -> done', 'T1 -> begun -> timed out'] };
+  assert.deepEqual([stuck, late].map(it => is_against(it, '[ask]\nalways_ends = true')), [true, false]);
+  assert.deepEqual([stuck, late].map(it => is_against(it, '[ask]\nnever = ["T0 -> timed out",\n " T1 ->  timed out "]')), [false, true]);
+  assert.deepEqual([stuck, late].map(it => is_against(it, '[ask]\nnever = ["T1 -> timed"]\nnever_state = ["T1 picked"]')), [false, false]);
 });

@@ -24,7 +24,7 @@ test('a state has its threads, attached or not, and a row for each element', () 
   assert.deepEqual([...rows], [['mutex 0', 'no owner'], ['mutex 1', 'owner T1, T2, T5 waiting'],
     ['sem 0', '0, T5, T2 waiting'], ['sem 1', '3'], ['flags 0', '5'],
     ['xbuf 0', 'in 2 bytes, T5 writing; out 0 bytes'], ['ready list', 'T1, T4'],
-    ['out-of-band', 'stalled, pending 3 5'], ['in-band', 'nothing pending'],
+    ['out-of-band', 'stalled; line 3, line 5 pending'], ['in-band', 'nothing pending'],
     ['timer 0', 'next 50 interval 0'], ['timer 1', 'idle'], ['date', '7 ns']]);
 });
 test('a state is a line, and great numbers stay whole', () => {
