@@ -8,6 +8,8 @@ onmessage = async event => {
   const heard = (/** @type {Uint8Array} */ part) => postMessage({ id, heard: text_of([part]) });
   if (code) {
     compiled = WebAssembly.compile(code);
+    const says = () => postMessage({ compiled: true });
+    compiled.then(says, says);
     return;
   }
   const begun = performance.now();

@@ -7,6 +7,8 @@ import os from 'node:os';
 import path from 'node:path';
 
 const sleep = ms => new Promise(done => setTimeout(done, ms));
+// On a busy machine each wait may be so many times as long.
+const SLOW = Number(process.env.SLOW) || 1;
 // Control is 2 and Alt 1 in the numbers of DevTools.
 const CODES = { Tab: 9, Enter: 13, Escape: 27, ' ': 32, End: 35, Home: 36, ArrowLeft: 37, ArrowUp: 38, ArrowRight: 39,
   ArrowDown: 40, Backspace: 8 };
@@ -31,11 +33,11 @@ class Browser {
   /** Waits until an expression holds. */
   async until(expression, ms = 20000) {
     const begun = Date.now();
-    while (Date.now() - begun < ms) {
+    while (Date.now() - begun < ms * SLOW) {
       if (await this.evaluate(`Boolean(${expression})`).catch(() => false)) return;
       await sleep(40);
     }
-    throw new Error(`${this.name}: not within ${ms} ms: ${expression}`);
+    throw new Error(`${this.name}: not within ${ms * SLOW} ms: ${expression}`);
   }
   /** Clicks in the middle of the first element of a selector, as a pointer does. */
   async click(selector) {

@@ -19,7 +19,7 @@ try {
   await page.put((await page.value('text')).replace('do = "arrive"', 'do = "arive"').replace('line = 5', 'lien = 5'));
   await browser.evaluate(`document.getElementById('editor').scrollTop = 0`);
   await take('faults');
-  await page.lesson('Two locks');
+  await page.lesson('Two locks', 'story');
   await browser.until(`document.getElementById('verdict').textContent.startsWith('No: ')`);
   await take('orders');
   await page.lesson('1. Ranks along a chain');

@@ -55,13 +55,20 @@ export class Runner {
   }
   begun() {
     const worker = new_worker();
+    this.is_ready = false;
     worker.onmessage = event => {
-      const { id, heard } = event.data;
-      if (heard === undefined) this.answered(id, event.data);
+      const { id, heard, compiled } = event.data;
+      if (compiled) this.ready();
+      else if (heard === undefined) this.answered(id, event.data);
       else this.asked.get(id)?.heard(heard);
     };
     worker.postMessage({ code: this.code });
     return worker;
+  }
+  /** The code is compiled, which takes long on a slow device: the time of what was asked begins now. */
+  ready() {
+    this.is_ready = true;
+    for (const it of this.asked.values()) it.begin();
   }
   /** @param {number} id @param {Answer} answer */
   answered(id, answer) {
@@ -86,8 +93,11 @@ export class Runner {
    */
   ask(words, files = {}, input = '', seconds = RUN_SECONDS, heard) {
     return new Promise(done => {
-      const id = ++this.last, timer = setTimeout(() => this.stop(`stopped after ${seconds} s`), seconds * 1000);
-      this.asked.set(id, { done, at: performance.now(), timer, heard });
+      const id = ++this.last, it = { done, at: performance.now(), timer: 0, heard, begin: () => {
+        it.timer = setTimeout(() => this.stop(`stopped after ${seconds} s`), seconds * 1000);
+      } };
+      this.asked.set(id, it);
+      if (this.is_ready) it.begin();
       this.worker.postMessage({ id, words: ['lab', ...words], files, input, hears: Boolean(heard) });
     });
   }
