@@ -822,6 +822,19 @@ async function keyboard(page) {
     }).map(it => it.outerHTML.slice(0, 80))`);
   assert.deepEqual(unnamed, []);
 }
+/** Where there is little room the head's buttons are behind one, and a line of a lesson opens the steps. */
+async function narrow(page) {
+  const { browser } = page, seen = () => browser.evaluate(`document.getElementById('tools').offsetParent !== null`);
+  assert.equal(await seen(), false);
+  await browser.click('#more');
+  assert.equal(await seen(), true);
+  await browser.click('#more');
+  await page.tab('left');
+  await browser.click('#story-tab');
+  await browser.click('#story .at[data-step="3"]');
+  await page.step(3);
+  assert.equal(await browser.evaluate(`document.getElementById('walk').hidden`), false);
+}
 /** Each width has no more than the window across, and shows what it should. */
 async function widths(page) {
   const { browser } = page;
@@ -831,7 +844,7 @@ async function widths(page) {
     await sleep(200);
     const across = await browser.evaluate('[document.documentElement.scrollWidth, innerWidth]');
     assert.ok(across[0] <= across[1], `at ${width}: ${across}`);
-    if (width <= 760) await page.tab('walk');
+    if (width <= 760) await narrow(page);
     await browser.evaluate(`document.querySelector('#lines [data-step="6"]').click()`);
     await page.step(6);
     await page.shot(`width_${width}`);

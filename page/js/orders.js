@@ -87,7 +87,7 @@ export async function show_pictures() {
     const svg = await drawn(text, text.turns ? played(text) : Promise.resolve({ out: '' }));
     if (it !== shown) return;
     cell.parentElement.hidden = false;
-    cell.innerHTML = svg.out ? `<button data-open="${cell.dataset.picture}">`
+    cell.innerHTML = svg.out ? `<button data-open="${cell.dataset.picture}" aria-label="Open outcome ${o.number}">`
       + `${image_of(svg.out, `Picture of outcome ${o.number}`)}</button>` : escaped(why_of(svg.err));
   }
 }

@@ -34,8 +34,8 @@ function lanes_of(lines) {
   }
   return { lanes, found, end };
 }
-/** A line of the picture with bold ranks. @param {string} line */
-const ranked = line => line.replace(/font-size="7">(?=[frqw])/g, 'font-size="7" font-weight="bold">');
+/** A line of the picture with bold ranks, and what is lent clear above its own. @param {string} line */
+const ranked = line => line.replace(/font-size="7">(?=[frqw])/g, 'font-size="7" font-weight="bold">').replace(/ y="-12.5"/g, ' y="-14"');
 /** A mark with its number below it, and the number of a played line above. @param {string} line @param {Band} band */
 function mark_of(line, says, number, band, y) {
   const played = says.match(/^\s+line (\d+) /), entry = /^\d/.test(says);
