@@ -172,16 +172,20 @@ PLAYS = [
     (lambda: evlsim.play(5), TypeError, "text is 5"),
     (lambda: evlsim.play(pathlib.Path("/etc/passwd")), TypeError, "read_text()"),
     (lambda: evlsim.play("x"), evlsim.BadText, "'x'"),
-    (lambda: evlsim.play("scenarios/first_semaphore.toml"), evlsim.BadText, "no TOML"),
+    (lambda: evlsim.play("x"), evlsim.BadText, "bad text: line 1, byte 2: no TOML"),
+    (lambda: evlsim.play("scenarios/first_semaphore.toml"), evlsim.BadText, "its name (path.read_text())"),
     (lambda: evlsim.play(SMALL + "\0"), evlsim.BadText, ""),
     (lambda: evlsim.play("\ud800"), evlsim.BadText, "UTF-8"),
-    (lambda: evlsim.play("#" * 1048577), evlsim.BadText, "1,048,576"),
-    (lambda: evlsim.play(""), BAD, "board"),
+    (lambda: evlsim.play("#" * 1048577), evlsim.BadText, "the text has more than 1048576 bytes"),
+    (lambda: evlsim.play(""), BAD, 'bad board: line 1, byte 1: the board needs a key "threads"'),
+    (lambda: evlsim.play(SMALL + "sems = 1\n"), BAD, "bad board: line 3, byte 8: sems = 1: a list"),
+    (lambda: evlsim.play(SMALL + "staxes = [1]\n"), BAD, "bad board: a text of another kind? evlsim.orders"),
+    (lambda: evlsim.play("board threads=1\nT0 putt\n"), STEP, 'bad step 2: line 2, byte 4: there is no call "putt"'),
     (lambda: evlsim.play(SMALL, limit=-1), BAD, "limit is -1"),
     (lambda: evlsim.play(SMALL, limit=2**32 + 5), BAD, "limit is 4294967301"),
     (lambda: evlsim.play(SMALL, limit="5"), TypeError, "limit is '5'"),
     (lambda: evlsim.play(SMALL, bank=[3]), TypeError, "plan 0"),
-    (lambda: evlsim.play(SMALL + '[[step]]\ndo = "push"\nwho = 0\n'), STEP, "step 1"),
+    (lambda: evlsim.play(SMALL + '[[step]]\ndo = "push"\nwho = 0\n'), STEP, "bad step 1: line 4, byte 6: step 1"),
 ]
 LABS = [
     (lambda: evlsim.check(None), TypeError, "text is None"),
@@ -228,6 +232,8 @@ def try_program():
     assert done.returncode == 1 and done.stderr.startswith("evlsim: write fault: "), done
     closed = subprocess.run(f"'{sys.executable}' -m evlsim >&-", shell=True, input=SMALL, stderr=subprocess.PIPE, text=True)
     assert closed.returncode == 1 and closed.stderr.startswith("evlsim: write fault: "), closed
+    wrong = subprocess.run(program, input="T0 put smm=0\n", capture_output=True, text=True)
+    assert wrong.returncode == 2 and wrong.stderr.startswith("evlsim: bad step 1: line 1, byte 8: put has no"), wrong
     none = subprocess.run([*program, "no such file"], capture_output=True, text=True)
     assert none.returncode == 2 and none.stderr.startswith("evlsim: no file: "), none
 

@@ -73,7 +73,7 @@ def test_pictures() -> None:
     neither = "line 1 is no line of a trace, and as a scenario it has a bad board"
     refused(lambda: evlsim.draw("x = 1"), evlsim.BadText, neither)
     assert evlsim.draw("", "csv").count("\n") == 1
-    refused(lambda: evlsim.draw(BOARD + "[[step]]\n"), evlsim.BadText, "it has a bad step 1")
+    refused(lambda: evlsim.draw(BOARD + "[[step]]\n"), evlsim.BadText, "it has a bad step 1: line 1, byte 1: ")
     refused(lambda: evlsim.draw(b"\xff"), evlsim.BadText, "no UTF-8")
     wrong: Any = "png"
     refused(lambda: evlsim.draw(text, wrong), evlsim.BadQuestion, "'svg', 'lanes'")
@@ -174,7 +174,7 @@ def test_orders() -> None:
     assert cut.is_cut_off and cut.holds is None
     why = refused(lambda: evlsim.orders(BOARD + '[[step]]\ndo = "puts"\nwho = 0\n'), evlsim.BadStep, "bad step 1")
     assert why.step == 1
-    refused(lambda: evlsim.orders("threads = 1"), evlsim.BadBoard, "bad board: 1:1: there is no key")
+    refused(lambda: evlsim.orders("threads = 1"), evlsim.BadBoard, "bad board: line 1, byte 1: there is no key")
     refused(lambda: evlsim.orders(BOARD + "[ask]\nnever = ['T1 -> x']\n"), evlsim.Refused, "[ask]: text 1 of never isn't a caller")
     ask = "[ask]\nnever = ['T0 -> Agian']\n[[step]]\ndo = 'try_get'\nwho = 0\nsem = 0\n"
     refused(lambda: evlsim.orders(BOARD + ask), evlsim.Refused, 'did you mean "Again"?')

@@ -16,6 +16,7 @@ the loader looks."""
 from . import _library as _lib
 from ._answers import Answer, Clock, Deadline, Line, Next, Play, Timer
 from ._callers import Caller, Machine
+from ._checks import Finding, check
 from ._errors import BadBoard, BadPlan, BadQuestion, BadStep, BadText, CallRefused, CoreBusy
 from ._errors import KernelClosed, Refused, TooManyOrders
 from ._kernel import PROGRAM_BANK, Awaited, Plan, Stage, Way
@@ -23,7 +24,7 @@ from ._library import IS_PROVED, REFUSALS, WORDS
 from ._machine import Kernel
 from ._pictures import Form, Picture, draw
 from ._play import play
-from ._reports import Callers, Finding, Orders, Outcome, State, Step, callers, check, orders
+from ._reports import Callers, Orders, Outcome, State, Step, callers, orders
 from ._traces import Entry, Trace
 
 __version__ = _lib.VERSION.partition(",")[0]

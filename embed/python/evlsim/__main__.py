@@ -35,12 +35,9 @@ def main() -> int:
         return tell(play(read(given.file), given.limit))
     except OSError as why:
         print(f"evlsim: no file: {why}", file=sys.stderr)
-    except BadText:
-        print("evlsim: bad text", file=sys.stderr)
-    except BadBoard as why:
-        print("evlsim: bad board" + ("" if not given.limit else f": {why}"), file=sys.stderr)
-    except BadStep as why:
-        print(f"evlsim: bad step {why.step}", file=sys.stderr)
+    except (BadText, BadBoard, BadStep) as why:
+        told = str(why)  # of the text: "bad text: ..", "bad board: ..", "bad step N: .."; or of the limit
+        print(f"evlsim: {told if told.startswith('bad ') else f'bad board: {told}'}", file=sys.stderr)
     except MemoryError:
         print("evlsim: no memory", file=sys.stderr)
         return 4

@@ -5,6 +5,7 @@ import warnings
 from typing import Any, Iterable, Literal, Optional, Tuple
 
 from . import _library as lib
+from ._checks import OTHER, first_fault
 from ._errors import BadPlan, BadQuestion, BadText, Refused, one_of, whole
 from ._kernel import Plan, read_bank
 from ._texts import text_bytes
@@ -65,11 +66,11 @@ def _drawn(data: bytes, plans: Tuple[Plan, ...], forms: Any, form: int, page: in
 
     status, told = lib.whole_text(tell, lambda: int(drawn.length), 0)
     if status:
-        raise _undrawn(status, page, drawn)
+        raise _undrawn(status, page, drawn, data)
     return told.decode(), int(drawn.pages)
 
 
-def _undrawn(status: int, page: int, drawn: lib.Drawn) -> Exception:
+def _undrawn(status: int, page: int, drawn: lib.Drawn, data: bytes) -> Exception:
     """Why nothing is drawn."""
     if status == 4:
         return MemoryError()
@@ -80,7 +81,8 @@ def _undrawn(status: int, page: int, drawn: lib.Drawn) -> Exception:
     if drawn.line == 0:
         return BadText("the text is no UTF-8")
     step = f" {drawn.step}" if status == 3 else ""
-    return BadText(f"line {drawn.line} is no line of a trace, and as a scenario it has {FAULTS[status]}{step}")
+    why = f"line {drawn.line} is no line of a trace, and as a scenario it has {FAULTS[status]}{step}"
+    return BadText(f"{why}: {first_fault(data) or OTHER}")
 
 
 def shown(what: Any) -> Optional[str]:

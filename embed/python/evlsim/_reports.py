@@ -1,4 +1,4 @@
-"""What the library tells of a text, as values: its faults, the orders of its callers, and a machine's callers."""
+"""What the library tells of a text, as values: the orders of its callers, and a machine's callers."""
 
 import ctypes
 import re
@@ -7,86 +7,19 @@ from typing import Any, Callable, Dict, Iterable, List, NamedTuple, Optional, Tu
 
 from . import _library as lib
 from ._answers import Answer, Play
-from ._errors import BadBoard, BadPlan, BadQuestion, BadStep, BadText, Refused, TooManyOrders, whole
+from ._checks import refused
+from ._errors import BadBoard, BadQuestion, whole
 from ._kernel import Plan, read_bank
 from ._pictures import shown
 from ._play import play
 from ._texts import Text, text_bytes
 from ._traces import Entry, Trace, keys_text, read_answer, read_call, read_play, read_trace
 
-NAME = "text.toml"
 CUT_OFF = "\n# cut off"
 # how great a buffer is handed in for a report, since a further call would go through all orders again
 REPORT = 1 << 22
 STATE = re.compile(r"# state (\d+): (\w+): (.*): ((?:not )?at (?:a|no|each) moment)( that was gone through)?")
 HOLDING = {("never_state", "at no moment"), ("sometimes", "at a moment"), ("always", "at each moment")}
-FOUND = re.compile(r"(?:(\d+):(\d+): )?(?:step (\d+): )?(at the end: )?(warning: )?(.*)")
-
-
-class Finding(NamedTuple):
-    """A fault of a text, or a warning: the line, the byte in it and the step, each from 1 or None, and what it is."""
-
-    line: Optional[int]
-    byte: Optional[int]
-    step: Optional[int]
-    is_warning: bool
-    message: str
-
-    def __str__(self) -> str:
-        place = "" if self.line is None else f"{self.line}:{self.byte}: "
-        step = "" if self.step is None else f"step {self.step}: "
-        return f"{place}{step}{'warning: ' if self.is_warning else ''}{self.message}"
-
-
-def check(text: Text, bank: Optional[Iterable[Plan]] = None) -> List[Finding]:
-    """Every fault of a text of any kind, with its place, or, where a scenario has none, the warnings of one run of it.
-    Answers that the text expects are passed over; the program lab compares them.
-
-    >>> for found in check('[board]\\nthreads = 1\\n[[step]]\\ndo = "arrive"\\nwho = 0\\nlien = 5\\n'): print(found)
-    6:1: step 1: arrive has no key "lien"; did you mean "line"? (keys: line)
-    """
-    data, name = text_bytes(text), NAME.encode()
-    plans, forms = read_bank(bank)
-    checked = lib.Checked()
-
-    def tell(at: ctypes.c_size_t, part: object, size: ctypes.c_size_t) -> int:
-        asked = (name, ctypes.c_size_t(len(name)), data, ctypes.c_size_t(len(data)), at, part, size)
-        return int(lib.PLAYING.evlsim_c_check_over(forms, ctypes.c_size_t(len(plans)), *asked, ctypes.byref(checked)))
-
-    status, told = lib.whole_text(tell, lambda: int(checked.length), 0)
-    if status == 5:
-        raise BadPlan("a plan has a number that it may not have")
-    if status:
-        raise MemoryError
-    found = []
-    for line in told.decode(errors="replace").splitlines():
-        name_of, _, rest = line.partition(":")
-        if name_of == NAME and rest:
-            found.append(_finding(rest if rest[:1].isdigit() else rest.lstrip()))
-    return found
-
-
-def _finding(text: str) -> Finding:
-    parts = FOUND.fullmatch(text)
-    assert parts is not None
-    line, byte, step, ends, warning, message = parts.groups()
-    numbers = [None if it is None else int(it) for it in (line, byte, step)]
-    return Finding(numbers[0], numbers[1], numbers[2], warning is not None, (ends or "") + message)
-
-
-def _refused(status: int, step: int, words: str, text: Text) -> Exception:
-    """Why a text isn't gone through, or played."""
-    if status == 4:
-        return MemoryError()
-    if status == 5:
-        return BadPlan("a plan has a number that it may not have")
-    faults = [] if words or status > 3 else [it for it in check(text) if not it.is_warning]
-    why = words or (str(faults[0]) if faults else "")
-    kind = {1: "bad text", 2: "bad board", 3: f"bad step {step}" if step else ""}.get(status, "")
-    message = ": ".join(it for it in (kind, why) if it) or "there are more orders than can be counted"
-    if status == 3:
-        return BadStep(message, step)
-    return {1: BadText, 2: BadBoard, 8: TooManyOrders, 10: BadQuestion}.get(status, Refused)(message)
 
 
 class Outcome(NamedTuple):
@@ -190,7 +123,7 @@ def orders(
 
     status, told = _in_time(lambda: lib.whole_text(tell, lambda: int(ordered.length), 0, REPORT), seconds)
     if status:
-        raise _refused(status, int(ordered.step), told.decode(), text)
+        raise refused(status, int(ordered.step), told.decode(), text)
     over = None if bank is None else plans
     head, *parts = re.split(r"^(?=# outcome \d+: )", told.decode(), flags=re.M)
     found = tuple(_outcome(part, over) for part in parts)
@@ -367,5 +300,5 @@ def callers(text: Text, bank: Optional[Iterable[Plan]] = None, limit: int = 0) -
 
     status, told = lib.whole_text(tell, lambda: int(played.length), 0)
     if status:
-        raise _refused(status, int(played.step), told.decode(), text)
+        raise refused(status, int(played.step), told.decode(), text)
     return Callers(told.decode())
