@@ -296,7 +296,7 @@ typedef struct evlsim_event {
   uint64_t missed;
 } evlsim_event;
 
-/* Questions; `on` is an evlsim_awaited. */
+/* Questions: evlsim_see_.. of kernel.h ask them, and say what is told; `on` is an evlsim_awaited. */
 enum evlsim_question_kind {
   EVLSIM_SEE_NOW, EVLSIM_SEE_PICKED, EVLSIM_SEE_RANK, EVLSIM_SEE_READY, EVLSIM_SEE_WAITS, EVLSIM_SEE_FINISHED,
   EVLSIM_SEE_TIMED_OUT, EVLSIM_SEE_STAGE, EVLSIM_SEE_COUNT, EVLSIM_SEE_BITS, EVLSIM_SEE_STORED, EVLSIM_SEE_OWNER,
@@ -310,9 +310,9 @@ typedef struct evlsim_question {
 } evlsim_question;
 
 typedef struct evlsim_reading {
-  bool there; /* whether it is so, or exists */
-  uint64_t number;
-  int64_t count;
+  bool there;      /* whether it is so, or exists */
+  uint64_t number; /* what is told, if it is a number */
+  int64_t count;   /* of EVLSIM_SEE_COUNT alone */
 } evlsim_reading;
 
 /* The exports, which the functions of the other headers call. No pointer may be null, not even with length 0. */

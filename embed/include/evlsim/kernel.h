@@ -200,7 +200,7 @@ static inline evlsim_status evlsim_refusal_text(evlsim_refusal refusal, size_t s
 typedef enum evlsim_awaited {
   EVLSIM_ON_SEM,
   EVLSIM_ON_FLAGS,
-  EVLSIM_ON_WRITING,
+  EVLSIM_ON_WRITING, /* those that wait to write into a way of a cross-buffer */
   EVLSIM_ON_READING,
   EVLSIM_ON_MUTEX
 } evlsim_awaited;
@@ -234,49 +234,63 @@ static inline int64_t evlsim_number_in(evlsim_reading reading) {
   return reading.there ? EVLSIM_TO(int64_t, reading.number) : -1;
 }
 
+/* The date, in nanoseconds since the kernel was opened. */
 static inline uint64_t evlsim_see_now(evlsim_kernel *kernel) { return evlsim_look(kernel, EVLSIM_SEE_NOW, 0).number; }
+/* The thread that is picked; -1: none. */
 static inline int64_t evlsim_see_picked(evlsim_kernel *kernel) {
   return evlsim_number_in(evlsim_look(kernel, EVLSIM_SEE_PICKED, 0));
 }
+/* A thread's effective rank (calls.h, "Policies"), or a greater one that it has by a mutex; -1: not attached. */
 static inline int64_t evlsim_see_rank(evlsim_kernel *kernel, uint16_t thread) {
   return evlsim_number_in(evlsim_look(kernel, EVLSIM_SEE_RANK, thread));
 }
+/* Whether a thread is ready: attached, out-of-band and not blocked. */
 static inline bool evlsim_see_ready(evlsim_kernel *kernel, uint16_t thread) {
   return evlsim_look(kernel, EVLSIM_SEE_READY, thread).there;
 }
+/* Whether a thread has an unfinished wait. */
 static inline bool evlsim_see_waits(evlsim_kernel *kernel, uint16_t thread) {
   return evlsim_look(kernel, EVLSIM_SEE_WAITS, thread).there;
 }
+/* Whether its unfinished wait has ended, so that `finish` is not refused as Again. */
 static inline bool evlsim_see_finished(evlsim_kernel *kernel, uint16_t thread) {
   return evlsim_look(kernel, EVLSIM_SEE_FINISHED, thread).there;
 }
+/* Whether that has ended by its deadline. */
 static inline bool evlsim_see_timed_out(evlsim_kernel *kernel, uint16_t thread) {
   return evlsim_look(kernel, EVLSIM_SEE_TIMED_OUT, thread).there;
 }
+/* A thread's stage: EVLSIM_INBAND (0) or EVLSIM_OOB (1). */
 static inline int64_t evlsim_see_stage(evlsim_kernel *kernel, uint16_t thread) {
   return evlsim_number_in(evlsim_look(kernel, EVLSIM_SEE_STAGE, thread));
 }
+/* A semaphore's count, or minus the number of threads that wait. */
 static inline int64_t evlsim_see_count(evlsim_kernel *kernel, uint16_t sem) {
   evlsim_reading reading = evlsim_look(kernel, EVLSIM_SEE_COUNT, sem);
   return reading.there ? reading.count : INT64_MIN;
 }
+/* The bits of a flag group. */
 static inline int64_t evlsim_see_bits(evlsim_kernel *kernel, uint16_t flags) {
   return evlsim_number_in(evlsim_look(kernel, EVLSIM_SEE_BITS, flags));
 }
+/* How many bytes are in a way of a cross-buffer. */
 static inline int64_t evlsim_see_stored(evlsim_kernel *kernel, uint16_t xbuf, evlsim_way way) {
   return evlsim_number_in(evlsim_ask(kernel, EVLSIM_SEE_STORED, xbuf, EVLSIM_INBAND, way, EVLSIM_ON_SEM, 0));
 }
+/* The thread that is recorded as the owner of a mutex; -1: none. */
 static inline int64_t evlsim_see_owner(evlsim_kernel *kernel, uint16_t mutex) {
   return evlsim_number_in(evlsim_look(kernel, EVLSIM_SEE_OWNER, mutex));
 }
+/* How many threads wait for a mutex. */
 static inline int64_t evlsim_see_waiters(evlsim_kernel *kernel, uint16_t mutex) {
   return evlsim_number_in(evlsim_look(kernel, EVLSIM_SEE_WAITERS, mutex));
 }
-/* Who is at a place of a queue, the first at 0; `way` is that of a cross-buffer. */
+/* Which thread is at a place of a queue, the first at 0, -1: none; `way` is looked at for a cross-buffer alone. */
 static inline int64_t evlsim_see_waiter(evlsim_kernel *kernel, evlsim_awaited on, uint16_t element, evlsim_way way,
                                         size_t place) {
   return evlsim_number_in(evlsim_ask(kernel, EVLSIM_SEE_WAITER, element, EVLSIM_INBAND, way, on, place));
 }
+/* Whether an event is pending on a line of a stage. */
 static inline bool evlsim_see_pending(evlsim_kernel *kernel, evlsim_stage stage, uint16_t line) {
   return evlsim_ask(kernel, EVLSIM_SEE_PENDING, line, stage, EVLSIM_IN, EVLSIM_ON_SEM, 0).there;
 }

@@ -1,5 +1,12 @@
 """The out-of-band core of a dual-kernel machine, simulated: plays scenarios and has kernels, in the process, by the
-library libevlsim.so.0 (docs/use/EMBEDDING.md).
+library libevlsim.so.0.
+
+play, check, draw, orders and callers take a text: its trace, its faults, its picture, every order of its callers, calls
+on a machine. Kernel is one to call, with a method for each call and see_.. to ask; Machine has callers for threads of
+Python; Plan is what a callback does; evlsim.runner runs a driver's threads, evlsim.strategies is for hypothesis. What
+is refused is raised as a Refused; what a kernel refuses is an answer that is false. Dates, intervals and slices are
+nanoseconds, from 0 on; elements and threads are numbered from 0. The manual is docs/use/EMBEDDING.md, in a checkout or
+in share/doc/evlsim.
 
 >>> import evlsim
 >>> print(evlsim.play('[board]\\nthreads = 1\\nsems = [0]\\n[[step]]\\ndo = "put"\\nwho = 0\\nsem = 0\\n'), end="")

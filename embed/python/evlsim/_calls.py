@@ -11,7 +11,9 @@ from ._library import CallForm
 
 
 class Words(Calls):
-    """A method for each step word: the caller's number, and then the word's keys by name."""
+    """A method for each step word: the caller's number, and then the word's keys by name. "Answers count N" is an
+    Answer of the kind "count" with the value N. Before all refusals that are named come HistoryFull, Busy of a caller
+    that has an unfinished wait (but for finish), and Unknown of a caller that the board doesn't have."""
 
     def request(
         self,
@@ -24,6 +26,11 @@ class Words(Calls):
         **wrong: NoReturn,
     ) -> Answer:
         """Installs a callback of the bank on a line of a stage; its count starts again.
+
+        `line`: an interrupt line, 1 to 4095 (0 is the clock's)
+        `stage`: "inband" or "oob", out-of-band
+        `callback`: a number in the kernel's bank, from 0
+        `tag`: a number up to 4,294,967,295 that the callback gets, and no plan uses
 
         Answers done. Refusals: Unknown: no such line or callback; Invalid: line 0, or a callback that is not
         allowed on this stage; Busy: the line and stage have a callback already, or this callback is on another line
@@ -41,6 +48,9 @@ class Words(Calls):
     def free(self, who: int, *, line: int = MISSING, stage: Stage = MISSING, **wrong: NoReturn) -> Answer:
         """Takes the callback off a line, back to the bank, and drops a pending event of that line and stage.
 
+        `line`: an interrupt line, 1 to 4095 (0 is the clock's)
+        `stage`: "inband" or "oob", out-of-band
+
         Answers done. Refusals: Unknown: no such line; Invalid: line 0, on both stages; Unknown: no callback there.
         """
         if wrong or line is MISSING or stage is MISSING:
@@ -51,10 +61,12 @@ class Words(Calls):
         return self._make("free", who, call)
 
     def arrive(self, who: int, *, line: int = MISSING, **wrong: NoReturn) -> Answer:
-        """An interrupt arrives on a line: its event is pending out-of-band if the line has a callback there, else in-
-        band if it has one there; else it is spurious and nothing is pending (the trace does not show that).
+        """An interrupt arrives on a line: its event is pending out-of-band if the line has a callback there, else
+        in-band if it has one there; else it is spurious and nothing is pending (the trace does not show that).
 
-        Answers done. Refusals: Unknown.
+        `line`: an interrupt line, 1 to 4095 (0 is the clock's)
+
+        Answers done. Refusals: Unknown: no such line.
         """
         if wrong:
             no_key("arrive", wrong, line=line)
@@ -63,7 +75,10 @@ class Words(Calls):
     def post(self, who: int, *, stage: Stage = MISSING, line: int = MISSING, **wrong: NoReturn) -> Answer:
         """Makes an event pending on a line of this stage if it has a callback there; else it is spurious.
 
-        Answers done. Refusals: Unknown.
+        `stage`: "inband" or "oob", out-of-band
+        `line`: an interrupt line, 1 to 4095 (0 is the clock's)
+
+        Answers done. Refusals: Unknown: no such line.
         """
         if wrong or stage is MISSING or line is MISSING:
             no_key("post", wrong, stage=stage, line=line)
@@ -74,6 +89,8 @@ class Words(Calls):
 
     def stall(self, who: int, *, stage: Stage = MISSING, **wrong: NoReturn) -> Answer:
         """Sets the stall bit of a stage: its events stay pending. A second stall changes nothing.
+
+        `stage`: "inband" or "oob", out-of-band
 
         Answers done.
         """
@@ -86,6 +103,8 @@ class Words(Calls):
     def unstall(self, who: int, *, stage: Stage = MISSING, **wrong: NoReturn) -> Answer:
         """Clears the stall bit of a stage.
 
+        `stage`: "inband" or "oob", out-of-band
+
         Answers done.
         """
         if wrong or stage is MISSING:
@@ -95,7 +114,9 @@ class Words(Calls):
         return self._make("unstall", who, call)
 
     def tick(self, who: int, *, delta: int = MISSING, **wrong: NoReturn) -> Answer:
-        """Moves the date on by delta nanoseconds; it begins at 0. Line 0 is then pending if something is due.
+        """Moves the date on by `delta` nanoseconds; it begins at 0. Line 0 is then pending if something is due.
+
+        `delta`: nanoseconds, up to 18,446,744,073,709,551,615
 
         Answers done. Refusals: Range: the date would pass 18,446,744,073,709,551,615.
         """
@@ -119,6 +140,9 @@ class Words(Calls):
         """Makes a timer with a callback of the bank; it gets the least free number, from 0 on, and its first fire
         counts 1.
 
+        `callback`: a number in the kernel's bank, from 0
+        `tag`: a number up to 4,294,967,295 that the callback gets, and no plan uses
+
         Answers number N. Refusals: Unknown: no such callback; Invalid: it is not allowed in a timer; Busy: it is on
         a line or in a timer; Limit: there are 64 timers.
         """
@@ -135,7 +159,11 @@ class Words(Calls):
         """Sets the date at which the timer fires next, and its interval; its overruns are 0 again. If the date is not
         after now, line 0 is pending at once.
 
-        Answers done. Refusals: Unknown.
+        `timer`: its number, as new_timer answered it
+        `date`: a date, not a duration: nanoseconds, up to 18,446,744,073,709,551,615
+        `interval`: nanoseconds, up to 18,446,744,073,709,551,615; 0: it fires once
+
+        Answers done. Refusals: Unknown: no such timer.
         """
         if wrong or timer is MISSING or date is MISSING or interval is MISSING:
             no_key("start_timer", wrong, timer=timer, date=date, interval=interval)
@@ -148,7 +176,9 @@ class Words(Calls):
     def stop_timer(self, who: int, *, timer: int = MISSING, **wrong: NoReturn) -> Answer:
         """Stops the timer until it is started again.
 
-        Answers done. Refusals: Unknown.
+        `timer`: its number, as new_timer answered it
+
+        Answers done. Refusals: Unknown: no such timer.
         """
         if wrong:
             no_key("stop_timer", wrong, timer=timer)
@@ -157,7 +187,9 @@ class Words(Calls):
     def drop_timer(self, who: int, *, timer: int = MISSING, **wrong: NoReturn) -> Answer:
         """Takes the timer away; its callback is back in the bank.
 
-        Answers done. Refusals: Unknown.
+        `timer`: its number, as new_timer answered it
+
+        Answers done. Refusals: Unknown: no such timer.
         """
         if wrong:
             no_key("drop_timer", wrong, timer=timer)
@@ -166,7 +198,9 @@ class Words(Calls):
     def overruns(self, who: int, *, timer: int = MISSING, **wrong: NoReturn) -> Answer:
         """Gives how many periods the timer missed since it was started.
 
-        Answers number N. Refusals: Unknown.
+        `timer`: its number, as new_timer answered it
+
+        Answers number N. Refusals: Unknown: no such timer.
         """
         if wrong:
             no_key("overruns", wrong, timer=timer)
@@ -174,6 +208,10 @@ class Words(Calls):
 
     def attach(self, who: int, *, policy: str = MISSING, stage: Stage = MISSING, **wrong: NoReturn) -> Answer:
         """Makes the caller a thread of the core, with this policy, on this stage.
+
+        `policy`: "fifo P", "rr P SLICE", "quota GROUP P" (P from 1 to 99, SLICE 1 to 1,000,000,000 nanoseconds) or
+        "weak P" (0 to 99)
+        `stage`: "inband" or "oob", out-of-band
 
         Answers done. Refusals: Unknown: no such quota group; Range: a number of the policy; Busy: the caller is
         attached already.
@@ -198,6 +236,9 @@ class Words(Calls):
     def set_policy(self, who: int, *, policy: str = MISSING, **wrong: NoReturn) -> Answer:
         """Sets the caller's policy; a ready caller goes to the end of the ready list.
 
+        `policy`: "fifo P", "rr P SLICE", "quota GROUP P" (P from 1 to 99, SLICE 1 to 1,000,000,000 nanoseconds) or
+        "weak P" (0 to 99)
+
         Answers done. Refusals: Unknown: no such quota group; Range: a number of the policy; Invalid: the caller is
         not attached.
         """
@@ -209,6 +250,8 @@ class Words(Calls):
 
     def set_stage(self, who: int, *, stage: Stage = MISSING, **wrong: NoReturn) -> Answer:
         """Moves the caller to this stage; if it is there already, nothing changes.
+
+        `stage`: "inband" or "oob", out-of-band
 
         Answers done. Refusals: Invalid: the caller is not attached.
         """
@@ -231,7 +274,9 @@ class Words(Calls):
     def rank_of(self, who: int, *, thread: int = MISSING, **wrong: NoReturn) -> Answer:
         """Gives a thread's effective rank.
 
-        Answers number N. Refusals: Unknown; Invalid: it is not attached.
+        `thread`: its number, from 0
+
+        Answers number N. Refusals: Unknown: no such thread; Invalid: it is not attached.
         """
         if wrong:
             no_key("rank_of", wrong, thread=thread)
@@ -240,7 +285,9 @@ class Words(Calls):
     def try_get(self, who: int, *, sem: int = MISSING, **wrong: NoReturn) -> Answer:
         """Takes one from a semaphore.
 
-        Answers done. Refusals: Unknown; Again: its count is 0.
+        `sem`: its number on the board, from 0
+
+        Answers done. Refusals: Unknown: no such semaphore; Again: its count is 0.
         """
         if wrong:
             no_key("try_get", wrong, sem=sem)
@@ -249,7 +296,9 @@ class Words(Calls):
     def put(self, who: int, *, sem: int = MISSING, **wrong: NoReturn) -> Answer:
         """Serves the first thread that waits for the semaphore, or raises its count.
 
-        Answers done. Refusals: Unknown; Range: its count is 2,147,483,647.
+        `sem`: its number on the board, from 0
+
+        Answers done. Refusals: Unknown: no such semaphore; Range: its count is 2,147,483,647.
         """
         if wrong:
             no_key("put", wrong, sem=sem)
@@ -258,7 +307,9 @@ class Words(Calls):
     def peek(self, who: int, *, sem: int = MISSING, **wrong: NoReturn) -> Answer:
         """Gives a semaphore's count, or minus the number of waiting threads.
 
-        Answers count N. Refusals: Unknown.
+        `sem`: its number on the board, from 0
+
+        Answers count N. Refusals: Unknown: no such semaphore.
         """
         if wrong:
             no_key("peek", wrong, sem=sem)
@@ -266,9 +317,13 @@ class Words(Calls):
 
     def begin_get(self, who: int, *, sem: int = MISSING, until: Until = None, **wrong: NoReturn) -> Answer:
         """Begins a wait for a semaphore: the caller is served at once if the count is above 0; else it is blocked
-        until a put serves it or the date until comes.
+        until a put serves it or the date `until` comes.
 
-        Answers begun. Refusals: Unknown; Invalid: the caller is not attached; WrongStage: it is in-band.
+        `sem`: its number on the board, from 0
+        `until`: the date, in nanoseconds, at which the wait ends as timed out; None: never
+
+        Answers begun. Refusals: Unknown: no such semaphore; Invalid: the caller is not attached; WrongStage: it is
+        in-band.
         """
         if wrong:
             no_key("begin_get", wrong, sem=sem)
@@ -281,10 +336,13 @@ class Words(Calls):
         return self._make("begin_get", who, call)
 
     def try_take(self, who: int, *, flags: int = MISSING, kind: str = MISSING, **wrong: NoReturn) -> Answer:
-        """Takes bits from a flag group, even if others wait: all that are there (any), those of a mask that are there
-        (of MASK), or a whole mask (exact MASK).
+        """Takes bits from a flag group, even if others wait: all that are there (`any`), those of a mask that are
+        there (`of MASK`), or a whole mask (`exact MASK`).
 
-        Answers bits N. Refusals: Unknown; Invalid: the mask is 0; Again: nothing to take.
+        `flags`: the group's number on the board, from 0
+        `kind`: "any", "of MASK" or "exact MASK", a mask up to 4,294,967,295
+
+        Answers bits N. Refusals: Unknown: no such flag group; Invalid: the mask is 0; Again: nothing to take.
         """
         if wrong or flags is MISSING or kind is MISSING:
             no_key("try_take", wrong, flags=flags, kind=kind)
@@ -297,7 +355,10 @@ class Words(Calls):
         """Adds bits to a flag group and goes once through its waiters, by rank and then by arrival: each takes what it
         wants from what is left, or keeps waiting.
 
-        Answers done. Refusals: Unknown; Invalid: bits is 0.
+        `flags`: the group's number on the board, from 0
+        `bits`: up to 4,294,967,295
+
+        Answers done. Refusals: Unknown: no such flag group; Invalid: `bits` is 0.
         """
         if wrong or flags is MISSING or bits is MISSING:
             no_key("post_flags", wrong, flags=flags, bits=bits)
@@ -309,7 +370,9 @@ class Words(Calls):
     def peek_flags(self, who: int, *, flags: int = MISSING, **wrong: NoReturn) -> Answer:
         """Gives the bits of a flag group.
 
-        Answers bits N. Refusals: Unknown.
+        `flags`: the group's number on the board, from 0
+
+        Answers bits N. Refusals: Unknown: no such flag group.
         """
         if wrong:
             no_key("peek_flags", wrong, flags=flags)
@@ -319,10 +382,14 @@ class Words(Calls):
         self, who: int, *, flags: int = MISSING, kind: str = MISSING, until: Until = None, **wrong: NoReturn
     ) -> Answer:
         """Begins a wait for bits: the caller is served at once, before all waiters, if they are there; else it is
-        blocked until a post serves it or the date until comes.
+        blocked until a post serves it or the date `until` comes.
 
-        Answers begun. Refusals: Unknown; Invalid: the caller is not attached, or the mask is 0; WrongStage: it is
-        in-band.
+        `flags`: the group's number on the board, from 0
+        `kind`: "any", "of MASK" or "exact MASK", a mask up to 4,294,967,295
+        `until`: the date, in nanoseconds, at which the wait ends as timed out; None: never
+
+        Answers begun. Refusals: Unknown: no such flag group; Invalid: the caller is not attached, or the mask is 0;
+        WrongStage: it is in-band.
         """
         if wrong or flags is MISSING or kind is MISSING:
             no_key("begin_take", wrong, flags=flags, kind=kind)
@@ -339,8 +406,12 @@ class Words(Calls):
         """Writes all the bytes into a way of a cross-buffer; waiting readers get them. A write of no bytes is always
         done on the right stage.
 
-        Answers done. Refusals: Unknown; WrongStage: way in is written in-band, way out out-of-band; TooBig: longer
-        than the ring; Again: they do not fit, or a writer waits there.
+        `xbuf`: its number on the board, from 0
+        `way`: "in" (written in-band, read out-of-band) or "out"
+        `bytes`: bytes, a list of numbers, or hexadecimal digits; at most 256 bytes
+
+        Answers done. Refusals: Unknown: no such cross-buffer; WrongStage: way `in` is written in-band, way `out`
+        out-of-band; TooBig: longer than the ring; Again: they do not fit, or a writer waits there.
         """
         if wrong or xbuf is MISSING or way is MISSING or bytes is MISSING:
             no_key("write", wrong, xbuf=xbuf, way=way, bytes=bytes)
@@ -352,11 +423,15 @@ class Words(Calls):
     def read(
         self, who: int, *, xbuf: int = MISSING, way: Way = MISSING, len: int = MISSING, **wrong: NoReturn
     ) -> Answer:
-        """Reads the next bytes, at most len; waiting writers whose bytes then fit are served. A read of 0 bytes is
+        """Reads the next bytes, at most `len`; waiting writers whose bytes then fit are served. A read of 0 bytes is
         always done on the right stage.
 
-        Answers bytes HEX (bytes - for none). Refusals: Unknown; Range: len is above 256; WrongStage: way in is read
-        out-of-band, way out in-band; Again: nothing is there.
+        `xbuf`: its number on the board, from 0
+        `way`: "in" (written in-band, read out-of-band) or "out"
+        `len`: how many bytes at most, 0 to 256
+
+        Answers bytes HEX (bytes - for none). Refusals: Unknown: no such cross-buffer; Range: `len` is above 256;
+        WrongStage: way `in` is read out-of-band, way `out` in-band; Again: nothing is there.
         """
         if wrong or xbuf is MISSING or way is MISSING or len is MISSING:
             no_key("read", wrong, xbuf=xbuf, way=way, len=len)
@@ -369,7 +444,10 @@ class Words(Calls):
     def room(self, who: int, *, xbuf: int = MISSING, way: Way = MISSING, **wrong: NoReturn) -> Answer:
         """Gives how many bytes of a way's ring are free.
 
-        Answers number N. Refusals: Unknown.
+        `xbuf`: its number on the board, from 0
+        `way`: "in" (written in-band, read out-of-band) or "out"
+
+        Answers number N. Refusals: Unknown: no such cross-buffer.
         """
         if wrong or xbuf is MISSING or way is MISSING:
             no_key("room", wrong, xbuf=xbuf, way=way)
@@ -388,10 +466,16 @@ class Words(Calls):
         until: Until = None,
         **wrong: NoReturn,
     ) -> Answer:
-        """Begins a wait to write: the caller is served at once if write would be done; else it is blocked until its
-        bytes are written or the date until comes.
+        """Begins a wait to write: the caller is served at once if `write` would be done; else it is blocked until its
+        bytes are written or the date `until` comes.
 
-        Answers begun. Refusals: Unknown; Invalid: the caller is not attached; WrongStage, TooBig: as write.
+        `xbuf`: its number on the board, from 0
+        `way`: "in" (written in-band, read out-of-band) or "out"
+        `bytes`: bytes, a list of numbers, or hexadecimal digits; at most 256 bytes
+        `until`: the date, in nanoseconds, at which the wait ends as timed out; None: never
+
+        Answers begun. Refusals: Unknown: no such cross-buffer; Invalid: the caller is not attached; WrongStage,
+        TooBig: as `write`.
         """
         if wrong or xbuf is MISSING or way is MISSING or bytes is MISSING:
             no_key("begin_write", wrong, xbuf=xbuf, way=way, bytes=bytes)
@@ -412,11 +496,16 @@ class Words(Calls):
         until: Until = None,
         **wrong: NoReturn,
     ) -> Answer:
-        """Begins a wait to read: the caller is served at once if read would be done; else it is blocked until
-        something is there or the date until comes.
+        """Begins a wait to read: the caller is served at once if `read` would be done; else it is blocked until
+        something is there or the date `until` comes.
 
-        Answers begun. Refusals: Unknown; Range: len is above 256; Invalid: the caller is not attached; WrongStage:
-        as read.
+        `xbuf`: its number on the board, from 0
+        `way`: "in" (written in-band, read out-of-band) or "out"
+        `len`: how many bytes at most, 0 to 256
+        `until`: the date, in nanoseconds, at which the wait ends as timed out; None: never
+
+        Answers begun. Refusals: Unknown: no such cross-buffer; Range: `len` is above 256; Invalid: the caller is
+        not attached; WrongStage: as `read`.
         """
         if wrong or xbuf is MISSING or way is MISSING or len is MISSING:
             no_key("begin_read", wrong, xbuf=xbuf, way=way, len=len)
@@ -431,11 +520,15 @@ class Words(Calls):
     def claim(
         self, who: int, *, mutex: int = MISSING, owner: int = MISSING, until: Until = None, **wrong: NoReturn
     ) -> Answer:
-        """Begins a wait for a mutex that thread owner has: that thread is recorded as its owner, and the caller is
-        blocked until a release hands it the mutex or the date until comes.
+        """Begins a wait for a mutex that thread `owner` has: that thread is recorded as its owner, and the caller is
+        blocked until a release hands it the mutex or the date `until` comes.
 
-        Answers begun. Refusals: Unknown: no such mutex, or no thread owner; Invalid: the caller or the owner is not
-        attached, the owner is the caller, or another owner is recorded; WrongStage: the caller is in-band;
+        `mutex`: its number on the board, from 0
+        `owner`: the thread that has it
+        `until`: the date, in nanoseconds, at which the wait ends as timed out; None: never
+
+        Answers begun. Refusals: Unknown: no such mutex, or no thread `owner`; Invalid: the caller or the owner is
+        not attached, the owner is the caller, or another owner is recorded; WrongStage: the caller is in-band;
         Deadlock: the owner waits for the caller, directly or along a chain.
         """
         if wrong or mutex is MISSING or owner is MISSING:
@@ -450,8 +543,10 @@ class Words(Calls):
     def release(self, who: int, *, mutex: int = MISSING, **wrong: NoReturn) -> Answer:
         """Hands a mutex to the first thread that waits for it, and ends its wait.
 
-        Answers next N more, next N or next none (see WAITS). Refusals: Unknown; NotOwner: another thread is
-        recorded as its owner.
+        `mutex`: its number on the board, from 0
+
+        Answers next N more, next N or next none: who has the mutex now, and whether more wait for it. Refusals:
+        Unknown: no such mutex; NotOwner: another thread is recorded as its owner.
         """
         if wrong:
             no_key("release", wrong, mutex=mutex)
@@ -460,16 +555,20 @@ class Words(Calls):
     def raise_(self, who: int, *, mutex: int = MISSING, **wrong: NoReturn) -> Answer:
         """Records the caller as the owner of a mutex with a ceiling.
 
-        Answers done. Refusals: Unknown; Invalid: it has no ceiling, or the caller is not attached; Busy: an owner
-        is recorded, even if it is the caller.
+        `mutex`: its number on the board, from 0
+
+        Answers done. Refusals: Unknown: no such mutex; Invalid: it has no ceiling, or the caller is not attached;
+        Busy: an owner is recorded, even if it is the caller.
         """
         if wrong:
             no_key("raise", wrong, mutex=mutex)
         return self._bare(34, "raise", "mutex", who, mutex)
 
     def finish(self, who: int, *, keep: bool = False, **wrong: NoReturn) -> Answer:
-        """Gives what ended the caller's wait; a weak caller that is out-of-band then goes in-band, unless keep is true
-        or it got a mutex.
+        """Gives what ended the caller's wait; a `weak` caller that is out-of-band then goes in-band, unless `keep` is
+        true or it got a mutex.
+
+        `keep`: True or False
 
         Answers done, bits N after a wait for bits, bytes HEX after one to read, or timed out. Refusals: Invalid: it
         has no wait; Again: its wait goes on.

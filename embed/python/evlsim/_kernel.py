@@ -50,8 +50,10 @@ _ref = ctypes.byref
 
 
 class Plan:
-    """What a callback answers: it handles the events whose counts `accepts` divides, and has at most four rows, each
-    the period of an action, its name, its element, and the bits of flags.
+    """What a callback answers: it handles the events whose counts `accepts` divides, and at those whose counts a row's
+    first number divides it asks for the row's action; the first event since the request has count 1. At most four rows:
+    (every, "post_sem", sem), (every, "post_flags", group, bits), (every, "propagate"), which posts the event's own line
+    in-band, (every, "post_oob", line), which posts a line out-of-band, or (every, "stop_timer", timer).
 
     >>> Plan(1, (2, "post_sem", 0), (1, "post_flags", 0, 3), (1, "propagate"))
     Plan(1, (2, 'post_sem', 0), (1, 'post_flags', 0, 3), (1, 'propagate'))

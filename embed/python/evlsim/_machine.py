@@ -16,9 +16,11 @@ from ._traces import Entry, board_line, read_board_line, read_trace
 class Kernel(Words, Questions):
     """A kernel with the program's callbacks, or with those of a `bank`. It is freed with the object, or by `close`.
 
-    threads, sems, flags, xbufs, mutexes and groups are a board, as docs/use/SCENARIOS.md has it; `limit` is how many
-    entries the history may have. There is a method for each step word: the caller's number, and then the word's keys by
-    name (`raise_` for `raise`). An answer is false where the kernel refused the call; a kernel that is `strict` raises
+    A board is `threads`, how many (1 to 256), `sems`, opening counts (to 2,147,483,647), `flags`, opening bits (to
+    4,294,967,295), `xbufs`, pairs of ring sizes, in and out (1 to 256 bytes), `mutexes`, each "normal", "recursive" or
+    "ceiling P" (P 1 to 99), and `groups`, quota groups in percent (1 to 100). `limit` is how many entries the history
+    may have (1 to 1,000,000). There is a method for each step word: the caller's number, then the word's keys by name
+    (`raise_` for `raise`). An answer is false where the kernel refused the call; a kernel that is `strict` raises
     CallRefused then. A notebook shows its picture (`draw`).
 
     >>> kernel = Kernel(threads=2, sems=[0])

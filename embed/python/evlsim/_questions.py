@@ -16,19 +16,20 @@ class Questions:
         raise NotImplementedError
 
     def see_now(self) -> int:
-        """The date."""
+        """The date, in nanoseconds since the kernel was opened."""
         return int(self._ask(0, "see_now").number)
 
     def see_picked(self) -> Optional[int]:
-        """Who is picked, or None."""
+        """The thread that is picked, by its number, or None."""
         return _number(self._ask(1, "see_picked"))
 
     def see_rank(self, thread: int) -> Optional[int]:
-        """The effective rank of a thread, or None where it isn't attached."""
+        """The effective rank of a thread, or None where it isn't attached: 512 + P under "fifo P" and "rr P SLICE",
+        256 + P under "quota GROUP P", P under "weak P", or a greater one that it has by a mutex."""
         return _number(self._ask(2, "see_rank: thread", thread))
 
     def see_ready(self, thread: int) -> bool:
-        """Whether a thread is on the ready list."""
+        """Whether a thread is ready: attached, out-of-band and not blocked."""
         return bool(self._ask(3, "see_ready: thread", thread).there)
 
     def see_waits(self, thread: int) -> bool:
@@ -36,11 +37,11 @@ class Questions:
         return bool(self._ask(4, "see_waits: thread", thread).there)
 
     def see_finished(self, thread: int) -> bool:
-        """Whether a thread's unfinished wait has ended."""
+        """Whether a thread's unfinished wait has ended, so that its finish isn't refused as Again."""
         return bool(self._ask(5, "see_finished: thread", thread).there)
 
     def see_timed_out(self, thread: int) -> bool:
-        """Whether it has ended by its deadline."""
+        """Whether a thread's unfinished wait has ended by its deadline."""
         return bool(self._ask(6, "see_timed_out: thread", thread).there)
 
     def see_stage(self, thread: int) -> str:
@@ -70,8 +71,8 @@ class Questions:
         return int(self._ask(12, "see_waiters: mutex", mutex).number)
 
     def see_waiter(self, on: Awaited, element: int, place: int = 0, way: Way = "in") -> Optional[int]:
-        """Who waits at a place, the first at 0: for a "sem", "flags", a "mutex", or in "writing" or "reading" a
-        cross-buffer."""
+        """The thread at a place of a queue, the first at 0, or None. The queue is that of a "sem", "flags" or "mutex",
+        or of those that wait for "writing" or "reading" a way of a cross-buffer."""
         return _number(
             self._ask(
                 13,
