@@ -6,7 +6,7 @@
  *   static void body(void) {
  *     driver_init();                                    // evl_new_sem, request_irq, pthread_create ..
  *     evlsim_may_arrive(5, 2, byte_comes, NULL);        // line 5, up to two times, at any moment
- *     evlsim_rest();                                    // until all others wait; nothing comes then
+ *     evlsim_rest();                                    // until all others wait; nothing comes after it
  *     evlsim_require(driver_received == device_sent);
  *   }
  *   int main(void) { return evlsim_explore(body, NULL); }
@@ -85,7 +85,8 @@ void evlsim_may_arrive(unsigned line, unsigned times, void (*device)(void *it), 
 void evlsim_may_pass(unsigned times);
 void evlsim_may_switch(unsigned times);
 
-/* Waits until all others wait; the date stays. evlsim_rest closes the sources before it. */
+/* Waits until all others wait, while events of sources may come; the date stays, so no deadline passes. evlsim_rest then
+   closes the sources, and waits until all others wait again. */
 void evlsim_settle(void);
 void evlsim_rest(void);
 
