@@ -10,6 +10,7 @@ import threading
 import time
 
 import evlsim
+from evlsim.runner import explore
 
 BOARD = {"threads": 2, "sems": [0], "xbufs": [(16, 16)], "flags": [0], "mutexes": ["normal"]}
 STEP, BAD, PLAN, ASK = evlsim.BadStep, evlsim.BadBoard, evlsim.BadPlan, evlsim.BadQuestion
@@ -204,8 +205,33 @@ LABS = [
     (lambda: evlsim.orders(SMALL + "[ask]\nnever = 3\n"), ASK, "line 4: never is a list"),
     (lambda: evlsim.orders(NOWS + "[ask]\nnever = ['T0 -> Deadlok']\n"), ASK, 'did you mean "Deadlock"?'),
     (lambda: evlsim.orders(NOWS), evlsim.TooManyOrders, "more orders than can be counted"),
+    (lambda: evlsim.orders(SMALL, seconds="9"), TypeError, "seconds is '9': a number from 0"),
+    (lambda: evlsim.orders(SMALL, seconds=-1), ASK, "seconds is -1: a number from 0"),
     (lambda: evlsim.callers(pathlib.Path("x")), TypeError, "read_text()"),
     (lambda: evlsim.callers(SMALL, limit=-1), BAD, "limit is -1"),
+    (lambda: evlsim.Kernel.from_lines(None), TypeError, "text is None"),
+    (lambda: evlsim.Kernel.from_lines("board sems=[0]\n"), BAD, "has no threads"),
+    (lambda: explore(5), TypeError, "body is 5: a function with a yield"),
+    (lambda: explore(print, arrivals=-1), ASK, "arrivals is -1"),
+    (lambda: explore(print, runs="9"), TypeError, "runs is '9'"),
+]
+
+
+def divides(bench):
+    bench.request(5, lambda: 1 // 0)
+    bench.may_arrive(5)
+    yield bench.rest()
+
+
+def yields_five(_bench):
+    yield 5
+
+
+# a body, why its exploration fails, and in which function of it
+EXPLORED = [
+    (divides, "ZeroDivisionError: ", ", in <lambda>"),
+    (yields_five, "TypeError: T1 yields 5: a call, as thread.get(sem), or nothing", ""),
+    (lambda bench: None, "TypeError: the body is no generator", ""),
 ]
 
 
@@ -236,6 +262,14 @@ def try_program():
     assert wrong.returncode == 2 and wrong.stderr.startswith("evlsim: bad step 1: line 1, byte 8: put has no"), wrong
     none = subprocess.run([*program, "no such file"], capture_output=True, text=True)
     assert none.returncode == 2 and none.stderr.startswith("evlsim: no file: "), none
+
+
+def try_explored():
+    """Bodies that fail: why, and where."""
+    for body, why, where in EXPLORED:
+        found = explore(body)
+        assert found.failed and found.why.startswith(why), found
+        assert where in found.where and (not where or found.where.startswith(f"{__file__}:")), found
 
 
 def try_right_ones():
@@ -352,6 +386,7 @@ def try_callers(rounds=5000):
 tried = try_list("call", CALLS) + try_list("board", BOARDS) + try_list("play", PLAYS) + try_list("lab", LABS)
 tried += try_list("machine", MACHINES)
 try_program()
+try_explored()
 try_right_ones()
 try_closed()
 try_closed_callers()

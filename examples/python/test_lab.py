@@ -219,6 +219,9 @@ def test_a_long_history_is_played_again() -> None:
     assert evlsim.Kernel.from_lines(text).trace() == evlsim.Kernel.from_lines(trace).trace() == trace
     refused(lambda: evlsim.Kernel.from_lines(text, bank=[]), evlsim.BadText, "here it is answered")
     refused(lambda: evlsim.Kernel.from_lines("1 T0 now -> number 0\n"), evlsim.BadBoard, "no line of a board")
+    for line in ("T0 put sem=0", "1 T0 put sem=zero -> done", "1 T0 put sem -> done"):
+        board = "board threads=1 sems=[0]\n\n"
+        refused(lambda: evlsim.Kernel.from_lines(board + line), evlsim.BadText, f"line 3 is '{line}'")
     if not LAB:
         return
     board, _, rest = text.partition("\n")

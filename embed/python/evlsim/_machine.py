@@ -10,7 +10,7 @@ from ._errors import BadQuestion, BadStep, BadText, KernelClosed, Refused, near,
 from ._kernel import Plan
 from ._pictures import shown
 from ._questions import Questions
-from ._traces import Entry, board_line, read_board_line, read_trace
+from ._traces import Entry, board_line, read_board_line, read_history, read_trace
 
 
 class Kernel(Words, Questions):
@@ -106,8 +106,9 @@ class Kernel(Words, Questions):
 
     @classmethod
     def from_lines(cls, text: str, bank: Optional[Iterable[Plan]] = None, strict: bool = False) -> "Kernel":
-        """The kernel whose history a text of lines is, as lines() or a trace. Raises BadText where a call is answered
-        otherwise: over another bank, or of a trace over a board whose elements aren't plain.
+        """The kernel whose history a text of lines is, as lines() or a trace: each call with its answer. Raises BadText
+        for another line, and where a call is answered otherwise: over another bank, or of a trace over a board whose
+        elements aren't plain.
 
         >>> with Kernel(threads=1, mutexes=["ceiling 50"], sems=[2]) as kernel:
         ...     assert kernel.try_get(0, sem=0)
@@ -115,9 +116,11 @@ class Kernel(Words, Questions):
         board threads=1 sems=[2] flags=[] xbufs=[] mutexes=[ceiling 50] groups=[] limit=1000
         1 T0 try_get sem=0 -> done
         """
+        if not isinstance(text, str):
+            raise TypeError(f"text is {text!r}: a text of lines is wanted, as lines() gives it")
         head, _, rest = text.partition("\n")
         made = cls(**read_board_line(head), bank=bank)
-        for entry in read_trace(rest):
+        for entry in read_history(rest):
             answer = made.call(entry.word, entry.who, **entry.keys)
             if str(answer) != str(entry.answer):
                 raise BadText(f"{entry.number or '-'} {entry}: here it is answered {answer}")

@@ -8,7 +8,7 @@ from typing import Any, Callable, Dict, Iterable, List, NamedTuple, Optional, Tu
 from . import _library as lib
 from ._answers import Answer, Play
 from ._checks import refused
-from ._errors import BadBoard, BadQuestion, whole
+from ._errors import BadBoard, BadQuestion, whole, wrong_type
 from ._kernel import Plan, read_bank
 from ._pictures import shown
 from ._play import play
@@ -156,6 +156,12 @@ def _verdict(ordered: lib.Ordered, total: int) -> str:
 
 def _in_time(work: Callable[[], Tuple[int, bytes]], seconds: Optional[float]) -> Tuple[int, bytes]:
     """What comes of the work. It is done in a thread of its own, so that Ctrl-C is heard."""
+    if seconds is not None:
+        wanted = f"seconds is {seconds!r}: a number from 0 to {threading.TIMEOUT_MAX:.0f}, or None, is wanted"
+        if isinstance(seconds, bool) or not isinstance(seconds, (int, float)):
+            raise wrong_type(BadQuestion, wanted)
+        if not 0 <= seconds <= threading.TIMEOUT_MAX:
+            raise BadQuestion(wanted)
     done: List[Tuple[int, bytes]] = []
     failed: List[BaseException] = []
 

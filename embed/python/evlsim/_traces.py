@@ -4,7 +4,7 @@ import re
 from typing import Any, Dict, Iterator, List, NamedTuple, Optional, Tuple
 
 from ._answers import Answer, Clock, Deadline, Line, Next, Play, Timer
-from ._errors import BadBoard
+from ._errors import BadBoard, BadText
 from ._kernel import Plan
 from ._pictures import shown
 
@@ -78,6 +78,23 @@ def read_trace(text: str) -> Iterator[Entry]:
         head, plays = read_call(line), []
     if head is not None:
         yield _entry(head, plays)
+
+
+def read_history(text: str) -> Iterator[Entry]:
+    """The entries of the lines after a board's line; BadText for a line that is neither a call with its answer, a play,
+    nor empty.
+
+    >>> [str(it) for it in read_history("1 T0 put sem=0 -> done\\n")]
+    ['T0 put sem=0 -> done']
+    """
+    for number, line in enumerate(text.splitlines(), 2):
+        try:
+            is_known = not line.strip() or line.startswith("  ") or read_call(line) is not None
+        except (ValueError, IndexError):
+            is_known = False
+        if not is_known:
+            raise BadText(f"line {number} is {line[:80]!r}: a call with its answer is wanted, as T0 put sem=0 -> done")
+    return read_trace(text)
 
 
 def _entry(head: Tuple[Optional[int], int, str, Dict[str, Any], str], plays: List[Play]) -> Entry:
@@ -162,7 +179,9 @@ def read_board_line(line: str) -> Dict[str, Any]:
     """
     found = re.findall(r" (\w+)=(\[.*?\](?= \w+=|$)|\d+)", line.rstrip())
     if not line.startswith("board ") or len(found) != line.count("="):
-        raise BadBoard(f"{line[:80]!r} is no line of a board")
+        raise BadBoard(f"{line[:80]!r} is no line of a board, as board threads=2 sems=[0]")
+    if "threads" not in dict(found):
+        raise BadBoard(f"{line[:80]!r} has no threads: a line of a board is wanted, as board threads=2 sems=[0]")
     board: Dict[str, Any] = {}
     for key, value in found:
         if value.isdecimal():

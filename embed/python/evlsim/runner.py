@@ -24,10 +24,14 @@ come between two of their steps is tried (docs/use/DRIVERS.md).
 "RuntimeError: the chosen event line 6 @ 3 can't come there: a list of another body, or a body that isn't the same in each run?"
 """
 
+import collections.abc
+import os
+import traceback
 from collections import Counter, deque
 from typing import Any, Callable, Deque, Dict, Generator, List, NamedTuple, Optional, Tuple
 
 from ._answers import Answer, Line
+from ._errors import BadQuestion, whole
 from ._kernel import PROGRAM_BANK, Plan
 from ._machine import Kernel
 
@@ -42,7 +46,8 @@ OTHER = "a list of another body, or a body that isn't the same in each run?"
 
 class Explored(NamedTuple):
     """What came of an exploration: of a run that failed why, its events as a list, and its texts; how many lists were
-    tried, how many ended with each outcome, and whether some were not tried, since `runs` were made."""
+    tried, how many ended with each outcome, whether some were not tried, since `runs` were made, and where in the test
+    a run that failed raised: the file, line and function, or ""."""
 
     failed: bool
     why: str
@@ -52,6 +57,7 @@ class Explored(NamedTuple):
     lists: int
     outcomes: Dict[str, int]
     is_cut: bool
+    where: str = ""
 
 
 class _Stuck(Exception):
@@ -74,31 +80,39 @@ class Thread:
         self.date: Optional[int] = None
 
     def attach(self, policy: str, stage: str = "oob") -> Request:
+        """Makes it a thread of the core, out-of-band if no stage is named: "fifo 10", "rr 10 1000" and so on."""
         return ("call", "attach", {"policy": policy, "stage": stage})
 
     def detach(self) -> Request:
+        """Takes it out of the core, in-band."""
         return ("call", "detach", {})
 
     def switch(self, stage: str) -> Request:
+        """Moves it to "inband" or "oob"."""
         return ("call", "set_stage", {"stage": stage})
 
     def put(self, sem: int) -> Request:
+        """Serves the first thread that waits for a semaphore, or raises its count."""
         return ("call", "put", {"sem": sem})
 
     def try_get(self, sem: int) -> Request:
+        """Takes one from a semaphore: the answer is false (`Again`) where its count is 0."""
         return ("call", "try_get", {"sem": sem})
 
     def get(self, sem: int, until: Optional[int] = None) -> Request:
+        """Takes one, and waits for it; the answer is "timed out" at the date `until`, in nanoseconds."""
         return ("wait", "begin_get", {"sem": sem, "until": until})
 
     def post(self, flags: int, bits: int) -> Request:
+        """Adds bits to a flag group."""
         return ("call", "post_flags", {"flags": flags, "bits": bits})
 
     def take(self, flags: int, kind: str = "any", until: Optional[int] = None) -> Request:
+        """Takes bits, "any", "of MASK" or "exact MASK", and waits for them: the answer's value is the bits."""
         return ("wait", "begin_take", {"flags": flags, "kind": kind, "until": until})
 
     def sleep(self, until: int) -> Request:
-        """Sleeps until a date, in-band."""
+        """Sleeps until a date in nanoseconds, in-band."""
         return ("sleep", "", {"until": until})
 
 
@@ -137,7 +151,7 @@ class Bench:
         """A thread, in-band until it attaches itself."""
         self._make([], 0)
         made = Thread(len(self._threads) + BODY + 1)
-        made.steps = run(made)
+        made.steps = _steps_of(run(made), f"thread T{made.number}")
         self._threads.append(made)
         return made
 
@@ -257,6 +271,8 @@ class Bench:
         thread.date = None
         try:
             request = thread.steps.send(thread.value)
+            if request is not None and not _is_request(request):
+                raise TypeError(f"T{thread.number} yields {request!r}: a call, as thread.get(sem), or nothing")
             thread.value = None
             thread.pending = request if request is not None else ("nothing", "", {})
         except StopIteration:
@@ -294,7 +310,7 @@ class Bench:
     def run(self, body: Callable[["Bench"], Steps]) -> None:
         """Runs the body to its end."""
         first = Thread(BODY)
-        first.steps = body(self)
+        first.steps = _steps_of(body(self), "the body")
         self._go_on(first)
         self._threads.insert(0, first)
         self._open()
@@ -306,6 +322,25 @@ class Bench:
                 self._step_of(thread)
         if self._chosen:
             raise RuntimeError(f"the chosen event {_text(tuple(self._chosen))} didn't come: {OTHER}")
+
+
+def _is_request(request: object) -> bool:
+    return isinstance(request, tuple) and len(request) == 3 and isinstance(request[2], dict)
+
+
+def _steps_of(steps: Any, what: str) -> Steps:
+    """The steps of a thread, which is a function with a yield."""
+    if not isinstance(steps, collections.abc.Generator):
+        raise TypeError(f"{what} is no generator: a function with a yield in it is wanted")
+    return steps
+
+
+def _where(why: BaseException) -> str:
+    """Where in the test an error was raised: the last place that isn't in this package."""
+    here = os.path.dirname(os.path.abspath(__file__))
+    places = traceback.extract_tb(why.__traceback__)
+    places = traceback.StackSummary(it for it in places if os.path.dirname(os.path.abspath(it.filename)) != here)
+    return f"{places[-1].filename}:{places[-1].lineno}, in {places[-1].name}" if places else ""
 
 
 def _text(choices: Choices) -> str:
@@ -323,8 +358,12 @@ def _read(choices: str) -> Choices:
 def explore(
     body: Callable[[Bench], Steps], arrivals: int = 2, runs: int = 100000, choices: Optional[str] = None
 ) -> Explored:
-    """Runs the body with each list of up to so many events, fewest first, up to the first run that raises or is stuck,
-    or so many `runs`; with `choices`, as a failure names it, with that list alone."""
+    """Runs the body, a function with a yield, with each list of up to so many events, fewest first, up to the first run
+    that raises or is stuck, or so many `runs`; with `choices`, as a failure names it, with that list alone."""
+    if not callable(body):
+        raise TypeError(f"body is {body!r}: a function with a yield in it is wanted")
+    for name, number, least in (("arrivals", arrivals, 0), ("runs", runs, 1)):
+        whole(BadQuestion, name, number, least, (1 << 63) - 1)
     outcomes: Counter[str] = Counter()
     count = 0
     lists: Deque[Choices] = deque([() if choices is None else _read(choices)])
@@ -335,7 +374,8 @@ def explore(
             bench.run(body)
         except Exception as why:  # pylint: disable=broad-except
             texts = (bench.kernel.trace(), bench.kernel.scenario()) if bench._kernel is not None else ("", "")
-            return Explored(True, f"{type(why).__name__}: {why}", _text(chosen), *texts, count, dict(outcomes), False)
+            told = (f"{type(why).__name__}: {why}", _text(chosen), *texts)
+            return Explored(True, *told, count, dict(outcomes), False, _where(why))
         outcomes["; ".join(bench.said)] += 1
         if choices is None and len(chosen) < arrivals:
             lists.extend((*chosen, choice) for choice in bench.offered)
