@@ -35,8 +35,8 @@ constexpr bool operator!=(evlsim_refusal one, evlsim_refusal other) noexcept { r
 
 namespace evlsim {
 
-/* A text that is refused, a board, a plan or a number, with its status, the step at fault or 0, and words, if there are
-   some. */
+/* A text that is refused, a board, a plan or a number, with its status and the step at fault or 0. what() has both, of a
+   text also its first fault ("bad step 1: text:7:1: step 1: put has no key .."), of a board the number at fault. */
 struct refused : std::runtime_error {
   evlsim_status status;
   std::uint32_t step;
@@ -54,26 +54,6 @@ using bank = std::vector<evlsim_plan>;
 inline void require_ok(evlsim_status status, std::uint32_t step = 0, const std::string &words = std::string()) {
   if (status == EVLSIM_NO_MEMORY) throw std::bad_alloc();
   if (status != EVLSIM_OK) throw refused(status, step, words);
-}
-
-/* The trace of a scenario's text from a byte on, as evlsim_play writes it, or evlsim_play_over if there is a bank.
-   Throws refused and std::bad_alloc. */
-inline std::string play(std::string_view text, std::uint32_t limit = 0, std::size_t start = 0,
-                        const std::optional<bank> &plans = std::nullopt) {
-  std::string trace(4096, '\0');
-  auto bytes = reinterpret_cast<const std::uint8_t *>(text.data());
-  for (;;) {
-    evlsim_played played{0, 0};
-    auto out = reinterpret_cast<std::uint8_t *>(trace.data());
-    evlsim_status status =
-        plans ? evlsim_play_over(plans->data(), plans->size(), bytes, text.size(), limit, start, out, trace.size(), &played)
-              : evlsim_play(bytes, text.size(), limit, start, out, trace.size(), &played);
-    require_ok(status, played.step);
-    std::size_t left = played.length < start ? 0 : played.length - start;
-    bool is_whole = left <= trace.size();
-    trace.resize(left);
-    if (is_whole) return trace;
-  }
 }
 
 /* What evlsim_check writes: lines of faults, or else of warnings. */
@@ -100,6 +80,37 @@ inline checked check(std::string_view text, const std::string &name = "text",
   }
 }
 
+namespace inside {
+
+/* The words of a refused text: its first fault, "text:7:1: step 1: ..", if it has one. */
+inline std::string words_of(evlsim_status status, std::string_view text) {
+  if (status != EVLSIM_BAD_TEXT && status != EVLSIM_BAD_BOARD && status != EVLSIM_BAD_STEP) return std::string();
+  checked told = check(text);
+  return told.is_at_fault ? told.lines.substr(0, told.lines.find('\n')) : std::string();
+}
+
+}  // namespace inside
+
+/* The trace of a scenario's text from a byte on, as evlsim_play writes it, or evlsim_play_over if there is a bank.
+   Throws refused and std::bad_alloc. */
+inline std::string play(std::string_view text, std::uint32_t limit = 0, std::size_t start = 0,
+                        const std::optional<bank> &plans = std::nullopt) {
+  std::string trace(4096, '\0');
+  auto bytes = reinterpret_cast<const std::uint8_t *>(text.data());
+  for (;;) {
+    evlsim_played played{0, 0};
+    auto out = reinterpret_cast<std::uint8_t *>(trace.data());
+    evlsim_status status =
+        plans ? evlsim_play_over(plans->data(), plans->size(), bytes, text.size(), limit, start, out, trace.size(), &played)
+              : evlsim_play(bytes, text.size(), limit, start, out, trace.size(), &played);
+    require_ok(status, played.step, inside::words_of(status, text));
+    std::size_t left = played.length < start ? 0 : played.length - start;
+    bool is_whole = left <= trace.size();
+    trace.resize(left);
+    if (is_whole) return trace;
+  }
+}
+
 /* The picture that evlsim_draw makes of a text, or evlsim_draw_over if there is a bank. Throws refused, with the step at
    fault, and std::bad_alloc. */
 inline std::string draw(std::string_view text, std::uint8_t form = EVLSIM_SVG, std::uint32_t page = 1,
@@ -112,7 +123,7 @@ inline std::string draw(std::string_view text, std::uint8_t form = EVLSIM_SVG, s
     evlsim_status status = plans ? evlsim_draw_over(plans->data(), plans->size(), form, page, bytes, text.size(), 0, out,
                                                     picture.size(), &drawn)
                                  : evlsim_draw(form, page, bytes, text.size(), 0, out, picture.size(), &drawn);
-    require_ok(status, drawn.step);
+    require_ok(status, drawn.step, inside::words_of(status, text));
     bool is_whole = drawn.length <= picture.size();
     picture.resize(drawn.length);
     if (is_whole) return picture;
@@ -143,7 +154,7 @@ inline ordered orders(std::string_view text, std::size_t most = 0, std::size_t o
     bool is_whole = numbers.length <= told.size();
     told.resize(numbers.length);
     if (!is_whole) continue;
-    require_ok(status, numbers.step, told);
+    require_ok(status, numbers.step, told.empty() ? inside::words_of(status, text) : told);
     ordered found(numbers);
     found.text = std::move(told);
     return found;
@@ -164,10 +175,57 @@ inline std::string callers(std::string_view text, std::uint32_t limit = 0,
     bool is_whole = played.length <= told.size();
     told.resize(played.length);
     if (!is_whole) continue;
-    require_ok(status, played.step, told);
+    require_ok(status, played.step, told.empty() ? inside::words_of(status, text) : told);
     return told;
   }
 }
+
+namespace inside {
+
+/* "sems[1] is 2147483648: 0 to 2147483647 is wanted" for a number out of its range, else nothing. */
+inline std::string out_of(const std::string &name, std::uint64_t number, std::uint64_t least, std::uint64_t most) {
+  if (number >= least && number <= most) return std::string();
+  return name + " is " + std::to_string(number) + ": " + std::to_string(least) + " to " + std::to_string(most) +
+         " is wanted";
+}
+
+/* The same for the first item that is, of a list that is there. */
+template <typename Item, typename Number>
+std::string out_of(const std::string &name, const Item *list, std::size_t count, std::size_t most_items, Number number,
+                   std::uint64_t least, std::uint64_t most) {
+  if (count > most_items) return out_of("the length of " + name, count, 0, most_items);
+  for (std::size_t at = 0; list != nullptr && at < count; at++) {
+    std::string words = out_of(name + "[" + std::to_string(at) + "]", number(list[at]), least, most);
+    if (!words.empty()) return words;
+  }
+  return std::string();
+}
+
+/* Which number of a board, or the limit, is out of its range: what a refused board says. */
+inline std::string words_of(const evlsim_board &board, std::uint32_t limit) {
+  auto itself = [](std::uint64_t number) { return number; };
+  auto kind = [](const evlsim_mutex &mutex) { return mutex.kind; };
+  auto ceiling = [](const evlsim_mutex &mutex) { return mutex.kind == EVLSIM_CEILING ? mutex.ceiling : 1u; };
+  auto in_size = [](const evlsim_rings &rings) { return rings.in_size; };
+  auto out_size = [](const evlsim_rings &rings) { return rings.out_size; };
+  const std::string found[] = {
+      out_of("threads", board.threads, 1, 256),
+      out_of("sems", board.sems, board.sem_count, 64, itself, 0, 0x7fffffff),
+      out_of("flags", board.flags, board.flag_count, 64, itself, 0, 0xffffffff),
+      out_of("in_size of xbufs", board.xbufs, board.xbuf_count, 16, in_size, 1, 256),
+      out_of("out_size of xbufs", board.xbufs, board.xbuf_count, 16, out_size, 1, 256),
+      out_of("kind of mutexes", board.mutexes, board.mutex_count, 32, kind, 0, EVLSIM_CEILING),
+      out_of("ceiling of mutexes", board.mutexes, board.mutex_count, 32, ceiling, 1, 99),
+      out_of("groups", board.groups, board.group_count, 16, itself, 1, 100),
+      out_of("limit", limit, 1, EVLSIM_MAX_LIMIT),
+  };
+  for (const std::string &words : found) {
+    if (!words.empty()) return words;
+  }
+  return std::string();
+}
+
+}  // namespace inside
 
 /* The callbacks of the program. */
 inline bank program_bank() { return bank(evlsim_program_bank, evlsim_program_bank + EVLSIM_PROGRAM_BANK); }
@@ -190,7 +248,8 @@ class kernel {
  public:
   /* Throws refused if the board, the limit or a plan is, and std::bad_alloc. */
   explicit kernel(const evlsim_board &board, std::uint32_t limit = 1000, const bank &plans = program_bank()) {
-    require_ok(evlsim_open(&kernel_, &board, plans.data(), plans.size(), limit));
+    evlsim_status status = evlsim_open(&kernel_, &board, plans.data(), plans.size(), limit);
+    require_ok(status, 0, status == EVLSIM_BAD_BOARD ? inside::words_of(board, limit) : std::string());
   }
   ~kernel() { evlsim_close(&kernel_); }
   kernel(kernel &&other) noexcept { std::swap(kernel_, other.kernel_); }
@@ -345,8 +404,16 @@ inline std::vector<caller> open_machine(const evlsim_board &board, const std::ve
   std::vector<evlsim_caller> opened(board.threads);
   std::vector<caller> callers(board.threads);
   evlsim_caller none = EVLSIM_NO_CALLER;
-  require_ok(evlsim_machine_open(opened.empty() ? &none : opened.data(), opened.size(), &board, staxes.data(),
-                                 staxes.size(), plans.data(), plans.size(), limit));
+  evlsim_caller *to = opened.empty() ? &none : opened.data();
+  evlsim_status status = evlsim_machine_open(to, opened.size(), &board, staxes.data(), staxes.size(), plans.data(),
+                                             plans.size(), limit);
+  if (status == EVLSIM_BAD_BOARD) {
+    std::string words = inside::words_of(board, limit);
+    auto holders = [](std::uint16_t limit_of_stax) { return limit_of_stax; };
+    if (words.empty()) words = inside::out_of("staxes", staxes.data(), staxes.size(), 16, holders, 1, 1000);
+    require_ok(status, 0, words);
+  }
+  require_ok(status);
   for (std::size_t place = 0; place < opened.size(); place++) {
     callers[place].caller_ = opened[place];
     callers[place].thread_ = static_cast<std::uint16_t>(place);

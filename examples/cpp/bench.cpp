@@ -2,6 +2,7 @@
 // it a callback of the bench's own.
 #include <cstdio>
 #include <cstdlib>
+#include <cstring>
 #include <evlsim.hpp>
 
 namespace {
@@ -49,11 +50,28 @@ void try_texts() {
   require(picture.rfind("T0          o\nsem 0       .\n", 0) == 0, "two lanes");
   try {
     evlsim::draw("threads = 1\n");
+    require(false, "it was drawn");
   } catch (const evlsim::refused &refused) {
     require(refused.status == EVLSIM_BAD_BOARD, "no trace and no scenario");
-    return;
   }
-  require(false, "it was drawn");
+  try {
+    evlsim::play("T0 putt sem=0\n");
+    require(false, "it was played");
+  } catch (const evlsim::refused &refused) {
+    require(refused.step == 1 && std::strstr(refused.what(), "bad step 1: text:1:4: ") == refused.what(), refused.what());
+  }
+}
+
+void try_boards() {
+  const std::uint32_t sems[] = {0, 0x80000000u};
+  evlsim_board board{};
+  board.threads = 1, board.sems = sems, board.sem_count = 2;
+  try {
+    evlsim::kernel kernel(board);
+    require(false, "it was opened");
+  } catch (const evlsim::refused &refused) {
+    require(refused.what() == std::string("bad board: sems[1] is 2147483648: 0 to 2147483647 is wanted"), refused.what());
+  }
 }
 
 /* Two callers of one machine; they may be on two threads (examples/c/machine.c). */
@@ -91,6 +109,7 @@ void try_callers() {
 int main() {
   try_third_event();
   try_texts();
+  try_boards();
   try_callers();
   evlsim::kernel kernel = chained();
   require(evlsim_see_rank(kernel.get(), 1) == 590, "thread 3's rank");
