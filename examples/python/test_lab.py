@@ -100,11 +100,13 @@ def checked_by_the_program(data: bytes) -> List[str]:
 
 
 def is_refusal(told: str, why: str) -> bool:
-    """Whether the program refuses a picture as the library does; of orders, a bank and lines it says more, and behind it the
-    first fault."""
-    told = told.split("\n", 1)[0]
-    says_more = told.endswith(OTHER_KINDS) or re.match(r"lab:\d+:\d+: ", told)
-    return told == f"lab: {why}" or bool(says_more and ", and as a scenario it has " in why)
+    """Whether the program refuses a picture as the library does, which has the first fault on the same line, and the program
+    below it; of orders, a bank and lines the program says more."""
+    first, _, below = told.partition("\n")
+    says_more = first.endswith(OTHER_KINDS) or re.match(r"lab:\d+:\d+: ", first)
+    fault = re.match(r"text\.toml:(\d+):(\d+): (.*)", below)
+    whole = f"{first}: line {fault[1]}, byte {fault[2]}: {fault[3]}" if fault else first
+    return f"lab: {why}" in (first, whole) or bool(says_more and ", and as a scenario it has " in why)
 
 
 def test_same_as_the_program() -> None:
