@@ -13,7 +13,7 @@ const BEGIN = `(async () => {
   window.lab_code = new Uint8Array(await new Response(stream).arrayBuffer());
   const text = document.getElementById('worker.js').textContent;
   const worker = new Worker(URL.createObjectURL(new Blob([text], { type: 'text/javascript' }))), waits = new Map();
-  worker.onmessage = event => { waits.get(event.data.id)(event.data); waits.delete(event.data.id); };
+  worker.onmessage = event => { waits.get(event.data.id)?.(event.data); waits.delete(event.data.id); };
   worker.postMessage({ code: window.lab_code });
   let last = 0;
   window.lab_run = ({ words, files, input }) => new Promise(done => {
@@ -165,8 +165,10 @@ export async function memory(browser, code, puts) {
     const code = Uint8Array.from(atob(${JSON.stringify(small)}), c => c.charCodeAt(0));
     const text = document.getElementById('worker.js').textContent;
     const worker = new Worker(URL.createObjectURL(new Blob([text], { type: 'text/javascript' }))), answers = [];
-    const done = new Promise(all => { worker.onmessage = event => { answers.push(event.data);
-      if (answers.length === 2) all(answers); }; });
+    const done = new Promise(all => { worker.onmessage = event => {
+      if (!event.data.compiled) answers.push(event.data);
+      if (answers.length === 2) all(answers);
+    }; });
     worker.postMessage({ code });
     worker.postMessage({ id: 1, words: ['lab', 'play', 'big.toml'], files: { 'big.toml': ${JSON.stringify(puts)} } });
     worker.postMessage({ id: 2, words: ['lab', 'help', 'put'], files: {} });
