@@ -6,3 +6,4 @@ pub mod LostTakes
 pub mod CoreLaws
 pub mod OneWorldLaws
 pub mod RuleWorld
+pub mod OneTurns

@@ -1,12 +1,13 @@
 //! Steps on a mutex's word in the core's table: by anybody for a mutex without a ceiling, else by the thread that has
 //! the kernel.
-ghost use Rattle.std.specs.Prelude.{◌≡◌, ◌<◌, IsSomeAnd, Ok, false, length, slice_get};
+ghost use Rattle.std.specs.Prelude.{◌≡◌, ◌<◌, IsSomeAnd, Ok, false, true, length, slice_get};
 ghost use Rattle.evl_words.specs.declared.mutex.MutexRole.TheVariants.{Winner};
 ghost use Rattle.evl_words.specs.MutexPlaces.{IsOfPlace};
-ghost use Rattle.evl_words.specs.MutexWorld.{accepts, awaits, claims, forgets, frees, offers, settles, tries};
+ghost use Rattle.evl_words.specs.MutexWorld.{accepts, awaits, claims, forgets, frees, offers, settles, tries, unlocks};
 ghost use Rattle.evl_core.specs.rule.Known.{ceilings_of};
 ghost use Rattle.evl_core.specs.words.MutexSeats.{AcceptsSo, Claims, ForgetsSo, Frees, IsOfMutex, Offers, Settles, Tries, UnlocksSo};
-ghost use Rattle.evl_core.specs.words.Noted.{FoundAny, FoundClaimed, FoundOffered, FoundTried, Notes, NotesAccept, is_done, is_refused};
+ghost use Rattle.evl_core.specs.worlds.OneWorld.{on_word};
+ghost use Rattle.evl_core.specs.words.Noted.{FoundAny, FoundClaimed, FoundOffered, FoundTried, MakesOne, Notes, NotesAccept, is_done, is_refused};
 ghost use Rattle.evl_core.specs.words.MutexTokens.{AwaitsSo, DoesAtWord, HasKernelFor, IsAtTable, SeesOffered, TakesOffer, part_of, seats_at};
 
 use crate::core_lock::{
@@ -34,6 +35,7 @@ pub fn try_there<C: Drop, A: Allocator>(
     requires free { IsSomeAnd (slice_get places.old mutex.0) (λ p. p.depth ≡ 0) }
     ensures word { DoesAtWord core.now.shared.table_id core.now.shared.key.value seat.old.table_id seat.old.me places.old seat.new.table_id seat.new.me places.new mutex.0 (Tries result) }
     ensures pass { IsOfMutex mutex.0 result }
+    ensures event { MakesOne (on_word mutex.0 tries) seat.old.me.0 seat.new.me.0 }
 {
     let word = 1 + usize::from(mutex.0);
     let number = u64::from(places.number(mutex)) + 1;
@@ -57,6 +59,7 @@ pub fn try_held<C: Drop, A: Allocator>(
 ) -> Result<MutexPass, Refusal>
     requires table { IsAtTable core.now.shared.table_id core.now.shared.key.value seat.old.table_id seat.old.me.0 places.old }
     requires holder { HasKernelFor mutex.0 seat.old.me.0 }
+    requires ceiling { ceilings_of core.now.shared.key.value mutex.0 ≡ true }
     requires free { IsSomeAnd (slice_get places.old mutex.0) (λ p. p.depth ≡ 0) }
     ensures word { DoesAtWord core.now.shared.table_id core.now.shared.key.value seat.old.table_id seat.old.me places.old seat.new.table_id seat.new.me places.new mutex.0 (Tries result) }
     ensures pass { IsOfMutex mutex.0 result }
@@ -88,6 +91,7 @@ pub fn unlock_there<C: Drop, A: Allocator>(
     requires plain { ceilings_of core.now.shared.key.value pass.mutex.0 ≡ false }
     requires once { IsSomeAnd (slice_get places.old pass.mutex.0) (λ p. IsOfPlace pass p × (p.depth ≡ 1)) }
     ensures word { DoesAtWord core.now.shared.table_id core.now.shared.key.value seat.old.table_id seat.old.me places.old seat.new.table_id seat.new.me places.new pass.mutex.0 (UnlocksSo pass (Ok result)) }
+    ensures event { MakesOne (on_word pass.mutex.0 unlocks) seat.old.me.0 seat.new.me.0 }
 {
     let mutex = pass.mutex();
     let word = 1 + usize::from(mutex.0);

@@ -8,3 +8,4 @@ pub mod Gathering
 pub mod Together
 pub mod Visits
 pub mod Opened
+pub mod OneSteps

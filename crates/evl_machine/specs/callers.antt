@@ -6,3 +6,4 @@ pub mod Handles
 pub mod CallerTokens
 pub mod Callers
 pub mod InHand
+pub mod OneSteps

@@ -2,6 +2,9 @@
 ghost use Rattle.std.specs.Prelude.{◌≡◌, ◌≢◌, ◌<◌, None, Ok, false};
 ghost use Rattle.evl_kernel.specs.state.Callbacks.{AnswersByPlan};
 ghost use Rattle.evl_words.specs.declared.mutex.Unlock.TheVariants.{Done};
+ghost use Rattle.evl_words.specs.MutexWorld.{tries, unlocks};
+ghost use Rattle.evl_core.specs.worlds.OneWorld.{on_word};
+ghost use Rattle.evl_machine.specs.callers.OneSteps.{StepsInOne};
 ghost use Rattle.evl_machine.specs.calls.Calls.{HoldsAtItsStage, wait_of_caller};
 ghost use Rattle.evl_core.specs.rule.Ceilings.{has_ceiling};
 ghost use Rattle.evl_machine.specs.callers.Handles.{Belongs, IsSameCaller};
@@ -31,6 +34,7 @@ impl<C: Drop, A: Allocator> MachineOf<C, A> {
         requires free { depth_at caller.old.mutexes mutex.0 ≡ 0 }
         ensures machine { IsSameCaller caller.old caller.new }
         ensures tried { MutexCall caller.old (λ was is. TriesMutex (kinds_of caller.old) was mutex.0 result is) caller.new }
+        ensures event { StepsInOne (on_word mutex.0 tries) caller.old caller.new }
         ensures stage { HoldsAtItsStage caller.new }
     {
         mutex_steps::try_there(
@@ -64,6 +68,7 @@ impl<C: Drop, A: Allocator> MachineOf<C, A> {
         requires once { depth_at caller.old.mutexes pass.mutex.0 ≡ 1 }
         ensures machine { IsSameCaller caller.old caller.new }
         ensures unlocked { MutexCall caller.old (λ was is. UnlocksMutex was pass (Ok result) is) caller.new }
+        ensures event { StepsInOne (on_word pass.mutex.0 unlocks) caller.old caller.new }
         ensures seats { AreTheSame caller.old.mutexes caller.new.mutexes }
         ensures stage { HoldsAtItsStage caller.new }
     {

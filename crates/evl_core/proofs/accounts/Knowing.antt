@@ -25,7 +25,7 @@ use Rattle.evl_core.specs.rule.CoreRule.{MayGive, account_at, after_loss, core_p
 use Rattle.evl_core.specs.words.MutexTokens.{AreItsPlaces, KeepsPlaces, note_in, part_of}
 use Rattle.evl_core.specs.words.Noted.{HasTaken, IsSettled, number_of}
 use Rattle.evl_core.specs.rule.ThreadRule.{mutex_of, put_core}
-use Rattle.evl_core.specs.worlds.CoreWorld.{CoreKind, Slot, step_part, taken_from, takes, gives}
+use Rattle.evl_core.specs.worlds.CoreWorld.{CoreKind, IsCoreEvent, Slot, step_part, taken_from, takes, gives}
 use Rattle.evl_core.specs.worlds.Events.{FailsToTake, Gives, KernelEvent, Takes, at_rest, in_hand}
 use Rattle.evl_core.specs.accounts.Seats.{CoreMe, AccountsFit, view, Continues, account_of, resting}
 use Rattle.evl_core.specs.rule.Known.{ComesFrom, CoreHand, KernelMe, accounts_in, taken_in, first_of, past_of, room_of, seen, ceilings_of, mutex_count, KeptKnown, took_known, gave_known}
@@ -93,7 +93,7 @@ module _ {C : Type 0} where
   lost_lock found slot log k c ne = ap (λ (b : Bool). lock_of (if b then taken_from past_of room_of ComesFrom slot (lock_view log (lock_entry k Take (if b then Got else Lost)) c.lock true) c else after_loss (lock_view log (lock_entry k Take (if b then Got else Lost)) c.lock false) c)) (ne_eqb found 0 ne)
 
   -- so it was lost to another thread
-  lost_to : (k : ℕ) (c d : CorePart (KernelView C)) (found : ℕ) → c.taken ≡ None → found ≢ 0 → KernelEvent k c takes found d → LosesTo k c.lock d.lock
+  lost_to : (k : ℕ) (c d : CorePart (KernelView C)) (found : ℕ) → c.taken ≡ None → found ≢ 0 → IsCoreEvent past_of room_of ComesFrom k c takes found d → LosesTo k c.lock d.lock
   lost_to k c d found none ne event =
       let w = event.world in
       let shows = event.shows in
@@ -116,6 +116,7 @@ module _ {C : Type 0} where
       let stays : t.0.core.first ≡ v.core.first = dite (ℕ_discrete found 0)
       (λ (e : found ≡ 0). ap (λ (x : CorePart (KernelView C) × Slots C). x.0.first) (t.2.0.0.0 e).2)
       (λ (ne : found ≢ 0). ap (λ (x : CorePart (KernelView C) × Slots C). x.0.first) (t.2.0.0.1 ne).1) in
+      let one : KernelEvent k v.core takes found t.0.core = record { before = v; after = t.0; was = refl; is = refl; event = t.2.2 } in
       let number : k ≡ a.thread = ap (λ (x : Account). x.thread) o.account_is in
       let from : v.core ≡ at_rest (first_of me.0) a v.core.note v.core.lock = part_is k v.core None a (first_of me.0) o.taken_is o.account_is (sym before) in
       let account : account_at k t.0.core ≡ account_of (seen me') = sym (ap account_of now) in
@@ -139,7 +140,7 @@ module _ {C : Type 0} where
               v.core.lock,
               t.0.core.lock,
               event_as k a.thread v.core (at_rest (first_of me.0) a v.core.note v.core.lock) takes found 0 t.0.core (in_hand (first_of me.0) (account_of (seen me')) t.0.core.note t.0.core.lock) number from e
-                  (part_is k t.0.core (Some (account_of (seen me')).seen) (account_of (seen me')) (first_of me.0) taken account (stays ∙ sym before)) t.2.0.0.2,
+                  (part_is k t.0.core (Some (account_of (seen me')).seen) (account_of (seen me')) (first_of me.0) taken account (stays ∙ sym before)) one,
             )),
         (λ ne.
             let taken : t.0.core.taken ≡ None = ap (λ (x : CorePart (KernelView C) × Slots C). x.0.taken) (t.2.0.0.1 ne).1 ∙ o.taken_is in (
@@ -152,7 +153,7 @@ module _ {C : Type 0} where
               t.0.core.lock,
               subst (λ (i : ℕ). LosesTo i v.core.lock t.0.core.lock) number (lost_to k v.core t.0.core found o.taken_is ne t.2.0.0.2),
               event_as k a.thread v.core (at_rest (first_of me.0) a v.core.note v.core.lock) takes found found t.0.core (at_rest (first_of me.0) (account_of (seen me')) t.0.core.note t.0.core.lock) number from refl
-                  (part_is k t.0.core None (account_of (seen me')) (first_of me.0) taken account (stays ∙ sym before)) t.2.0.0.2,
+                  (part_is k t.0.core None (account_of (seen me')) (first_of me.0) taken account (stays ∙ sym before)) one,
             )),
       )
     where
@@ -185,20 +186,22 @@ module _ {C : Type 0} where
       let hand = ap (λ (z : KernelMe C). z.0) o.me_is in
       let t = told o.number o.thread hand in
       let gave = t.2.0 k (ap (λ (z : KernelMe C). z.1) o.me_is) in
+      let e = t.2.2 k (ap (λ (z : KernelMe C). z.1) o.me_is) in
+      let one : KernelEvent o.number o.thread.core (gives k) e.0 t.0.core = record { before = o.thread; after = t.0; was = refl; is = refl; event = e.1 } in
       let now : seen me' ≡ seen_at o.number (t.0.core, me'.1) = ap (seen_hand me'.1) t.1 in
       let before : first_of me.0 ≡ o.thread.core.first = ap first_of hand in
       let stays : t.0.core.first ≡ first_of me.0 = ap (λ (x : CorePart (KernelView C) × Slots C). x.0.first) gave.1 ∙ sym before in (
         now ∙ (ap (seen_at o.number) gave.1 ∙ ap (λ (x : Account). resting (up_to_date k.history x)) o.account_is),
         ap first_of t.1 ∙ stays,
         (
-          gave.2,
+          e.0,
           o.thread.core.note,
           t.0.core.note,
           o.thread.core.lock,
           t.0.core.lock,
-          event_as o.number a.thread o.thread.core (in_hand (first_of me.0) a o.thread.core.note o.thread.core.lock) (gives k) gave.2 gave.2 t.0.core (at_rest (first_of me.0) (account_of (seen me')) t.0.core.note t.0.core.lock) (ap (λ (x : Account). x.thread) o.account_is)
+          event_as o.number a.thread o.thread.core (in_hand (first_of me.0) a o.thread.core.note o.thread.core.lock) (gives k) e.0 e.0 t.0.core (at_rest (first_of me.0) (account_of (seen me')) t.0.core.note t.0.core.lock) (ap (λ (x : Account). x.thread) o.account_is)
               (part_is o.number o.thread.core (Some a.seen) a (first_of me.0) o.taken_is o.account_is (sym before)) refl
-              (part_is o.number t.0.core None (account_of (seen me')) (first_of me.0) (ap (λ (x : CorePart (KernelView C) × Slots C). x.0.taken) gave.1) (sym (ap account_of now)) stays) gave.3,
+              (part_is o.number t.0.core None (account_of (seen me')) (first_of me.0) (ap (λ (x : CorePart (KernelView C) × Slots C). x.0.taken) gave.1) (sym (ap account_of now)) stays) one,
         ),
       )
 

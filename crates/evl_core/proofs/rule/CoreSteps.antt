@@ -1,5 +1,5 @@
 -- Each step on the core's lock keeps its part of a table's rule.
-use Rattle.std.proofs.Common.{◌≡◌, ◌≢◌, eqb, true, false, ℕ, List, [], ◌∷◌, ◌++◌, set, Option, Some, None, refl, sym, ap, ◌∙◌, subst, ⊎_elim, inl, inr, arith, length-set}
+use Rattle.std.proofs.Common.{◌≡◌, ◌≢◌, ℕ, List, [], ◌∷◌, set, Option, Some, None, refl, sym, ap, ◌∙◌, subst, ⊎_elim, inl, inr, arith, length-set}
 use Rattle.std.proofs.lemmas.List.{length-replicate}
 use Rattle.std.specs.Prelude.{replicate}
 use Rattle.std.proofs.lemmas.Option.{same_Some}
@@ -7,24 +7,17 @@ use mathlib.Core.Option.{some, none, some-injective}
 use mathlib.Core.Logic.{dite}
 use native.Mathlib.Decide.{ℕ_discrete}
 use lib.ListN.{get_elem?}
-use prog.Atomic.{either}
-use Rattle.atomic_table.specs.Table.{Step, takes, keeps, gives}
 use Rattle.atomic_table.proofs.Lists.{at_set, set_else, set_here}
 use Rattle.evl_base.specs.declared.entry.Entry.{Entry}
 use Rattle.evl_kernel.specs.histories.Histories.{History, IsLegal}
-use Rattle.evl_words.specs.Parts.{LockTurns, LockChange}
+use Rattle.evl_words.specs.Parts.{LockChange}
 use Rattle.evl_words.proofs.Sequences.{at_below, at_replicate}
 use Rattle.evl_core.specs.declared.views.CorePart.{CorePart}
-use Rattle.evl_core.specs.declared.views.LockCall.TheVariants.{Take}
-use Rattle.evl_core.specs.declared.views.LockReply.TheVariants.{Got, Lost}
-use Rattle.evl_core.specs.accounts.Accounts.{GoesOn, HasNoStranger, MadeBy, calls_by, Fits, threads_of}
-use Rattle.evl_core.specs.lock.Lock.{LockEntry, LockView, give_entry, lock_entry, lock_view}
-use Rattle.evl_core.specs.rule.CoreRule.{IsFree, IsTaken, CoreKept, CoreRuled, Homes, MayGive, account_at, newcomer_part, after_take, after_loss, after_give}
-use Rattle.evl_core.specs.worlds.CoreWorld as kind
-use Rattle.evl_core.specs.worlds.CoreWorld.{CoreWorld, IsCoreEvent, Slot, step_part}
-use Rattle.evl_core.specs.rule.CoreTells.{CoreMe, took, gave}
-use Rattle.evl_core.proofs.rule.Noting.{lost_core}
-use Rattle.evl_core.proofs.lock.LockSteps.{given_kept, got_kept, lock_opens, lost_kept}
+use Rattle.evl_core.specs.accounts.Accounts.{GoesOn, MadeBy, calls_by, Fits, threads_of}
+use Rattle.evl_core.specs.lock.Lock.{LockView}
+use Rattle.evl_core.specs.rule.CoreRule.{IsFree, IsTaken, CoreKept, CoreRuled, Homes, account_at, newcomer_part, after_take, after_loss, after_give}
+use Rattle.evl_core.specs.worlds.CoreWorld.{Slot}
+use Rattle.evl_core.proofs.lock.LockSteps.{lock_opens}
 use Rattle.evl_core.proofs.accounts.Accounts.{goes_on_threads, strangers_more, starts_whole, fits_longer, goes_on_legal}
 
 -- what holds of the elements but one, and of the new one there, holds of all
@@ -37,10 +30,6 @@ none_some x y e f = let g : Some x ≡ None = sym e ∙ f in absurd (cc)
 
 pub only_slot : {S : Type 0} (x y : Slot S) → x ∷ [] ≡ y ∷ [] → x ≡ y
 only_slot x y e = cc
-
-abbrev first_slot : {S : Type 0} → List (ℕ × Option S) → Option S
-first_slot [] = None
-first_slot (x ∷ xs) = x.1
 
 module _ {S B : Type 0} (past : S → History) (comes : B → S → Type 0) (first : B) where
   abbrev pub Lock : ℕ → Homes S → List (CorePart B) → Type 0
@@ -80,76 +69,6 @@ module _ {S B : Type 0} (past : S → History) (comes : B → S → Type 0) (fir
     });
   }
 
-  one_stays : (n : ℕ) → n ≡ 1 → n ≡ either (eqb n 0) 1 n
-  one_stays n e = subst (λ (x : ℕ). x ≡ either (eqb x 0) 1 x) (sym e) refl
-
-  -- the kernel goes out of the slot where the word is 0, and elsewhere the take is lost
-  pub takes_core : (room : S → ℕ) (beside : Change) (slots k : ℕ) (c : CorePart B) → c.taken ≡ None → Losing beside k c → Taking room beside k c → (st : Step (Option S))
-      → LockTurns Ruled beside slots k (c, []) (λ n. either (eqb n 0) 1 n) (took past room comes st k (c, []))
-  takes_core room beside slots k c rests losing taking st n homes cores (log, r, lock) len at below = ⊎_elim
-      (λ (f : IsFree past comes first r.history n homes cores).
-      let y = f.kernel in
-      let e : LockEntry = lock_entry k Take Got in
-      let known : LockView = lock_view log e c.lock true in
-      let w = after_take (past y) (room y) known c in
-      let free : Lock 0 (some (Some y) ∷ []) cores = subst (λ (z : ℕ × Homes S). Lock z.0 z.1 cores) (λ i. (f.word_is i, f.slot_is i)) r in
-      let kept : Lock 1 (none ∷ []) (set cores k w) = subst (λ (h : History). Lock 1 (none ∷ []) (set cores k (after_take h (room y) known c))) (sym f.past_is) (taken_core (room y) n homes cores k c known r at f.nobody) in
-      let now : Ruled 1 (none ∷ []) (set cores k w) = (log ++ e ∷ [], kept, got_kept log n cores k c lock at (past y) (room y) f.word_is) in
-      let both = subst (λ (z : ℕ × Homes S). Ruled (either (eqb z.0 0) 1 z.0) (set z.1 0 none) (set cores k w) × beside z.0 z.1 cores (either (eqb z.0 0) 1 z.0) (set z.1 0 none) (set cores k w))
-      (λ i. (sym f.word_is i, sym f.slot_is i)) (now, taking y known cores free at) in (
-        w,
-        takes 0 (Some y),
-        ap (λ (hs : Homes S). get_elem? hs 0) f.slot_is,
-        both.0,
-        both.1,
-        (
-          (λ _. (
-            y,
-            known,
-            refl,
-            subst IsLegal (sym f.past_is) r.legal,
-            subst HasNoStranger (sym f.past_is) r.strangers,
-            subst (λ (h : History). Fits h (account_at k c)) (sym f.past_is) (r.fits k c at),
-            subst (λ (b : B). comes b y) (sym (r.knows k c at)) f.comes_from,
-          )),
-          (λ other. absurd (other f.word_is)),
-          record {
-            world = record { word = n; slot = some (Some y); log = log; views = cores };
-            stands = (subst (λ (b : B). CoreKept past comes b n (some (Some y) ∷ []) cores) (sym (r.knows k c at)) (subst (λ (hs : Homes S). Lock n hs cores) f.slot_is r), lock);
-            at = at;
-            may = rests;
-            shows = refl;
-            after = ap (λ m. step_part past room comes m (some (Some y)) log k c kind.takes) (sym f.word_is);
-          },
-        ),
-      ))
-      (λ (t : IsTaken r.history n homes cores).
-      let e : LockEntry = lock_entry k Take Lost in
-      let known : LockView = lock_view log e c.lock false in
-      let w = after_loss known c in
-      let now : Ruled n homes (set cores k w) = (log ++ e ∷ [], lost_core past comes first n homes cores k c known r at, lost_kept log n cores k c lock at t.word_is rests) in
-      let both = subst (λ (z : ℕ). Ruled z homes (set cores k w) × beside n homes cores z homes (set cores k w)) (one_stays n t.word_is) (now, losing known n homes cores at) in
-      let taken : n ≡ 1 = t.word_is in (
-        w,
-        keeps,
-        tt,
-        both.0,
-        both.1,
-        (
-          (λ (zero_found : n ≡ 0). absurd (omega arith)),
-          (λ _. (known, refl)),
-          record {
-            world = record { word = n; slot = none; log = log; views = cores };
-            stands = (subst (λ (b : B). CoreKept past comes b n (none ∷ []) cores) (sym (r.knows k c at)) (subst (λ (hs : Homes S). Lock n hs cores) t.slot_is r), lock);
-            at = at;
-            may = rests;
-            shows = refl;
-            after = ap (λ m. step_part past room comes m none log k c kind.takes) (sym t.word_is);
-          },
-        ),
-      ))
-      r.who
-
   -- the thread that has the kernel: the core is taken, by it, and the common history is the one that it found
   pub holder_is : (n : ℕ) (homes : Homes S) (cores : List (CorePart B)) (k : ℕ) (c : CorePart B) (h : History) (r : Lock n homes cores) → get_elem? cores k ≡ some c → c.taken ≡ Some h
       → IsTaken r.history n homes cores × (r.history ≡ h) × ((j : ℕ) (u : CorePart B) → j ≢ k → get_elem? cores j ≡ some u → u.taken ≡ None)
@@ -184,38 +103,6 @@ module _ {S B : Type 0} (past : S → History) (comes : B → S → Type 0) (fir
       nobody = all_set (λ _ u. u.taken ≡ None) cores k w refl nobody;
     });
   }
-
-  -- the kernel goes back into the slot, with more calls of the thread that had it
-  pub gives_core : (room : S → ℕ) (beside : Change) → (slots k : ℕ) (c : CorePart B) (y : S) → Giving beside k c y → MayGive k c (past y) → comes c.first y → (st : Step (Option S))
-      → LockTurns Ruled beside slots k (c, (0, Some y) ∷ []) (λ _. 0) (gave past room comes st k (c, (0, Some y) ∷ []))
-  gives_core room beside slots k c y giving m from st n homes cores (log, r, lock) len at below =
-      let x = holder_is n homes cores k c m.before r at m.taken in
-      let known : LockView = lock_view log (give_entry k) c.lock false in
-      let w = after_give (past y) k known c in
-      let longer : GoesOn r.history m.added (past y) = subst (λ (h : History). GoesOn h m.added (past y)) (sym x.1) m.longer in
-      let kept : Lock 0 (some (Some y) ∷ []) (set cores k w) = given_core n homes cores k c known m.added y r at m.own longer (subst (λ (b : B). comes b y) (r.knows k c at) from) x.2 in
-      let now : Ruled 0 (some (Some y) ∷ []) (set cores k w) = (log ++ give_entry k ∷ [], kept, given_kept log n cores k c lock at (past y) (Some m.before) m.taken refl) in
-      let taken : Lock 1 (none ∷ []) cores = subst (λ (z : ℕ × Homes S). Lock z.0 z.1 cores) (λ i. (x.0.word_is i, x.0.slot_is i)) r in
-      let both = subst (λ (z : ℕ × Homes S). Ruled 0 (set z.1 0 (some (Some y))) (set cores k w) × beside z.0 z.1 cores 0 (set z.1 0 (some (Some y))) (set cores k w))
-      (λ i. (sym x.0.word_is i, sym x.0.slot_is i)) (now, giving known cores taken at) in
-      let event : IsCoreEvent past room comes k c (kind.gives y) n w = record {
-        world = record { word = n; slot = none; log = log; views = cores };
-        stands = (subst (λ (b : B). CoreKept past comes b n (none ∷ []) cores) (sym (r.knows k c at)) (subst (λ (hs : Homes S). Lock n hs cores) x.0.slot_is r), lock);
-        at = at;
-        may = (m, from);
-        shows = refl;
-        after = refl;
-      } in (
-        w,
-        gives,
-        tt,
-        both.0,
-        both.1,
-        (λ z e. subst (λ (q : S). Back known q) (same_Some y z (ap (λ (xs : List (ℕ × Option S)). first_slot xs) e)) (known, refl, n, event)),
-      )
-    where
-      Back : LockView → S → Type 0
-      Back known q = (given : LockView) × (◌≡◌ {A = CoreMe S B} (after_give (past y) k known c, []) (after_give (past q) k given c, [])) × (found : ℕ) × IsCoreEvent past room comes k c (kind.gives q) found (after_give (past y) k known c)
 
   -- at the opening the kernel lies in the slot, and no thread has made a call
   pub opens_core : (y : S) (n : ℕ) → n ≡ threads_of (past y) → IsLegal (past y) → (past y).entries ≡ [] → comes first y → Lock 0 (some (Some y) ∷ []) (replicate n (newcomer_part (past y) first))

@@ -1,73 +1,45 @@
 -- The steps on the one table, with the ties: what each owes, and what it tells.
-use Rattle.std.proofs.Common.{◌≡◌, eqb, ℕ, ◌+◌, ◌-◌, ◌<◌, Bool, true, false, List, [], ◌∷◌, length, map, get_or, Option, Some, None, refl, sym, subst, arith}
-use mathlib.Core.Option.{some}
-use mathlib.Core.Option as maybe
+use Rattle.std.proofs.Common.{◌≡◌, ⊎_elim, eqb, ℕ, ◌+◌, ◌-◌, ◌<◌, Bool, true, false, List, [], ◌∷◌, length, map, set, get_or, Option, Some, None, refl, sym, ap, ◌∙◌, subst, arith}
+use Rattle.std.proofs.lemmas.Option.{same_Some}
+use mathlib.Core.Option.{some, none}
 use lib.ListN.{get_elem?}
 use prog.Atomic.{either}
-use Rattle.atomic_table.specs.Table.{State, Me, Step, Allows}
+use Rattle.atomic_table.specs.Table.{State, Me, Step, Allows, gives, keeps}
 use Rattle.atomic_table.proofs.Lists.{at_map, set_here}
-use Rattle.evl_base.specs.Limits.{thread_limit}
-use Rattle.evl_kernel.specs.histories.Histories.{History}
+use Rattle.evl_kernel.specs.histories.Histories.{History, IsLegal}
 use Rattle.evl_words.specs.Hands.{Hand, Told, Turns, place}
-use Rattle.evl_words.specs.Parts.{Tells, PartTurns, LockTurns, KeepsTies, Tabled, AreParts}
+use Rattle.evl_words.specs.Parts.{Tells}
 use Rattle.evl_words.specs.MutexWorld.{MutexView, MutexKind, MutexDoes, tries, unlocks, step_may, step_word, owns}
 use Rattle.evl_words.specs.declared.mutex.MutexRole.{MutexRole}
 use Rattle.evl_words.specs.declared.mutex.MutexRole.TheVariants.{Bystander, Winner, Waiter, Owner}
 use Rattle.evl_words.proofs.Sequences.{at_below}
 use Rattle.evl_words.proofs.Dealing.{allows_of}
-use Rattle.evl_words.proofs.Parts.{lock_turns, part_turns, Marks}
-use Rattle.evl_words.proofs.MutexSeats.{mutex_turns}
 use Rattle.evl_words.proofs.MutexSteps.{names_owner}
+use Rattle.evl_core.specs.declared.views.CorePart.{CorePart}
+use Rattle.evl_core.specs.declared.views.LockCall.TheVariants.{Take}
+use Rattle.evl_core.specs.declared.views.LockReply.TheVariants.{Got, Lost}
 use Rattle.evl_core.specs.declared.views.ThreadView.{ThreadView}
-use Rattle.evl_core.specs.rule.CoreRule.{CoreRuled, Homes, IsAbout, MayGive, noting}
-use Rattle.evl_core.specs.rule.CoreTells.{took, gave}
-use Rattle.evl_core.specs.rule.ThreadRule.{MutexParts, ThreadRule, MachineRule, core_of, put_core, mutex_of, put_mutex, on_core, on_mutex}
+use Rattle.evl_core.specs.accounts.Accounts.{Fits, HasNoStranger}
+use Rattle.evl_core.specs.lock.Lock.{LockView, give_entry, lock_entry, lock_view}
+use Rattle.evl_core.specs.rule.CoreRule.{CoreKept, Homes, IsAbout, IsFree, IsTaken, MayGive, account_at, after_give, after_loss, after_take, noting}
+use Rattle.evl_core.specs.rule.CoreTells.{CoreMe, took, gave}
+use Rattle.evl_core.specs.rule.ThreadRule.{ThreadRule, MachineRule, core_of, put_core, mutex_of, put_mutex}
 use Rattle.evl_core.specs.rule.Ties.{AreTied, Settled, StandsNoted, mutex_tie}
-use Rattle.evl_core.specs.rule.TieTells.{OwnsAsRecorded, with_owned, on_noted}
-use Rattle.evl_core.proofs.rule.CoreSteps.{takes_core}
-use Rattle.evl_core.proofs.rule.ThreadSteps.{parts_apart, gives_thread, steps_thread}
-use Rattle.evl_core.proofs.ties.TieSteps.{StaysPlain, try_stays, unlock_stays}
+use Rattle.evl_core.specs.rule.TieTells.{EventOf, OwnsAsRecorded, on_mutex, on_noted, with_given, with_owned}
+use Rattle.evl_core.specs.worlds.CoreWorld as kind
+use Rattle.evl_core.specs.worlds.CoreWorld.{IsCoreEvent, step_part, step_slot, takes}
+use Rattle.evl_core.specs.worlds.OneWorld.{HasFor, IsOneEvent, OneWorld, is_unlocking, needs_kernel, on_lock, on_word, one_after, one_may, view_after}
+use Rattle.evl_core.proofs.rule.CoreSteps.{only_slot}
 use Rattle.evl_core.proofs.ties.TieRecords.{owner_finds}
-use Rattle.evl_core.proofs.rule.TieRule.{tie_losing, tie_taking, tie_giving, tie_stepping, tie_marking, ties_beside, lock_marked, log_marked}
-
-module _ {S V C P : Type 0} (lock : ℕ → List (maybe.Option S) → List C → Type 0) (part : ℕ → ℕ → List P → Type 0) (tie : ℕ → ℕ → List (maybe.Option S) → List C → ℕ → Type 0)
-    (core_of : V → C) (put_core : V → C → V) (of : ℕ → V → P) (put : ℕ → V → P → V) (laws : AreParts core_of put_core of put) (further : ℕ) where
-  abbrev pub Rule : List ℕ → List (maybe.Option S) → List V → Type 0
-  Rule = Tabled lock part tie core_of of further
-
-  -- a step of the lock, which also tells what the rule then says of the seat
-  pub lock_turns_also : (slots k : ℕ) (v : V) (carried : List (ℕ × S)) (f : ℕ → ℕ) (then : ℕ → Me S C → Type 0) (Also : V → Type 0)
-      → LockTurns lock (KeepsTies tie) slots k (core_of v, carried) f then
-      → ((words : List ℕ) (homes : List (maybe.Option S)) (views : List V) (w : V) → Rule words homes views → get_elem? views k ≡ some w → Also w)
-      → Turns Rule slots k (v, carried) 0 f (λ found m. (then found (core_of m.0, m.1) × (m.0 ≡ put_core v (core_of m.0))) × Also m.0)
-  lock_turns_also slots k v carried f then Also turns also words homes views kept len at below =
-      let t = lock_turns lock part tie core_of put_core of put laws further slots k v carried f then turns words homes views kept len at below in
-      (t.0, t.1, t.2, t.3, (t.4, also _ _ _ t.0 t.3 (set_here views k t.0 (at_below views k v at))))
-
-  -- a step on a further word that marks the seat's part of the lock, which also tells what the tie said before it
-  pub part_turns_also : (slots k : ℕ) (v : V) (carried : List (ℕ × S)) (i : ℕ) → i < further → (f : ℕ → ℕ) (mark : ℕ → C → C) (then : ℕ → Me S P → Type 0) (Also : ℕ → Type 0)
-      → PartTurns (part i) k (of i v) f (λ found p. then found (p, carried))
-      → Marks lock part tie core_of put_core of put laws further i k v f mark (λ found p. then found (p, carried))
-      → ((n : ℕ) (homes : List (maybe.Option S)) (cores : List C) (found : ℕ) → lock n homes cores → get_elem? cores k ≡ some (core_of v) → tie i n homes cores found → Also found)
-      → Turns Rule slots k (v, carried) (1 + i) f (λ found m. then found (of i m.0, m.1) × Also found × (m.0 ≡ put_core (put i v (of i m.0)) (mark found (core_of v))))
-  part_turns_also slots k v carried i within f mark then Also turns owes also words homes views kept len at below =
-      let t = part_turns lock part tie core_of put_core of put laws further slots k v carried i within f mark then turns owes words homes views kept len at below in
-      let long = kept.long in
-      (t.0, t.1, t.2, t.3, (t.4.0, also (get_or words 0 0) homes (map core_of views) (get_or words (1 + i) 0) kept.locked (at_map core_of views k v at) (kept.ties i (omega arith)), t.4.1))
+use Rattle.evl_core.proofs.worlds.OneTurns.{core_event, does_of, event_of, its_event, knows_first, match_no, match_yes, shape_of, stood_of, word_turns}
+use Rattle.evl_core.proofs.worlds.OneWorldLaws.{one_keeps}
+use Rattle.evl_core.proofs.worlds.RuleWorld.{WorldOf, ruled, world_of}
 
 owner_role : (role : MutexRole) → owns role ≡ true → role ≡ Owner
 owner_role Owner e = refl
 owner_role Bystander e = absurd (cc)
 owner_role Winner e = absurd (cc)
 owner_role Waiter e = absurd (cc)
-
--- a seat that makes a step is one of at most 256
-does_near : (k : ℕ) (v u : MutexView) (kind : MutexKind) (found : ℕ) → MutexDoes k v kind found u → k < thread_limit
-does_near k v u kind found d =
-    let e = d.event in
-    let few = e.stands.history.tied.few in
-    let here = at_below (map (λ (x : MutexView). x.held) e.world.views) k v.held (at_map (λ (x : MutexView). x.held) e.world.views k v e.at) in
-    omega arith
 
 module _ {S B : Type 0} (past : S → History) (room : S → ℕ) (comes : B → S → Type 0) (first : B) (ceilings_of : B → ℕ → Bool) (count_of : B → ℕ) where
   abbrev pub ceilings : ℕ → Bool
@@ -96,56 +68,214 @@ module _ {S B : Type 0} (past : S → History) (room : S → ℕ) (comes : B →
       let named = names_owner (record { word = get_or words (1 + i) 0; log = p.0; views = map (mutex_of i) views }) p.1 k (mutex_of i w) (at_map (mutex_of i) views k w at) (owner_role (mutex_of i w).held.role owner) in
       owner_finds ceilings i h.state r (get_or words (1 + i) 0) k named recorded here
 
+  abbrev Rule : List ℕ → Homes S → List (ThreadView B MutexView) → Type 0
+  Rule = ThreadRule past comes (mutex_tie past ceilings) first m
+
   -- a take
+  takes_turns : (slots k : ℕ) (v : ThreadView B MutexView) → v.core.taken ≡ None → (st : Step (Option S))
+      → Turns Rule slots k (v, []) 0 (λ n. either (eqb n 0) 1 n) (with_owned past room comes ceilings_of count_of (took past room comes) st k (v, []))
+  takes_turns slots k v rests st words homes views kept len at below = ⊎_elim
+      (λ (f : IsFree past comes first r.history w.word (w.slot ∷ []) (map core_of w.views)).
+      let y = f.kernel in
+      let slot : w.slot ≡ some (Some y) = only_slot w.slot (some (Some y)) f.slot_is in
+      let known : LockView = lock_view w.log (lock_entry k Take Got) v.core.lock true in
+      let now : core_of u ≡ after_take (past y) (room y) known v.core = λ j. step_part past room comes (f.word_is j) (slot j) w.log k v.core takes in
+      let homes_now : step_slot past room comes w.word w.slot takes ∷ [] ≡ set homes 0 none = ap (λ n. step_slot past room comes n w.slot takes ∷ []) f.word_is ∙ sym (ap (λ hs. set hs 0 none) o.slot_is) in
+      let rule : Rule (set words 0 (either (eqb n 0) 1 n)) (set homes 0 none) (set views k u) = subst (λ (z : (List ℕ × Homes S) × List (ThreadView B MutexView)). Rule z.0.0 z.0.1 z.1) (λ j. ((words_now j, homes_now j), set (o.views_are j) k u)) next in (
+        u,
+        Rattle.atomic_table.specs.Table.takes 0 (Some y),
+        ap (λ (hs : Homes S). get_elem? hs 0) (o.slot_is ∙ f.slot_is),
+        rule,
+        (
+          (
+            (
+              (λ _. (
+                y,
+                known,
+                ap (λ (c : CorePart B). (c, (0, Some y) ∷ [])) now,
+                subst IsLegal (sym f.past_is) r.legal,
+                subst HasNoStranger (sym f.past_is) r.strangers,
+                subst (λ (h : History). Fits h (account_at k v.core)) (sym f.past_is) (r.fits k v.core core_at),
+                subst (λ (b : B). comes b y) (sym knows) f.comes_from,
+              )),
+              (λ other. absurd (other (word ∙ f.word_is))),
+              core_event past room comes ceilings_of count_of first k v takes n u knows event,
+            ),
+            refl,
+          ),
+          owned_as k (set words 0 (either (eqb n 0) 1 n)) (set homes 0 none) (set views k u) u rule (set_here views k u (at_below views k v at)),
+          event_of past room comes ceilings_of count_of first k v (on_lock takes) n u knows event,
+        ),
+      ))
+      (λ (t : IsTaken r.history w.word (w.slot ∷ []) (map core_of w.views)).
+      let known : LockView = lock_view w.log (lock_entry k Take Lost) v.core.lock false in
+      let now : core_of u ≡ after_loss known v.core = λ j. step_part past room comes (t.word_is j) w.slot w.log k v.core takes in
+      let homes_now : step_slot past room comes w.word w.slot takes ∷ [] ≡ homes = ap (λ n. step_slot past room comes n w.slot takes ∷ []) t.word_is ∙ sym o.slot_is in
+      let rule : Rule (set words 0 (either (eqb n 0) 1 n)) homes (set views k u) = subst (λ (z : (List ℕ × Homes S) × List (ThreadView B MutexView)). Rule z.0.0 z.0.1 z.1) (λ j. ((words_now j, homes_now j), set (o.views_are j) k u)) next in (
+        u,
+        keeps,
+        tt,
+        rule,
+        (
+          (
+            (
+              (λ (zero_found : n ≡ 0). absurd (let one = t.word_is in omega (arith, one, word, zero_found))),
+              (λ _. (known, ap (λ (c : CorePart B). (c, [])) now)),
+              core_event past room comes ceilings_of count_of first k v takes n u knows event,
+            ),
+            refl,
+          ),
+          owned_as k (set words 0 (either (eqb n 0) 1 n)) homes (set views k u) u rule (set_here views k u (at_below views k v at)),
+          event_of past room comes ceilings_of count_of first k v (on_lock takes) n u knows event,
+        ),
+      ))
+      r.who
+    where
+      o : WorldOf past room comes first ceilings m words homes views
+      o = world_of past room comes first ceilings m words homes views kept
+
+      w : OneWorld S B
+      w = o.world
+
+      n : ℕ
+      n = get_or words 0 0
+
+      r : CoreKept past comes first o.world.word (o.world.slot ∷ []) (map core_of o.world.views)
+      r = o.stands.locked.0
+
+      at' : get_elem? o.world.views k ≡ some v
+      at' = ap (λ vs. get_elem? vs k) o.views_are ∙ at
+
+      core_at : get_elem? (map core_of o.world.views) k ≡ some v.core
+      core_at = at_map core_of o.world.views k v at'
+
+      u : ThreadView B MutexView
+      u = view_after past room comes ceilings m o.world k v (on_lock takes)
+
+      word : get_or words 0 0 ≡ o.world.word
+      word = ap (λ l. get_or l 0 0) o.words_are
+
+      knows : v.core.first ≡ first
+      knows = knows_first past room comes ceilings_of count_of first o.world o.stands k v at'
+
+      event : IsOneEvent past room comes ceilings_of count_of first k v (on_lock takes) (get_or words 0 0) u
+      event = its_event past room comes ceilings_of count_of first o.world o.stands k v at' (on_lock takes) (rests, tt) (get_or words 0 0) (sym word)
+
+      next : Rule (either (eqb o.world.word 0) 1 o.world.word ∷ o.world.mutexes) (step_slot past room comes o.world.word o.world.slot takes ∷ []) (set o.world.views k u)
+      next = ruled past room comes first ceilings m (one_after past room comes ceilings m o.world k v (on_lock takes)) (one_keeps past room comes first ceilings m o.world o.stands k v at' (on_lock takes) (rests, tt))
+
+      words_now : either (eqb o.world.word 0) 1 o.world.word ∷ o.world.mutexes ≡ set words 0 (either (eqb (get_or words 0 0) 0) 1 (get_or words 0 0))
+      words_now = sym (ap (λ l. set l 0 (either (eqb (get_or l 0 0) 0) 1 (get_or l 0 0))) o.words_are)
+
   pub takes_tied : (slots id k : ℕ) (v : ThreadView B MutexView) (me : Seat) → me ≡ (place k v ∷ [], []) → v.core.taken ≡ None → (st : Step (Option S))
-      → Allows OneTable slots id me 0 (λ n. either (eqb n 0) 1 n) (Told (with_owned count_of (took past room comes)) st me)
+      → Allows OneTable slots id me 0 (λ n. either (eqb n 0) 1 n) (Told (with_owned past room comes ceilings_of count_of (took past room comes)) st me)
   takes_tied slots id k v me one rests st =
-      let turns = lock_turns_also (CoreRuled past comes first) MutexParts (mutex_tie past ceilings) core_of put_core mutex_of put_mutex parts_apart m slots k v [] (λ n. either (eqb n 0) 1 n) (took past room comes st k (v.core, [])) (OwnsAsRecorded count_of k)
-      (takes_core past comes first room (KeepsTies (mutex_tie past ceilings)) slots k v.core rests (tie_losing past comes first ceilings k v.core) (tie_taking past comes first ceilings room k v.core) st)
-      (owned_as k) in
-      subst (λ (z : Seat). Allows OneTable slots id z 0 (λ n. either (eqb n 0) 1 n) (Told (with_owned count_of (took past room comes)) st z)) (sym one)
-      (allows_of (ThreadRule past comes (mutex_tie past ceilings) first m) slots id k v (place k v ∷ [], []) refl 0 (λ n. either (eqb n 0) 1 n) st (with_owned count_of (took past room comes)) turns)
+      subst (λ (z : Seat). Allows OneTable slots id z 0 (λ n. either (eqb n 0) 1 n) (Told (with_owned past room comes ceilings_of count_of (took past room comes)) st z)) (sym one)
+      (allows_of Rule slots id k v (place k v ∷ [], []) refl 0 (λ n. either (eqb n 0) 1 n) st (with_owned past room comes ceilings_of count_of (took past room comes)) (takes_turns slots k v rests st))
 
   -- a give
+  gives_turns : (slots k : ℕ) (v : ThreadView B MutexView) (y : S) (before : History) → v.core.taken ≡ Some before → Settled (ceilings_of v.core.first) v.core before (past y).state
+      → MayGive k v.core (past y) → comes v.core.first y → (st : Step (Option S))
+      → Turns Rule slots k (v, (0, Some y) ∷ []) 0 (λ _. 0) (with_given past room comes ceilings_of count_of (gave past room comes) st k (v, (0, Some y) ∷ []))
+  gives_turns slots k v y before has settled may from st words homes views kept len at below =
+      let words_now : 0 ∷ o.world.mutexes ≡ set words 0 0 = sym (ap (λ l. set l 0 0) o.words_are) in
+      let homes_now : some (Some y) ∷ [] ≡ set homes 0 (some (Some y)) = sym (ap (λ hs. set hs 0 (some (Some y))) o.slot_is) in (
+        u,
+        gives,
+        tt,
+        subst (λ (z : (List ℕ × Homes S) × List (ThreadView B MutexView)). Rule z.0.0 z.0.1 z.1) (λ j. ((words_now j, homes_now j), set (o.views_are j) k u)) next,
+        (
+          (λ z e. subst (λ (q : S). Back q) (same_Some y z (ap first_slot e)) (known, refl, n, core_event past room comes ceilings_of count_of first k v (kind.gives y) n u knows event)),
+          refl,
+          (λ z e. subst (λ (q : S). (other : ℕ) × EventOf past room comes ceilings_of count_of k v (on_lock (kind.gives q)) other u) (same_Some y z (ap first_slot e)) (n, event_of past room comes ceilings_of count_of first k v (on_lock (kind.gives y)) n u knows event)),
+        ),
+      )
+    where
+      o : WorldOf past room comes first ceilings m words homes views
+      o = world_of past room comes first ceilings m words homes views kept
+
+      n : ℕ
+      n = get_or words 0 0
+
+      at' : get_elem? o.world.views k ≡ some v
+      at' = ap (λ vs. get_elem? vs k) o.views_are ∙ at
+
+      u : ThreadView B MutexView
+      u = view_after past room comes ceilings m o.world k v (on_lock (kind.gives y))
+
+      known : LockView
+      known = lock_view o.world.log (give_entry k) v.core.lock false
+
+      knows : v.core.first ≡ first
+      knows = knows_first past room comes ceilings_of count_of first o.world o.stands k v at'
+
+      owes : one_may past room comes ceilings m k v (on_lock (kind.gives y))
+      owes = ((may, from), λ h has'. subst (λ (x : B × History). Settled (ceilings_of x.0) v.core x.1 (past y).state) (λ j. (knows j, same_Some before h (sym has ∙ has') j)) settled)
+
+      event : IsOneEvent past room comes ceilings_of count_of first k v (on_lock (kind.gives y)) (get_or words 0 0) u
+      event = its_event past room comes ceilings_of count_of first o.world o.stands k v at' (on_lock (kind.gives y)) owes (get_or words 0 0) (sym (ap (λ l. get_or l 0 0) o.words_are))
+
+      next : Rule (0 ∷ o.world.mutexes) (some (Some y) ∷ []) (set o.world.views k u)
+      next = ruled past room comes first ceilings m (one_after past room comes ceilings m o.world k v (on_lock (kind.gives y))) (one_keeps past room comes first ceilings m o.world o.stands k v at' (on_lock (kind.gives y)) owes)
+
+      Back : S → Type 0
+      Back q = (given : LockView) × (◌≡◌ {A = CoreMe S B} (after_give (past y) k known v.core, []) (after_give (past q) k given v.core, [])) × (found : ℕ) × IsCoreEvent past room comes k v.core (kind.gives q) found (after_give (past y) k known v.core)
+
+      first_slot : List (ℕ × Option S) → Option S
+      first_slot [] = None
+      first_slot (x ∷ xs) = x.1
+
   pub gives_tied : (slots id k : ℕ) (v : ThreadView B MutexView) (y : S) (before : History) (me : Seat) → me ≡ (place k v ∷ [], (0, Some y) ∷ []) → v.core.taken ≡ Some before → Settled (ceilings_of v.core.first) v.core before (past y).state
       → MayGive k v.core (past y) → comes v.core.first y → (st : Step (Option S))
-      → Allows OneTable slots id me 0 (λ _. 0) (λ _. Told (on_core (gave past room comes)) st me 0)
+      → Allows OneTable slots id me 0 (λ _. 0) (λ _. Told (with_given past room comes ceilings_of count_of (gave past room comes)) st me 0)
   gives_tied slots id k v y before me one has settled may from st =
-      gives_thread past room comes (mutex_tie past ceilings) first m slots id k v y me one
-      (λ known cores lock at i word tied. tie_giving past comes first ceilings k v.core y before has (subst (λ (b : B). Settled (ceilings_of b) v.core before (past y).state) (lock.knows k v.core at) settled) known cores lock at i word tied) may from st
+      subst (λ (z : Seat). Allows OneTable slots id z 0 (λ _. 0) (λ _. Told (with_given past room comes ceilings_of count_of (gave past room comes)) st z 0)) (sym one)
+      (allows_of Rule slots id k v (place k v ∷ [], (0, Some y) ∷ []) refl 0 (λ _. 0) st (with_given past room comes ceilings_of count_of (gave past room comes)) (gives_turns slots k v y before has settled may from st))
+
+  -- a step on a mutex's word by anybody
+  plain_tied : (slots id k : ℕ) (v : ThreadView B MutexView) (me : Seat) → me.0 ≡ place k v ∷ [] → (i : ℕ) (kind : MutexKind) → one_may past room comes ceilings m k v (on_word i kind) → needs_kernel (ceilings i) kind ≡ false
+      → (f : ℕ → ℕ) (st : Step (Option S)) → st.word ≡ 1 + i → (tells : Tells (Option S) MutexView) → ((n : ℕ) → step_word n k (mutex_of i v) kind ≡ f n)
+      → ((found : ℕ) (u : MutexView) → MutexDoes k (mutex_of i v) kind found u → tells st k (mutex_of i v, me.1) found (u, me.1))
+      → Allows OneTable slots id me (1 + i) f (Told (on_mutex past room comes ceilings_of count_of kind tells) st me)
+  plain_tied slots id k v me one i kind may needs f st at_word tells same weaker =
+      let e : i ≡ st.word - 1 = omega (arith, at_word) in
+      let Says : ℕ → ℕ → Me (Option S) (ThreadView B MutexView) → Type 0 = λ j found w. tells st k (mutex_of j v, me.1) found (mutex_of j w.0, w.1) × (w.0 ≡ put_mutex j v (mutex_of j w.0)) × EventOf past room comes ceilings_of count_of k v (on_word j kind) found w.0 in
+      allows_of Rule slots id k v me one (1 + i) f st (on_mutex past room comes ceilings_of count_of kind tells)
+      (subst (λ j. Turns Rule slots k (v, me.1) (1 + i) f (Says j)) e
+      (word_turns past room comes ceilings_of count_of first slots k v me.1 i kind may f same (Says i)
+      (λ found u knows event. (
+        weaker found (mutex_of i u) (does_of past room comes ceilings_of count_of first k v i kind found u event),
+        shape_of past room comes ceilings_of count_of first k v i kind found u event false (f found) needs (same found),
+        event_of past room comes ceilings_of count_of first k v (on_word i kind) found u knows event,
+      ))))
 
   -- a try and an unlocking by anybody, of a mutex without a ceiling
   module _ (slots id k : ℕ) (v : ThreadView B MutexView) (me : Seat) (one : me.0 ≡ place k v ∷ []) (i : ℕ) (within : i < m) (free_of : ceilings i ≡ false) (f : ℕ → ℕ) (st : Step (Option S)) (at_word : st.word ≡ 1 + i) (tells : Tells (Option S) MutexView) where
     pub tries_tied : step_may k (mutex_of i v) tries → ((n : ℕ) → step_word n k (mutex_of i v) tries ≡ f n)
-        → ((found : ℕ) (u : MutexView) → MutexDoes k (mutex_of i v) tries found u → tells st k (mutex_of i v, me.1) found (u, me.1)) → ((found : ℕ) (u : MutexView) → tells st k (mutex_of i v, me.1) found (u, me.1) → MutexDoes k (mutex_of i v) tries found u)
-        → Allows OneTable slots id me (1 + i) f (Told (on_mutex tells) st me)
-    tries_tied may same weaker does =
-        steps_thread past room comes (mutex_tie past ceilings) first m slots id k v me one i within tries may f same st at_word tells weaker
-        (λ n homes cores found u lock at t tied. tie_stepping past comes first ceilings i n homes cores found (f found) free_of (subst (StaysPlain found) (same found) (try_stays found k (does_near k (mutex_of i v) u tries found (does found u t)))) tied)
+        → ((found : ℕ) (u : MutexView) → MutexDoes k (mutex_of i v) tries found u → tells st k (mutex_of i v, me.1) found (u, me.1))
+        → Allows OneTable slots id me (1 + i) f (Told (on_mutex past room comes ceilings_of count_of tries tells) st me)
+    tries_tied may same weaker = plain_tied slots id k v me one i tries (within, may, match_no (ceilings i) (HasFor i (core_of v)) (is_unlocking tries ≡ true → ceilings i ≡ false) free_of (λ _. free_of)) free_of f st at_word tells same weaker
 
     pub unlocks_tied : step_may k (mutex_of i v) unlocks → ((n : ℕ) → step_word n k (mutex_of i v) unlocks ≡ f n)
-        → ((found : ℕ) (u : MutexView) → MutexDoes k (mutex_of i v) unlocks found u → tells st k (mutex_of i v, me.1) found (u, me.1)) → ((found : ℕ) (u : MutexView) → tells st k (mutex_of i v, me.1) found (u, me.1) → MutexDoes k (mutex_of i v) unlocks found u)
-        → Allows OneTable slots id me (1 + i) f (Told (on_mutex tells) st me)
-    unlocks_tied may same weaker does =
-        steps_thread past room comes (mutex_tie past ceilings) first m slots id k v me one i within unlocks may f same st at_word tells weaker
-        (λ n homes cores found u lock at t tied. tie_stepping past comes first ceilings i n homes cores found (f found) free_of (subst (StaysPlain found) (same found) (unlock_stays found k (does_near k (mutex_of i v) u unlocks found (does found u t)))) tied)
+        → ((found : ℕ) (u : MutexView) → MutexDoes k (mutex_of i v) unlocks found u → tells st k (mutex_of i v, me.1) found (u, me.1))
+        → Allows OneTable slots id me (1 + i) f (Told (on_mutex past room comes ceilings_of count_of unlocks tells) st me)
+    unlocks_tied may same weaker = plain_tied slots id k v me one i unlocks (within, may, λ _. free_of) refl f st at_word tells same weaker
 
-  -- Any step on a mutex's word by the thread that has the kernel, and has made no step on another word since its take
-  pub marks_tied : (slots id k : ℕ) (v : ThreadView B MutexView) (me : Seat) → me.0 ≡ place k v ∷ [] → (h : History) → v.core.taken ≡ Some h → (i : ℕ) → i < m → IsAbout i v.core.note → (kind : MutexKind) → step_may k (mutex_of i v) kind
+  -- Any step on a mutex's word that only the thread that has the kernel makes, and that has made no step on another word since its take
+  pub marks_tied : (slots id k : ℕ) (v : ThreadView B MutexView) (me : Seat) → me.0 ≡ place k v ∷ [] → (h : History) → v.core.taken ≡ Some h → (i : ℕ) → i < m → IsAbout i v.core.note → (kind : MutexKind) → needs_kernel (ceilings i) kind ≡ true → step_may k (mutex_of i v) kind
       → (st : Step (Option S)) → st.word ≡ 1 + i → (f : Step (Option S) → ℕ → ℕ) → ((n : ℕ) → step_word n k (mutex_of i v) kind ≡ f st n) → (tells : Tells (Option S) MutexView)
       → ((found : ℕ) (u : MutexView) → MutexDoes k (mutex_of i v) kind found u → tells st k (mutex_of i v, me.1) found (u, me.1))
-      → Allows OneTable slots id me (1 + i) (f st) (Told (on_noted ceilings_of f tells) st me)
-  marks_tied slots id k v me one h has i within about kind may st at_word f same tells weaker =
-      let e : i ≡ st.word - 1 = omega arith in
-      let turns = part_turns_also (CoreRuled past comes first) MutexParts (mutex_tie past ceilings) core_of put_core mutex_of put_mutex parts_apart m slots k v me.1 i within (f st)
-      (λ found. noting i (f st found)) (tells st k (mutex_of i v, me.1)) (λ found. (g : History) → v.core.taken ≡ Some g → StandsNoted (ceilings_of v.core.first) g.state i v.core.note found)
-      (mutex_turns k (mutex_of i v) me.1 kind may (f st) same st tells weaker)
-      (λ n homes cores found p lock at t tied. (
-        (lock.0, lock_marked past comes first ceilings i k v.core h has about n homes cores lock.1 at (f st found), log_marked past comes first ceilings i k v.core h has about n homes cores lock.1 at (f st found) lock.0 lock.2),
-        tie_marking past comes first ceilings i k v.core h has about n homes cores lock.1 at (f st found),
-        λ j word other before. ties_beside past comes first ceilings i k v.core h has about n homes cores lock.1 at (f st found) j word other before,
-      ))
-      (λ n homes cores found lock at tied g took. subst (λ (b : B). StandsNoted (ceilings_of b) g.state i v.core.note found) (sym (lock.1.knows k v.core at)) (tied.taken k v.core g at took)) in
-      allows_of (ThreadRule past comes (mutex_tie past ceilings) first m) slots id k v me one (1 + i) (f st) st (on_noted ceilings_of f tells)
-      (subst (λ j. Turns (ThreadRule past comes (mutex_tie past ceilings) first m) slots k (v, me.1) (1 + i) (f st)
-      (λ found w. tells st k (mutex_of j v, me.1) found (mutex_of j w.0, w.1) × ((g : History) → v.core.taken ≡ Some g → StandsNoted (ceilings_of v.core.first) g.state j v.core.note found) × (w.0 ≡ put_core (put_mutex j v (mutex_of j w.0)) (noting j (f st found) v.core)))) e turns)
+      → Allows OneTable slots id me (1 + i) (f st) (Told (on_noted past room comes ceilings_of count_of kind f tells) st me)
+  marks_tied slots id k v me one h has i within about kind needs may st at_word f same tells weaker =
+      let e : i ≡ st.word - 1 = omega (arith, at_word) in
+      let Says : ℕ → ℕ → Me (Option S) (ThreadView B MutexView) → Type 0 = λ j found w. tells st k (mutex_of j v, me.1) found (mutex_of j w.0, w.1)
+      × ((g : History) → v.core.taken ≡ Some g → StandsNoted (ceilings_of v.core.first) g.state j v.core.note found) × (w.0 ≡ put_core (put_mutex j v (mutex_of j w.0)) (noting j (f st found) v.core)) × EventOf past room comes ceilings_of count_of k v (on_word j kind) found w.0 in
+      allows_of Rule slots id k v me one (1 + i) (f st) st (on_noted past room comes ceilings_of count_of kind f tells)
+      (subst (λ j. Turns Rule slots k (v, me.1) (1 + i) (f st) (Says j)) e
+      (word_turns past room comes ceilings_of count_of first slots k v me.1 i kind (within, may, match_yes (needs_kernel (ceilings i) kind) (HasFor i (core_of v)) (is_unlocking kind ≡ true → ceilings i ≡ false) needs (h, has, about)) (f st) same (Says i)
+      (λ found u knows event. (
+        weaker found (mutex_of i u) (does_of past room comes ceilings_of count_of first k v i kind found u event),
+        (λ g took. subst (λ (b : B). StandsNoted (ceilings_of b) g.state i v.core.note found) (sym knows) (stood_of past room comes ceilings_of count_of first k v i kind found u event g took)),
+        shape_of past room comes ceilings_of count_of first k v i kind found u event true (f st found) needs (same found),
+        event_of past room comes ceilings_of count_of first k v (on_word i kind) found u knows event,
+      ))))

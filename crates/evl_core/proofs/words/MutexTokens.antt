@@ -1,12 +1,12 @@
 -- A thread's token and places before and after a step on a mutex's word in the core's table.
-use Rattle.std.proofs.Common.{◌≡◌, ◌≢◌, ℕ, zero, suc, ◌+◌, ◌-◌, ◌<◌, nat_lt, false, List, [], ◌∷◌, length, length-set, map, Option, Some, slice_get, slice_set, refl, sym, ap, ◌∙◌, subst, arith}
+use Rattle.std.proofs.Common.{◌≡◌, ◌≢◌, ℕ, zero, suc, ◌+◌, ◌-◌, ◌<◌, nat_lt, true, false, List, [], ◌∷◌, length, length-set, map, Option, Some, slice_get, slice_set, refl, sym, ap, ◌∙◌, subst, arith}
 use Rattle.std.specs.Option.{option_map}
 use Rattle.std.proofs.lemmas.Option.{none-some, same_Some, slice_get-map}
 use Rattle.atomic_table.specs.Seated.{TableId}
 use Rattle.atomic_table.specs.Table.{Allows, Step}
 use Rattle.evl_kernel.specs.state.KernelViews.{KernelView}
 use Rattle.evl_words.specs.declared.mutex.place.MutexPlace.{MutexPlace}
-use Rattle.evl_words.specs.Hands.{Told, place}
+use Rattle.evl_words.specs.Hands.{place}
 use Rattle.evl_words.specs.MutexCalls.{MutexSeatState}
 use Rattle.evl_words.specs.declared.mutex.MutexHold.{MutexHold}
 use Rattle.evl_words.specs.MutexRule.{tried, unlocked}
@@ -19,15 +19,16 @@ use Rattle.evl_core.specs.declared.views.CorePart.{CorePart}
 use Rattle.evl_core.specs.declared.views.ThreadView.{ThreadView}
 use Rattle.evl_core.specs.words.AtSeats.{AtSeat}
 use Rattle.evl_core.specs.rule.CoreRule.{IsAbout, account_at, noting}
-use Rattle.evl_core.specs.rule.Known.{ComesFrom, CoreHand, KernelMe, KeptKnown, accounts_in, ceilings_of, first_of, mutex_count, past_of, room_of, taken_in, tried_known, unlocked_known}
-use Rattle.evl_core.specs.words.Noted.{Found, Notes, number_of}
+use Rattle.evl_core.specs.rule.Known.{ComesFrom, CoreHand, KernelMe, KeptKnown, accounts_in, ceilings_of, first_of, by_anybody, by_holder, mutex_count, past_of, room_of, taken_in, tried_known, unlocked_known}
+use Rattle.evl_core.specs.words.Noted.{Found, Notes, number_of, MakesOne}
 use Rattle.evl_core.specs.rule.Ties.{StandsNoted}
-use Rattle.evl_core.specs.rule.TieTells.{on_noted}
+use Rattle.evl_core.specs.worlds.OneWorld.{needs_kernel, on_word}
+use Rattle.evl_core.specs.rule.TieTells.{EventOf}
 use Rattle.evl_core.specs.words.MutexPlaces.{Deepens}
 use Rattle.evl_core.specs.words.Homes.{mutex_home}
 use Rattle.evl_core.specs.words.MutexTokens.{AreItsPlaces, AreTheSame, HasKernelFor, IsAtTable, TellsTheSame, note_in, part_of, seat_at, seats_at}
 use Rattle.evl_core.specs.accounts.Seats.{view}
-use Rattle.evl_core.specs.rule.ThreadRule.{put_core, mutex_of, put_mutex, on_mutex}
+use Rattle.evl_core.specs.rule.ThreadRule.{put_core, mutex_of, put_mutex}
 use Rattle.evl_core.proofs.words.SeatLists.{each-set, map-kept, set-same}
 use Rattle.evl_core.proofs.rule.TableTies.{marks_tied, tries_tied, unlocks_tied}
 use Rattle.evl_core.proofs.rule.ThreadSteps.{parts_apart}
@@ -94,7 +95,7 @@ module _ {C : Type 0} where
 
   module _ (i k : ℕ) (v : Thread C) (kind : MutexKind) (found : ℕ) (me me' : KernelMe C) (st : Step (Option (KernelView C))) (at : st.word ≡ 1 + i) (one : me.0 ≡ place k v ∷ []) (tells : Tells (Option (KernelView C)) MutexView) (says : SaysSo k kind tells) where
     -- by anybody
-    pub moved : Told (on_mutex tells) st me found me' → Moved i k v kind found me me'
+    pub moved : by_anybody kind tells st me found me' → Moved i k v kind found me me'
     moved told =
         let t = told k v one in
         let j = st.word - 1 in
@@ -102,7 +103,7 @@ module _ {C : Type 0} where
         moved_to i k v kind found me me' v.core t.0 j (omega (arith, at)) t.1 t.2.1 refl refl refl d.0 d.1
 
     -- by the thread that has the kernel
-    pub moved_held : (f : Step (Option (KernelView C)) → ℕ → ℕ) → Told (on_noted ceilings_of f tells) st me found me' → Moved i k v kind found me me'
+    pub moved_held : (f : Step (Option (KernelView C)) → ℕ → ℕ) → by_holder kind f tells st me found me' → Moved i k v kind found me me'
     moved_held f told =
         let t = told k v one in
         let j = st.word - 1 in
@@ -110,15 +111,22 @@ module _ {C : Type 0} where
         moved_to i k v kind found me me' (noting j (f st found) v.core) t.0 j (omega (arith, at)) t.1 t.2.2 refl refl refl d.0 d.1
 
     -- which is about this mutex then
-    pub still_about : (f : Step (Option (KernelView C)) → ℕ → ℕ) → Told (on_noted ceilings_of f tells) st me found me' → HasKernelFor i me.0 → HasKernelFor i me'.0
+    pub still_about : (f : Step (Option (KernelView C)) → ℕ → ℕ) → by_holder kind f tells st me found me' → HasKernelFor i me.0 → HasKernelFor i me'.0
     still_about f told (h, taken, about) =
         let t = told k v one in
         let j = st.word - 1 in
         let note : note_in me'.0 ≡ Some (record { mutex = j; left = f st found }) = ap note_in t.1 ∙ ap (λ (x : Thread C). x.core.note) t.2.2 in
         (h, ap taken_in t.1 ∙ ap (λ (x : Thread C). x.core.taken) t.2.2 ∙ sym (ap taken_in one) ∙ taken, subst (IsAbout i) (sym note) (omega (arith, at)))
 
+    -- which is an event of the one world
+    pub makes_one : by_anybody kind tells st me found me' → MakesOne (on_word i kind) me.0 me'.0
+    makes_one told =
+        let t = told k v one in
+        let e : st.word - 1 ≡ i = omega (arith, at) in
+        record { number = k; before = v; after = t.0; one = one; now = t.1; found = found; event = subst (λ n. EventOf past_of room_of ComesFrom ceilings_of mutex_count k v (on_word n kind) found t.0) e t.2.2 }
+
     -- and found it so
-    pub notes : (f : Step (Option (KernelView C)) → ℕ → ℕ) → ((n : ℕ) → step_word n k (mutex_of i v) kind ≡ f st n) → Told (on_noted ceilings_of f tells) st me found me' → (so : Found) → so k found → Notes i kind so me.0 me'.0
+    pub notes : (f : Step (Option (KernelView C)) → ℕ → ℕ) → ((n : ℕ) → step_word n k (mutex_of i v) kind ≡ f st n) → by_holder kind f tells st me found me' → (so : Found) → so k found → Notes i kind so me.0 me'.0
     notes f same told so is =
         let t = told k v one in
         let j = st.word - 1 in
@@ -131,6 +139,7 @@ module _ {C : Type 0} where
         record {
           found = found;
           does = subst (λ (z : (ℕ × MutexView) × MutexView). MutexDoes z.0.0 z.0.1 kind found z.1) (λ q. ((sym number q, sym was q), sym now q)) (subst (λ n. MutexDoes k (mutex_of n v) kind found (mutex_of n t.0)) e d.1);
+          event = record { number = k; before = v; after = t.0; one = one; now = t.1; found = found; event = subst (λ n. EventOf past_of room_of ComesFrom ceilings_of mutex_count k v (on_word n kind) found t.0) e t.2.3 };
           found_so = subst (λ n. so n found) (sym number) is;
           stood = λ h has. subst (λ (z : CoreHand C × ℕ). StandsNoted (ceilings_of (first_of z.0)) h.state z.1 (note_in z.0) found) (λ q. (sym one q, e q)) (t.2.1 h (sym (ap taken_in one) ∙ has));
           number = ap number_of t.1 ∙ sym number;
@@ -214,17 +223,17 @@ module _ {C : Type 0} where
     -- what a try and an unlocking by anybody owe, of a mutex without a ceiling
     module _ (plain : ceilings_of first i ≡ false) (f : ℕ → ℕ) (st : Step (Option (KernelView C))) (at : st.word ≡ 1 + i) where
       pub tries_known : step_may k (mutex_of i v) tries → ((n : ℕ) → step_word n k (mutex_of i v) tries ≡ f n) → Allows (KeptKnown first) slots id me (1 + i) f (tried_known st me)
-      tries_known may same = tries_tied past_of room_of ComesFrom first ceilings_of mutex_count slots id k v me one i within plain f st at tried may same (λ found u d. ((refl, d), tried_of k (mutex_of i v) u found d)) (λ found u x. x.0.1)
+      tries_known may same = tries_tied past_of room_of ComesFrom first ceilings_of mutex_count slots id k v me one i within plain f st at tried may same (λ found u d. ((refl, d), tried_of k (mutex_of i v) u found d))
 
       pub unlocks_known : step_may k (mutex_of i v) unlocks → ((n : ℕ) → step_word n k (mutex_of i v) unlocks ≡ f n) → Allows (KeptKnown first) slots id me (1 + i) f (unlocked_known st me)
-      unlocks_known may same = unlocks_tied past_of room_of ComesFrom first ceilings_of mutex_count slots id k v me one i within plain f st at unlocked may same (λ found u d. ((refl, d), unlocked_of k (mutex_of i v) u found d)) (λ found u x. x.0.1)
+      unlocks_known may same = unlocks_tied past_of room_of ComesFrom first ceilings_of mutex_count slots id k v me one i within plain f st at unlocked may same (λ found u d. ((refl, d), unlocked_of k (mutex_of i v) u found d))
 
     -- what a step by the thread that has the kernel owes
-    pub marks_held : HasKernelFor i me.0 → (kind : MutexKind) → step_may k (mutex_of i v) kind → (st : Step (Option (KernelView C))) → st.word ≡ 1 + i → (tells : Tells (Option (KernelView C)) MutexView)
+    pub marks_held : HasKernelFor i me.0 → (kind : MutexKind) → needs_kernel (ceilings_of first i) kind ≡ true → step_may k (mutex_of i v) kind → (st : Step (Option (KernelView C))) → st.word ≡ 1 + i → (tells : Tells (Option (KernelView C)) MutexView)
         → ((found : ℕ) (u : MutexView) → MutexDoes k (mutex_of i v) kind found u → tells st k (mutex_of i v, me.1) found (u, me.1))
-        → (f : Step (Option (KernelView C)) → ℕ → ℕ) → ((n : ℕ) → step_word n k (mutex_of i v) kind ≡ f st n) → Allows (KeptKnown first) slots id me (1 + i) (f st) (Told (on_noted ceilings_of f tells) st me)
-    marks_held (h, taken, about) kind may st at tells weaker f same =
-        marks_tied past_of room_of ComesFrom first ceilings_of mutex_count slots id k v me one h (sym (ap taken_in one) ∙ taken) i within (subst (λ (hand : CoreHand C). IsAbout i (note_in hand)) one about) kind may st at f same tells weaker
+        → (f : Step (Option (KernelView C)) → ℕ → ℕ) → ((n : ℕ) → step_word n k (mutex_of i v) kind ≡ f st n) → Allows (KeptKnown first) slots id me (1 + i) (f st) (by_holder kind f tells st me)
+    marks_held (h, taken, about) kind needs may st at tells weaker f same =
+        marks_tied past_of room_of ComesFrom first ceilings_of mutex_count slots id k v me one h (sym (ap taken_in one) ∙ taken) i within (subst (λ (hand : CoreHand C). IsAbout i (note_in hand)) one about) kind needs may st at f same tells weaker
 
 -- a token that tells the same of the core twice
 pub core_twice : {C : Type 0} {one two three : KernelMe C} → TellsTheSame one two → TellsTheSame two three → TellsTheSame one three

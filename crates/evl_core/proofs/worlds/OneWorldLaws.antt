@@ -10,8 +10,8 @@ use Rattle.atomic_table.proofs.Lists.{at_map, set_again, set_else}
 use Rattle.evl_base.specs.Limits.{thread_limit}
 use Rattle.evl_kernel.specs.histories.Histories.{History, IsLegal}
 use Rattle.evl_words.specs.Machine.{Run}
-use Rattle.evl_words.specs.Events.{Event, seat_after, world_after}
-use Rattle.evl_words.specs.Hands.{place}
+use Rattle.evl_words.specs.Events.{seat_after, world_after}
+use Rattle.evl_words.specs.Hands.{Deals, Hand, place}
 use Rattle.evl_words.specs.Dealings.{DealingEvent, acts, cuts, gathers}
 use Rattle.evl_words.specs.Mutex.{MutexEntry}
 use Rattle.evl_words.specs.MutexWorld as mutex
@@ -31,7 +31,7 @@ use Rattle.evl_core.specs.rule.CoreRule.{CoreKept, CoreStands, IsFree, IsTaken, 
 use Rattle.evl_core.specs.worlds.CoreWorld as core
 use Rattle.evl_core.specs.worlds.CoreWorld.{CoreKind, Slot, takes, gives, moves_out, moves_in}
 use Rattle.evl_core.specs.rule.ThreadRule.{core_of, put_core, mutex_of, put_mutex, newcomer_view}
-use Rattle.evl_core.specs.worlds.OneWorld.{OneWorld, OneKind, OneHappens, OneDealing, OneDealingStep, IsOneWorld, StandsInOne, HasFor, is_unlocking, mutex_world, noted_if, on_lock, on_word, one_after, one_may, opened_one, view_after}
+use Rattle.evl_core.specs.worlds.OneWorld.{OneWorld, OneKind, OneDealing, OneDealingStep, IsOneWorld, StandsInOne, HasFor, is_unlocking, mutex_world, noted_if, looks, on_lock, on_word, one_after, one_may, opened_one, view_after}
 use Rattle.evl_core.specs.rule.Ties.{MutexTied}
 use Rattle.evl_core.proofs.rule.CoreSteps.{holder_is, none_some, only_slot, opens_core}
 use Rattle.evl_core.proofs.lock.LockSteps.{lock_opens}
@@ -244,17 +244,31 @@ module _ {S B : Type 0} (past : S → History) (room : S → ℕ) (comes : B →
     pub one_keeps : (kind : OneKind S) → one_may past room comes ceilings m k v kind → Stands (one_after past room comes ceilings m w k v kind)
     one_keeps (on_lock kind) may = lock_keeps kind may
     one_keeps (on_word i kind) may = word_step i kind may
+    one_keeps (looks n) may = h
 
-  view_now : (w : OneWorld S B) (k : ℕ) (v : ThreadView B MutexView) (kind : OneKind S) → (one_after past room comes ceilings m w k v kind).views ≡ set w.views k (view_after past room comes ceilings m w k v kind)
-  view_now w k v (on_lock kind) = refl
-  view_now w k v (on_word i kind) = refl
-
-  dealing_keeps : (d : OneDealing S B) (e : DealingEvent (OneKind S)) (t : OneDealing S B) → StandsInOne past room comes ceilings m first d → OneDealingStep past room comes ceilings m d e t → StandsInOne past room comes ceilings m first t
-  dealing_keeps d (acts id kind) t h (k, v, at, may, changed) =
+  -- a step by a token of one thread
+  acting_keeps : (d : OneDealing S B) (id k : ℕ) (v : ThreadView B MutexView) (kind : OneKind S) → StandsInOne past room comes ceilings m first d → get_elem? d.hands id ≡ some (place k v ∷ []) → one_may past room comes ceilings m k v kind
+      → (one_after past room comes ceilings m d.world k v kind).views ≡ set d.world.views k (view_after past room comes ceilings m d.world k v kind)
+      → StandsInOne past room comes ceilings m first (record { world = one_after past room comes ceilings m d.world k v kind; hands = set d.hands id (place k (view_after past room comes ceilings m d.world k v kind) ∷ []) })
+  acting_keeps d id k v kind h at may now =
       let here = (h.1.same id (place k v ∷ []) at).0 in
       let u = view_after past room comes ceilings m d.world k v kind in
-      subst (StandsInOne past room comes ceilings m first) (sym changed)
-      (one_keeps d.world h.0 k v here kind may, subst (λ vs. Rattle.evl_words.specs.Hands.Deals vs (set d.hands id (place k u ∷ []))) (sym (view_now d.world k v kind)) (deals_turn d.world.views d.hands id k v u h.1 at))
+      (one_keeps d.world h.0 k v here kind may, subst (λ vs. Deals vs (set d.hands id (place k u ∷ []))) (sym now) (deals_turn d.world.views d.hands id k v u h.1 at))
+
+  acts_by : (d : OneDealing S B) (id k : ℕ) (v : ThreadView B MutexView) (kind : OneKind S) (others : Hand (ThreadView B MutexView)) → others ≡ []
+      → ◌≡◌ {A = OneDealing S B} (record { world = one_after past room comes ceilings m d.world k v kind; hands = set d.hands id (place k (view_after past room comes ceilings m d.world k v kind) ∷ others) })
+      (record { world = one_after past room comes ceilings m d.world k v kind; hands = set d.hands id (place k (view_after past room comes ceilings m d.world k v kind) ∷ []) })
+  acts_by d id k v kind others alone = ap (λ (hand : Hand (ThreadView B MutexView)). record { world = one_after past room comes ceilings m d.world k v kind; hands = set d.hands id (place k (view_after past room comes ceilings m d.world k v kind) ∷ hand) }) alone
+
+  dealing_keeps : (d : OneDealing S B) (e : DealingEvent (OneKind S)) (t : OneDealing S B) → StandsInOne past room comes ceilings m first d → OneDealingStep past room comes ceilings m d e t → StandsInOne past room comes ceilings m first t
+  dealing_keeps d (acts id (on_lock kind)) t h (k, v, others, at, alone, may, changed) =
+      subst (StandsInOne past room comes ceilings m first) (sym (changed ∙ acts_by d id k v (on_lock kind) others alone))
+      (acting_keeps d id k v (on_lock kind) h (at ∙ ap (λ hand. some (place k v ∷ hand)) alone) may refl)
+  dealing_keeps d (acts id (on_word i kind)) t h (k, v, others, at, alone, may, changed) =
+      subst (StandsInOne past room comes ceilings m first) (sym (changed ∙ acts_by d id k v (on_word i kind) others alone))
+      (acting_keeps d id k v (on_word i kind) h (at ∙ ap (λ hand. some (place k v ∷ hand)) alone) may refl)
+  dealing_keeps d (acts id (looks n)) t h (k, v, others, at, alone, may, changed) =
+      subst (StandsInOne past room comes ceilings m first) (sym (changed ∙ ap (λ hands. record { world = d.world; hands = hands }) (set_again d.hands id (place k v ∷ others) at))) h
   dealing_keeps d (cuts id) t h (hand, at, changed) = subst (StandsInOne past room comes ceilings m first) (sym changed) (h.0, deals_split d.world.views d.hands id hand h.1 at)
   dealing_keeps d (gathers id other) t h (hand, theirs, at, ne, at', changed) =
       subst (StandsInOne past room comes ceilings m first) (sym changed) (h.0, deals_join d.world.views d.hands id other hand theirs h.1 at ne (set_else d.hands id other (hand ++ theirs) ne ∙ at'))

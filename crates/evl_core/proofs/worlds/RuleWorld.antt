@@ -32,11 +32,11 @@ chosen (suc m) P blank all =
     (first_then one.0 rest.0, first_each m P one.0 rest.0 one.1 rest.1)
 
 -- a mutex's word stands behind the core's
-further : (word : ℕ) (words : List ℕ) (i : ℕ) → get_or (word ∷ words) (1 + i) 0 ≡ get_or words i 0
+pub further : (word : ℕ) (words : List ℕ) (i : ℕ) → get_or (word ∷ words) (1 + i) 0 ≡ get_or words i 0
 further word words i = ap (λ n. get_or (word ∷ words) n 0) (let more : 1 + i ≡ suc i = omega arith in more)
 
 module _ {S B : Type 0} (past : S → History) (room : S → ℕ) (comes : B → S → Type 0) (first : B) (ceilings : ℕ → Bool) (m : ℕ) where
-  abbrev Rule : List ℕ → List (Slot S) → List (ThreadView B MutexView) → Type 0
+  abbrev pub Rule : List ℕ → List (Slot S) → List (ThreadView B MutexView) → Type 0
   Rule = ThreadRule past comes (mutex_tie past ceilings) first m
 
   -- the mutex of this number has this log
@@ -50,31 +50,47 @@ module _ {S B : Type 0} (past : S → History) (room : S → ℕ) (comes : B →
       (λ (t : IsTaken kept.history word homes (map core_of views)). (none, t.slot_is))
       kept.who
 
-  lies : (words : List ℕ) (homes : List (Slot S)) (hands : List (Hand (ThreadView B MutexView))) (views : List (ThreadView B MutexView)) → Deals views hands → Rule words homes views
-      → (d : OneDealing S B) × LiesSo (record { words = words; homes = homes; views = hands }) d × StandsInOne past room comes ceilings m first d
-  lies [] homes hands views deals t = absurd (let long = t.long in omega arith)
-  lies (x ∷ xs) homes hands views deals t =
+  -- what the rule keeps of a table is a world that stands
+  pub record WorldOf (words : List ℕ) (homes : List (Slot S)) (views : List (ThreadView B MutexView)) : Type 0 where
+    pub world : OneWorld S B
+    pub words_are : words ≡ world.word ∷ world.mutexes
+    pub slot_is : homes ≡ world.slot ∷ []
+    pub views_are : world.views ≡ views
+    pub stands : IsOneWorld past room comes ceilings m first world
+
+  pub world_of : (words : List ℕ) (homes : List (Slot S)) (views : List (ThreadView B MutexView)) → Rule words homes views → WorldOf words homes views
+  world_of [] homes views t = absurd (let long = t.long in omega arith)
+  world_of (x ∷ xs) homes views t =
       let long = t.long in
       let slot = only x homes views t.locked.1 in
       let word_at : (i word : ℕ) → Type 0 = λ i word. (log : List MutexEntry) × IsMutexWorld (record { word = word; log = log; views = map (mutex_of i) views }) in
-      let logs = chosen m (HasLog xs views) [] (λ i lt. subst (word_at i) (further x xs i) (t.parts i (omega (arith, lt, long)))) in (
-        record { world = record { word = x; slot = slot.0; log = t.locked.0; mutexes = xs; logs = logs.0; views = views }; hands = hands },
-        record { words = refl; slot = slot.1; hands = refl },
-        (
-          record {
-            count = omega (arith, long);
-            locked = subst (λ hs. CoreStands past comes first t.locked.0 x hs (map core_of views)) slot.1 (t.locked.1, t.locked.2);
-            parts = logs.1;
-            ties = λ i lt. subst (λ (z : List (Slot S) × ℕ). mutex_tie past ceilings i x z.0 (map core_of views) z.1) (λ j. (slot.1 j, further x xs i j)) (t.ties i (omega (arith, lt, long)));
-          },
-          deals,
-        ),
+      let logs = chosen m (HasLog xs views) [] (λ i lt. subst (word_at i) (further x xs i) (t.parts i (omega (arith, lt, long)))) in
+      record {
+        world = record { word = x; slot = slot.0; log = t.locked.0; mutexes = xs; logs = logs.0; views = views };
+        words_are = refl;
+        slot_is = slot.1;
+        views_are = refl;
+        stands = record {
+          count = omega (arith, long);
+          locked = subst (λ hs. CoreStands past comes first t.locked.0 x hs (map core_of views)) slot.1 (t.locked.1, t.locked.2);
+          parts = logs.1;
+          ties = λ i lt. subst (λ (z : List (Slot S) × ℕ). mutex_tie past ceilings i x z.0 (map core_of views) z.1) (λ j. (slot.1 j, further x xs i j)) (t.ties i (omega (arith, lt, long)));
+        };
+      }
+
+  lies : (words : List ℕ) (homes : List (Slot S)) (hands : List (Hand (ThreadView B MutexView))) (views : List (ThreadView B MutexView)) → Deals views hands → Rule words homes views
+      → (d : OneDealing S B) × LiesSo (record { words = words; homes = homes; views = hands }) d × StandsInOne past room comes ceilings m first d
+  lies words homes hands views deals t =
+      let o = world_of words homes views t in (
+        record { world = o.world; hands = hands },
+        record { words = o.words_are; slot = o.slot_is; hands = refl },
+        (o.stands, subst (λ vs. Deals vs hands) (sym o.views_are) deals),
       )
 
   pub rule_to_world : (s : State (Option S) (Hand (ThreadView B MutexView))) → MachineRule past comes (mutex_tie past ceilings) first m s → (d : OneDealing S B) × LiesSo s d × StandsInOne past room comes ceilings m first d
   rule_to_world s kept = lies s.words s.homes s.views kept.views kept.deals kept.kept
 
-  ruled : (w : OneWorld S B) → IsOneWorld past room comes ceilings m first w → Rule (w.word ∷ w.mutexes) (w.slot ∷ []) w.views
+  pub ruled : (w : OneWorld S B) → IsOneWorld past room comes ceilings m first w → Rule (w.word ∷ w.mutexes) (w.slot ∷ []) w.views
   ruled w stands =
       let count = stands.count in record {
         long = omega (arith, count);

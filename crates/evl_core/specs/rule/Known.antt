@@ -6,7 +6,8 @@ use Rattle.evl_kernel.specs.histories.Histories.{History}
 use Rattle.evl_kernel.specs.state.KernelViews.{KernelView}
 use Rattle.evl_kernel.specs.state.Callbacks.{BringsNone, handlers_in}
 use Rattle.evl_words.specs.Hands.{Hand, Told}
-use Rattle.evl_words.specs.MutexWorld.{MutexView, accepts, frees, offers, settles}
+use Rattle.evl_words.specs.Parts.{Tells}
+use Rattle.evl_words.specs.MutexWorld.{MutexKind, MutexView, accepts, awaits, claims, forgets, frees, offers, settles, tries, unlocks}
 use Rattle.evl_words.specs.MutexRule.{awaited, claimed, does, forgot, tried, unlocked}
 use Rattle.evl_core.specs.declared.views.Account.{Account}
 use Rattle.evl_core.specs.declared.views.ThreadView.{ThreadView}
@@ -16,9 +17,9 @@ use Rattle.evl_core.specs.accounts.Accounts.{threads_of}
 use Rattle.evl_core.specs.accounts.Seats.{CoreMe, view}
 use Rattle.evl_core.specs.rule.CoreRule.{account_at}
 use Rattle.evl_core.specs.rule.CoreTells.{took, gave}
-use Rattle.evl_core.specs.rule.ThreadRule.{MachineRule, all_threads, on_core, on_mutex}
+use Rattle.evl_core.specs.rule.ThreadRule.{MachineRule, all_threads}
 use Rattle.evl_core.specs.rule.Ties.{mutex_tie}
-use Rattle.evl_core.specs.rule.TieTells.{on_noted, with_owned}
+use Rattle.evl_core.specs.rule.TieTells.{on_mutex, on_noted, with_given, with_owned}
 
 -- since the kernel was made no callback came into it, what is told of them is the same, and so are the board and bank that it began with and its limit
 pub record ComesFrom {C : Type 0} (first k : KernelView C) : Type 0 where
@@ -76,39 +77,45 @@ module _ {C : Type 0} where
   abbrev pub first_known : KernelView C → CoreHand C
   first_known first = all_threads first.history first (mutex_count first) (threads_of first.history)
 
+  -- what the steps on the core's lock tell, and those on a mutex's word: of anybody, and of the thread that has the kernel
   abbrev pub took_known : Step (Option (KernelView C)) → KernelMe C → ℕ → KernelMe C → Type 0
-  took_known = Told (with_owned mutex_count (took past_of room_of ComesFrom))
+  took_known = Told (with_owned past_of room_of ComesFrom ceilings_of mutex_count (took past_of room_of ComesFrom))
 
   abbrev pub gave_known : Step (Option (KernelView C)) → KernelMe C → ℕ → KernelMe C → Type 0
-  gave_known = Told (on_core (gave past_of room_of ComesFrom))
+  gave_known = Told (with_given past_of room_of ComesFrom ceilings_of mutex_count (gave past_of room_of ComesFrom))
 
-  -- what the steps on a mutex's word tell: of anybody, and of the thread that has the kernel
+  abbrev pub by_anybody : MutexKind → Tells (Option (KernelView C)) MutexView → Step (Option (KernelView C)) → KernelMe C → ℕ → KernelMe C → Type 0
+  by_anybody kind tells = Told (on_mutex past_of room_of ComesFrom ceilings_of mutex_count kind tells)
+
+  abbrev pub by_holder : MutexKind → (Step (Option (KernelView C)) → ℕ → ℕ) → Tells (Option (KernelView C)) MutexView → Step (Option (KernelView C)) → KernelMe C → ℕ → KernelMe C → Type 0
+  by_holder kind f tells = Told (on_noted past_of room_of ComesFrom ceilings_of mutex_count kind f tells)
+
   abbrev pub tried_known : Step (Option (KernelView C)) → KernelMe C → ℕ → KernelMe C → Type 0
-  tried_known = Told (on_mutex tried)
+  tried_known = by_anybody tries tried
 
   abbrev pub unlocked_known : Step (Option (KernelView C)) → KernelMe C → ℕ → KernelMe C → Type 0
-  unlocked_known = Told (on_mutex unlocked)
+  unlocked_known = by_anybody unlocks unlocked
 
   abbrev pub tried_held_known : Step (Option (KernelView C)) → KernelMe C → ℕ → KernelMe C → Type 0
-  tried_held_known = Told (on_noted ceilings_of (λ st n. either (n == 0) st.second n) tried)
+  tried_held_known = by_holder tries (λ st n. either (n == 0) st.second n) tried
 
   abbrev pub claimed_known : Step (Option (KernelView C)) → KernelMe C → ℕ → KernelMe C → Type 0
-  claimed_known = Told (on_noted ceilings_of (λ st n. bit_or n st.first) claimed)
+  claimed_known = by_holder claims (λ st n. bit_or n st.first) claimed
 
   abbrev pub settled_known : Step (Option (KernelView C)) → KernelMe C → ℕ → KernelMe C → Type 0
-  settled_known = Told (on_noted ceilings_of (λ st n. st.first) (does settles))
+  settled_known = by_holder settles (λ st n. st.first) (does settles)
 
   abbrev pub offered_known : ℕ → Bool → Step (Option (KernelView C)) → KernelMe C → ℕ → KernelMe C → Type 0
-  offered_known next more = Told (on_noted ceilings_of (λ st n. st.first) (does (offers next more)))
+  offered_known next more = by_holder (offers next more) (λ st n. st.first) (does (offers next more))
 
   abbrev pub freed_known : Step (Option (KernelView C)) → KernelMe C → ℕ → KernelMe C → Type 0
-  freed_known = Told (on_noted ceilings_of (λ st n. st.first) (does frees))
+  freed_known = by_holder frees (λ st n. st.first) (does frees)
 
   abbrev pub forgot_known : Step (Option (KernelView C)) → KernelMe C → ℕ → KernelMe C → Type 0
-  forgot_known = Told (on_noted ceilings_of (λ st n. n) forgot)
+  forgot_known = by_holder forgets (λ st n. n) forgot
 
   abbrev pub awaited_known : Step (Option (KernelView C)) → KernelMe C → ℕ → KernelMe C → Type 0
-  awaited_known = Told (on_noted ceilings_of (λ st n. n) awaited)
+  awaited_known = by_holder awaits (λ st n. n) awaited
 
   abbrev pub accepted_known : Step (Option (KernelView C)) → KernelMe C → ℕ → KernelMe C → Type 0
-  accepted_known = Told (on_noted ceilings_of (λ st n. bit_and n st.first) (does accepts))
+  accepted_known = by_holder accepts (λ st n. bit_and n st.first) (does accepts)

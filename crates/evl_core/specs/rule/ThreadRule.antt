@@ -1,5 +1,5 @@
 -- The rule of the table in which the core's lock and the mutex words stand, over one view for each thread.
-use Rattle.std.specs.Prelude.{ℕ, ◌-◌, List, replicate, Option}
+use Rattle.std.specs.Prelude.{ℕ, List, replicate, Option}
 use Rattle.atomic_table.specs.Table.{State}
 use Rattle.evl_kernel.specs.histories.Histories.{History}
 use Rattle.evl_words.specs.Hands.{Hand, Dealt, hand_from}
@@ -49,10 +49,6 @@ ThreadRule past comes tie first m = Tabled (CoreRuled past comes first) MutexPar
 abbrev pub MachineRule : {S B : Type 0} → (S → History) → (B → S → Type 0) → Tie S B → B → ℕ → State (Option S) (Hand (ThreadView B MutexView)) → Type 0
 MachineRule past comes tie first m = Dealt (ThreadRule past comes tie first m)
 
--- What a step tells of the core's part of a view, and what a step on a word above the first one tells of that mutex's part. The rest of the view stays
-module _ {S B : Type 0} where
-  abbrev pub on_core : Tells (Option S) (CorePart B) → Tells (Option S) (ThreadView B MutexView)
-  on_core tells = Within core_of put_core tells
-
-  abbrev pub on_mutex : Tells (Option S) MutexView → Tells (Option S) (ThreadView B MutexView)
-  on_mutex tells st = Within (mutex_of (st.word - 1)) (put_mutex (st.word - 1)) tells st
+-- What a step on the lock tells of the core's part of a view. The rest of the view stays
+abbrev pub on_core : {S B : Type 0} → Tells (Option S) (CorePart B) → Tells (Option S) (ThreadView B MutexView)
+on_core tells = Within core_of put_core tells

@@ -10,10 +10,14 @@ use Rattle.evl_words.specs.declared.mutex.Claim.{Claim}
 use Rattle.evl_words.specs.declared.mutex.MutexPass.{MutexPass}
 use Rattle.evl_words.specs.MutexBits.{claim_reply, offers_to}
 use Rattle.evl_words.specs.MutexCalls.{reply_of}
-use Rattle.evl_words.specs.MutexWorld.{MutexDoes, MutexKind, accepts, awaits, frees, offers, owns, step_word}
-use Rattle.evl_core.specs.rule.Known.{CoreHand, ceilings_of, first_of, mutex_count, taken_in, KernelMe}
+use Rattle.evl_words.specs.MutexWorld.{MutexDoes, MutexKind, MutexView, accepts, awaits, frees, offers, owns, step_word}
+use Rattle.evl_core.specs.rule.Known.{ComesFrom, CoreHand, ceilings_of, first_of, mutex_count, past_of, room_of, taken_in, KernelMe}
 use Rattle.evl_core.specs.words.MutexTokens.{note_in, part_of}
 use Rattle.evl_core.specs.rule.Ties.{AreTied, StandsNoted}
+use Rattle.evl_core.specs.rule.TieTells.{EventOf}
+use Rattle.evl_core.specs.worlds.OneWorld.{OneKind, looks, on_word}
+use Rattle.evl_core.specs.declared.views.ThreadView.{ThreadView}
+use Rattle.evl_words.specs.Hands.{place}
 use Rattle.atomic_table.specs.Table.{Step}
 use Rattle.evl_kernel.specs.state.KernelViews.{KernelView}
 
@@ -68,10 +72,21 @@ module _ {C : Type 0} where
   abbrev pub Stood : CoreHand C → ℕ → ℕ → Type 0
   Stood hand i word = (h : History) → taken_in hand ≡ Some h → StandsNoted (ceilings_in hand) h.state i (note_in hand) word
 
+  -- a token that acts for one thread made a step of this kind, which was an event of the one world
+  pub record MakesOne (kind : OneKind (KernelView C)) (old new : CoreHand C) : Type 0 where
+    pub number : ℕ
+    pub before : ThreadView (KernelView C) MutexView
+    pub after : ThreadView (KernelView C) MutexView
+    pub one : old ≡ place number before ∷ []
+    pub now : new ≡ place number after ∷ []
+    pub found : ℕ
+    pub event : EventOf past_of room_of ComesFrom ceilings_of mutex_count number before kind found after
+
   -- by a step of this kind on the word of mutex i the thread found it so, and noted what it left there
   pub record Notes (i : ℕ) (kind : MutexKind) (so : Found) (old new : CoreHand C) : Type 0 where
     pub found : ℕ
     pub does : MutexDoes (number_of old) (part_of old i) kind found (part_of new i)
+    pub event : MakesOne (on_word i kind) old new
     pub found_so : so (number_of old) found
     pub stood : Stood old i found
     pub number : number_of new ≡ number_of old
@@ -93,6 +108,7 @@ module _ {C : Type 0} where
   abbrev pub IsSettled : CoreHand C → State → Type 0
   IsSettled hand after = (h : History) → taken_in hand ≡ Some h → (i word : ℕ) → StandsNoted (ceilings_in hand) h.state i (note_in hand) word → AreTied (ceilings_in hand) after i word
 
-  -- a look leaves what the thread knows, and tells what stood of the mutex
+  -- a look leaves what the token knows, and tells what stood of the mutex; it is an event of the one world, of whichever thread is the token's first
   abbrev pub looked_known : Step (Option (KernelView C)) → KernelMe C → ℕ → KernelMe C → Type 0
   looked_known st m found n = (n ≡ m) × Stood m.0 (st.word - 1) found
+      × ((k : ℕ) (v : ThreadView (KernelView C) MutexView) (others : CoreHand C) → m.0 ≡ place k v ∷ others → EventOf past_of room_of ComesFrom ceilings_of mutex_count k v (looks st.word) found v)

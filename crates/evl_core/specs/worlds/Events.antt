@@ -6,9 +6,13 @@ use Rattle.evl_core.specs.declared.views.CorePart.{CorePart}
 use Rattle.evl_core.specs.declared.views.Noted.{Noted}
 use Rattle.evl_core.specs.accounts.Accounts.{lost_one}
 use Rattle.evl_core.specs.lock.Lock.{LockView, LosesTo}
+use Rattle.evl_words.specs.MutexWorld.{MutexView}
+use Rattle.evl_core.specs.declared.views.ThreadView.{ThreadView}
 use Rattle.evl_core.specs.rule.CoreRule.{core_part}
-use Rattle.evl_core.specs.worlds.CoreWorld.{CoreKind, IsCoreEvent, takes, gives}
-use Rattle.evl_core.specs.rule.Known.{ComesFrom, past_of, room_of}
+use Rattle.evl_core.specs.rule.TieTells.{EventOf}
+use Rattle.evl_core.specs.worlds.OneWorld.{on_lock}
+use Rattle.evl_core.specs.worlds.CoreWorld.{CoreKind, takes, gives}
+use Rattle.evl_core.specs.rule.Known.{ComesFrom, ceilings_of, mutex_count, past_of, room_of}
 
 module _ {C : Type 0} where
   -- what a thread with this account knows of the core, while it has nothing of it and while it has the kernel
@@ -18,8 +22,13 @@ module _ {C : Type 0} where
   abbrev pub in_hand : KernelView C → Account → Option Noted → LockView → CorePart (KernelView C)
   in_hand first a note lock = core_part (Some a.seen) a.seen a.mine a.found a.lost first note lock
 
-  abbrev pub KernelEvent : ℕ → CorePart (KernelView C) → CoreKind (KernelView C) → ℕ → CorePart (KernelView C) → Type 0
-  KernelEvent = IsCoreEvent past_of room_of ComesFrom
+  -- a step on the core's lock took what the thread k knows of the core from c to d, and was an event of the one world of core and mutex words, by a thread that knew this beside what it knew of the mutexes
+  pub record KernelEvent (k : ℕ) (c : CorePart (KernelView C)) (kind : CoreKind (KernelView C)) (found : ℕ) (d : CorePart (KernelView C)) : Type 0 where
+    pub before : ThreadView (KernelView C) MutexView
+    pub after : ThreadView (KernelView C) MutexView
+    pub was : before.core ≡ c
+    pub is : after.core ≡ d
+    pub event : EventOf past_of room_of ComesFrom ceilings_of mutex_count k before (on_lock kind) found after
 
   -- A take found the core free. Or it found it taken: then its thread has lost one more, and knows nothing else but that another thread had the kernel, behind all that it had seen of the lock's history
   abbrev pub Takes : KernelView C → Account → Account → Type 0

@@ -1,5 +1,5 @@
 -- The world of the one table: the core's word, slot and history, each mutex's word with its history, and what each thread knows; and the atomic steps on it.
-use Rattle.std.specs.Prelude.{◌≡◌, ◌≢◌, ℕ, ◌<◌, ◌==◌, if◌then◌else◌, Bool, true, false, List, [], ◌∷◌, ◌++◌, length, map, replicate, slice_index, slice_set, Option, Some, MatchBool}
+use Rattle.std.specs.Prelude.{◌≡◌, ◌≢◌, ℕ, ◌<◌, ◌≤◌, ◌==◌, if◌then◌else◌, Bool, true, false, List, [], ◌∷◌, ◌++◌, length, map, replicate, slice_index, slice_set, Option, Some, MatchBool}
 use mathlib.Core.Option.{some}
 use lib.ListN.{get_elem?}
 use Rattle.atomic_table.specs.Table.{State}
@@ -28,9 +28,17 @@ pub record OneWorld (S B : Type 0) : Type 0 where
   pub logs : ℕ → List MutexEntry
   pub views : List (ThreadView B MutexView)
 
+-- `looks` is a load of a word of the table, 0 the lock's, that has no entry and changes nothing
 pub data OneKind (S : Type 0) : Type 0 where
   on_lock : CoreKind S → OneKind S
   on_word : ℕ → MutexKind → OneKind S
+  looks : ℕ → OneKind S
+
+-- the word that a step is on
+abbrev pub word_for : {S B : Type 0} → OneWorld S B → OneKind S → ℕ
+word_for w (on_lock kind) = w.word
+word_for w (on_word i kind) = slice_index w.mutexes i
+word_for w (looks n) = slice_index (w.word ∷ w.mutexes) n
 
 -- whether only the thread that has the kernel makes this step, on a mutex with a ceiling or without
 abbrev pub needs_kernel : Bool → MutexKind → Bool
@@ -50,6 +58,12 @@ abbrev pub is_unlocking : MutexKind → Bool
 is_unlocking unlocks = true
 is_unlocking _ = false
 
+-- a token that makes a step acts for one thread. One that looks may act for several
+abbrev pub MayActFor : {S V : Type 0} → OneKind S → Hand V → Type 0
+MayActFor (on_lock kind) others = others ≡ []
+MayActFor (on_word i kind) others = others ≡ []
+MayActFor (looks n) others = Unit {0}
+
 -- the thread has the kernel, and has made no step on another word since it took it
 abbrev pub HasFor : {B : Type 0} → ℕ → CorePart B → Type 0
 HasFor i c = (h : History) × (c.taken ≡ Some h) × IsAbout i c.note
@@ -66,6 +80,7 @@ module _ {S B : Type 0} (past : S → History) (room : S → ℕ) (comes : B →
 
   abbrev pub one_may : ℕ → ThreadView B MutexView → OneKind S → Type 0
   one_may k v (on_lock kind) = core.step_may past room comes k (core_of v) kind × ties_may (core_of v) kind
+  one_may k v (looks n) = n ≤ m
   one_may k v (on_word i kind) = (i < m) × mutex.step_may k (mutex_of i v) kind × MatchBool (needs_kernel (ceilings i) kind) (HasFor i (core_of v)) (is_unlocking kind ≡ true → ceilings i ≡ false)
 
   -- what a thread knows after a step on a mutex's word
@@ -75,6 +90,7 @@ module _ {S B : Type 0} (past : S → History) (room : S → ℕ) (comes : B →
 
   abbrev pub view_after : OneWorld S B → ℕ → ThreadView B MutexView → OneKind S → ThreadView B MutexView
   view_after w k v (on_lock kind) = put_core v (core.step_part past room comes w.word w.slot w.log k (core_of v) kind)
+  view_after w k v (looks n) = v
   view_after w k v (on_word i kind) = on_word_view (slice_index w.mutexes i) (w.logs i) k v i kind
 
   -- the world after a step of the thread k
@@ -87,6 +103,7 @@ module _ {S B : Type 0} (past : S → History) (room : S → ℕ) (comes : B →
     logs = w.logs;
     views = slice_set w.views k (put_core v (core.step_part past room comes w.word w.slot w.log k (core_of v) kind));
   }
+  one_after w k v (looks n) = w
   one_after w k v (on_word i kind) = let found = slice_index w.mutexes i in record {
     word = w.word;
     slot = w.slot;
@@ -114,6 +131,16 @@ module _ {S B : Type 0} (past : S → History) (room : S → ℕ) (comes : B →
     pub parts : (i : ℕ) → i < m → IsMutexWorld (mutex_world w i)
     pub ties : (i : ℕ) → i < m → MutexTied past ceilings i w.word (w.slot ∷ []) (map core_of w.views) (slice_index w.mutexes i)
 
+module _ {S B : Type 0} (past : S → History) (room : S → ℕ) (comes : B → S → Type 0) (ceilings : B → ℕ → Bool) (count : B → ℕ) where
+  -- in some world of the table that was made with `first`, which stands, a step of this kind, which the thread k might make, found this word and took what the thread knows from v to u
+  pub record IsOneEvent (first : B) (k : ℕ) (v : ThreadView B MutexView) (kind : OneKind S) (found : ℕ) (u : ThreadView B MutexView) : Type 0 where
+    pub world : OneWorld S B
+    pub stands : IsOneWorld past room comes (ceilings first) (count first) first world
+    pub at : get_elem? world.views k ≡ some v
+    pub may : one_may past room comes (ceilings first) (count first) k v kind
+    pub shows : word_for world kind ≡ found
+    pub after : u ≡ view_after past room comes (ceilings first) (count first) world k v kind
+
 -- the world with the threads that each token acts for
 pub record OneDealing (S B : Type 0) : Type 0 where
   pub world : OneWorld S B
@@ -126,10 +153,10 @@ pub record LiesSo {S B : Type 0} (s : State (Option S) (Hand (ThreadView B Mutex
   pub hands : s.views ≡ d.hands
 
 module _ {S B : Type 0} (past : S → History) (room : S → ℕ) (comes : B → S → Type 0) (ceilings : ℕ → Bool) (m : ℕ) where
-  -- a token of one thread makes a step, or hands of threads are split and joined
+  -- a token of one thread makes a step, a token looks, or hands of threads are split and joined
   abbrev pub OneDealingStep : OneDealing S B → DealingEvent (OneKind S) → OneDealing S B → Type 0
-  OneDealingStep d (acts id kind) t = (k : ℕ) × (v : ThreadView B MutexView) × (get_elem? d.hands id ≡ some (place k v ∷ [])) × one_may past room comes ceilings m k v kind
-      × (t ≡ record { world = one_after past room comes ceilings m d.world k v kind; hands = slice_set d.hands id (place k (view_after past room comes ceilings m d.world k v kind) ∷ []) })
+  OneDealingStep d (acts id kind) t = (k : ℕ) × (v : ThreadView B MutexView) × (others : Hand (ThreadView B MutexView)) × (get_elem? d.hands id ≡ some (place k v ∷ others)) × MayActFor kind others × one_may past room comes ceilings m k v kind
+      × (t ≡ record { world = one_after past room comes ceilings m d.world k v kind; hands = slice_set d.hands id (place k (view_after past room comes ceilings m d.world k v kind) ∷ others) })
   OneDealingStep d (cuts id) t = (hand : Hand (ThreadView B MutexView)) × (get_elem? d.hands id ≡ some hand) × (t ≡ record { world = d.world; hands = slice_set d.hands id (first_of hand) ++ rest_of hand ∷ [] })
   OneDealingStep d (gathers id other) t = (hand theirs : Hand (ThreadView B MutexView)) × (get_elem? d.hands id ≡ some hand) × (other ≢ id) × (get_elem? d.hands other ≡ some theirs)
       × (t ≡ record { world = d.world; hands = slice_set (slice_set d.hands id (hand ++ theirs)) other [] })

@@ -37,7 +37,7 @@ module _ {C : Type 0} where
       account_in hand = account_of {S = KernelView C} (seen (hand, []))
 
   -- the place of which a seat is read
-  placed_at : (table : TableId) (hand : CoreHand C) (ps : List MutexPlace) (i : ℕ) (s : MutexSeatState) → slice_get (seats_at table hand ps) i ≡ Some s → (p : MutexPlace) × (slice_get ps i ≡ Some p) × (seat_at table hand p ≡ s)
+  pub placed_at : (table : TableId) (hand : CoreHand C) (ps : List MutexPlace) (i : ℕ) (s : MutexSeatState) → slice_get (seats_at table hand ps) i ≡ Some s → (p : MutexPlace) × (slice_get ps i ≡ Some p) × (seat_at table hand p ≡ s)
   placed_at table hand ps i s at = by (slice_get ps i) refl (sym (slice_get-map (seat_at table hand) ps i) ∙ at)
     where
       by : (o : Option MutexPlace) → slice_get ps i ≡ o → option_map (seat_at table hand) o ≡ Some s → (p : MutexPlace) × (slice_get ps i ≡ Some p) × (seat_at table hand p ≡ s)

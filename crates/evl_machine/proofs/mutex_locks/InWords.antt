@@ -25,7 +25,11 @@ use Rattle.evl_machine.specs.callers.Handles.{MachineState}
 use Rattle.evl_core.specs.accounts.Seats.{account_of, CoreMe}
 use Rattle.evl_machine.specs.mutex_locks.InWord.{Agrees, IsRead, SaysTied, in_word, owner_of}
 use Rattle.evl_core.specs.words.Noted.{looked_known, Stood}
-use Rattle.evl_core.specs.rule.Known.{CoreHand, KernelMe, KeptKnown, ceilings_of, mutex_count, seen, taken_in}
+use Rattle.evl_core.specs.rule.Known.{ComesFrom, CoreHand, KeptKnown, KernelMe, ceilings_of, mutex_count, past_of, room_of, seen, taken_in}
+use Rattle.evl_words.specs.Hands.{place}
+use Rattle.evl_core.specs.rule.TieTells.{EventOf}
+use Rattle.evl_core.specs.worlds.OneWorld.{looks}
+use Rattle.evl_core.proofs.worlds.OneTurns.{event_of, look_event}
 use Rattle.evl_core.specs.rule.ThreadRule.{core_of}
 use Rattle.evl_core.specs.rule.Ties.{AreTied, StandsNoted}
 
@@ -98,7 +102,16 @@ module _ {C : Type 0} where
         keeps,
         tt,
         subst (KeptKnown first) (λ j. record { words = sym words j; homes = s.homes; views = sym views j }) d,
-        (refl, subst (λ j. Stood me.0 j (get_or s.words (1 + i) 0)) e (stands first s d id me.0 there i within)),
+        (
+          refl,
+          subst (λ j. Stood me.0 j (get_or s.words (1 + i) 0)) e (stands first s d id me.0 there i within),
+          λ k v others hand.
+              let here = (d.deals.same id (place k v ∷ others) (there ∙ ap (λ (h : CoreHand C). some h) hand)).0 in
+              let knows = d.kept.locked.1.knows k v.core (at_map core_of d.views k v here) in
+              subst (λ n. EventOf past_of room_of ComesFrom ceilings_of mutex_count k v (looks n) (get_or s.words (1 + i) 0) v) (sym at)
+              (event_of past_of room_of ComesFrom ceilings_of mutex_count first k v (looks (1 + i)) (get_or s.words (1 + i) 0) v knows
+              (look_event past_of room_of ComesFrom ceilings_of mutex_count first s.words s.homes d.views d.kept k v here (1 + i) (omega (arith, within)))),
+        ),
       )
 
   -- what it reads is what the kernel records

@@ -15,7 +15,7 @@ swap-requires g c =
     let its = c.requires.table.its in
     let seats : (part_of c.args.seat.now.me.0 c.args.pass.mutex.0).held.seats ≡ (mutex_of c.args.pass.mutex.0 its.thread).held.seats = ap (λ (x : MutexView). x.held.seats) (part_is _ _ _ its) in
     let named : g.H.Handing.next < (mutex_of c.args.pass.mutex.0 its.thread).held.seats = omega (arith, c.requires.next, c.requires.handing.0, seats) in
-    held_due _ _ _ c.args.seat.now.id c.args.seat.now.me _ c.requires.table _ _ (c.from-word.ensures ∙ ap (λ m. m.0) c.mutex.ensures) (some-within _ _ _ c.requires.once) c.requires.holder (offers g.H.Handing.next g.H.Handing.more) (owner_is _ _ _ its c.args.pass c.requires.once, named) c.offered_word.result 0 (does (offers g.H.Handing.next g.H.Handing.more)) (λ found u d. (refl, d)) (λ st n. st.first)
+    held_due _ _ _ c.args.seat.now.id c.args.seat.now.me _ c.requires.table _ _ (c.from-word.ensures ∙ ap (λ m. m.0) c.mutex.ensures) (some-within _ _ _ c.requires.once) c.requires.holder (offers g.H.Handing.next g.H.Handing.more) refl (owner_is _ _ _ its c.args.pass c.requires.once, named) c.offered_word.result 0 (does (offers g.H.Handing.next g.H.Handing.more)) (λ found u d. (refl, d)) (λ st n. st.first)
     (λ n. (λ j. offer_word (sym c.requires.handing.0 j) (sym c.requires.handing.1 j)) ∙ sym c.offered_word.ensures)
 
 pub returns-clause-word : goal.returns-clause-word

@@ -8,7 +8,7 @@ use Rattle.evl_core.proofs.mutex_steps.settle.Goals as goal
 
 pub swap-requires : goal.swap-requires
 swap-requires g c =
-    held_due _ _ _ c.args.seat.now.id c.args.seat.now.me _ c.requires.table _ _ c.from-word.ensures c.requires.there c.requires.holder settles (ap (λ (x : MutexView). x.held.role) (sym (part_is _ _ _ c.requires.table.its)) ∙ c.requires.won) (c.from-number.result + 1) 0 (does settles) (λ found u d. (refl, d)) (λ st n. st.first)
+    held_due _ _ _ c.args.seat.now.id c.args.seat.now.me _ c.requires.table _ _ c.from-word.ensures c.requires.there c.requires.holder settles refl (ap (λ (x : MutexView). x.held.role) (sym (part_is _ _ _ c.requires.table.its)) ∙ c.requires.won) (c.from-number.result + 1) 0 (does settles) (λ found u d. (refl, d)) (λ st n. st.first)
     (λ n. ap (λ x. x + 1) (number_is _ _ _ c.requires.table.its _ c.number.ensures.number ∙ sym c.from-number.ensures))
 
 pub returns-clause-word : goal.returns-clause-word

@@ -9,7 +9,7 @@ use Rattle.evl_core.proofs.mutex_steps.take_offer.Goals as goal
 
 pub fetch_and-requires : goal.fetch_and-requires
 fetch_and-requires g c =
-    held_due _ _ _ c.args.seat.now.id c.args.seat.now.me _ c.requires.table _ _ c.from-word.ensures (offered_within _ _ _ _ c.requires.offered) c.requires.holder accepts (offer_is _ _ _ c.requires.table.its _ c.requires.offered) 18446744072635809791 0 (does accepts) (λ found u d. (refl, d)) (λ st n. bit_and n st.first) (λ n. refl)
+    held_due _ _ _ c.args.seat.now.id c.args.seat.now.me _ c.requires.table _ _ c.from-word.ensures (offered_within _ _ _ _ c.requires.offered) c.requires.holder accepts refl (offer_is _ _ _ c.requires.table.its _ c.requires.offered) 18446744072635809791 0 (does accepts) (λ found u d. (refl, d)) (λ st n. bit_and n st.first) (λ n. refl)
 
 pub own-requires : goal.own-requires
 own-requires g c = record { there = offered_within _ _ _ _ c.requires.offered }

@@ -14,7 +14,7 @@ pub compare_exchange-requires : goal.compare_exchange-requires
 compare_exchange-requires g c =
     let its = c.requires.table.its in
     let number : its.number ≡ c.from-number.result = number_is _ _ _ its _ c.number.ensures.number ∙ sym c.from-number.ensures in
-    held_due _ _ _ c.args.seat.now.id c.args.seat.now.me _ c.requires.table _ _ c.from-word.ensures (some-within _ _ _ c.requires.free) c.requires.holder tries (stranger_is _ _ _ its c.requires.free) 0 (c.from-number.result + 1) tried (λ found u d. ((refl, d), tried_of _ _ u found d)) (λ st n. either (eqb n 0) st.second n) (λ n. ap (λ x. either (eqb n 0) (x + 1) n) number)
+    held_due _ _ _ c.args.seat.now.id c.args.seat.now.me _ c.requires.table _ _ c.from-word.ensures (some-within _ _ _ c.requires.free) c.requires.holder tries c.requires.ceiling (stranger_is _ _ _ its c.requires.free) 0 (c.from-number.result + 1) tried (λ found u d. ((refl, d), tried_of _ _ u found d)) (λ st n. either (eqb n 0) st.second n) (λ n. ap (λ x. either (eqb n 0) (x + 1) n) number)
 
 pub own-requires : goal.own-requires
 own-requires g c = record { there = some-within _ _ _ c.requires.free }

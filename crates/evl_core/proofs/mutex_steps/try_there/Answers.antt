@@ -2,10 +2,11 @@ use Rattle.std.proofs.Common.{◌≡◌, ◌+◌, ◌<◌, eqb, false, subst, re
 use mathlib.Core.Option.{none}
 use prog.Atomic.{either}
 use Rattle.atomic_table.specs.Table.{step}
-use Rattle.evl_words.specs.MutexWorld.{owns}
+use Rattle.evl_words.specs.MutexWorld.{owns, tries}
+use Rattle.evl_words.specs.MutexRule.{tried}
 use Rattle.evl_core.specs.rule.Known.{ceilings_of, mutex_count}
 use Rattle.evl_core.specs.rule.ThreadRule.{mutex_of}
-use Rattle.evl_core.proofs.words.MutexTokens.{tries_known}
+use Rattle.evl_core.proofs.words.MutexTokens.{makes_one, tries_known}
 use Rattle.evl_core.proofs.words.MutexStepLaws.{lose_made, number_is, pass_is, stranger_is, win_made}
 use Rattle.evl_core.proofs.words.SeatLists.{some-within}
 use Rattle.evl_core.proofs.mutex_steps.try_there.Goals as goal
@@ -37,3 +38,9 @@ returns-then-compare_exchange-eq0-clause-pass g c = pass_is _ _ _ c.requires.tab
 
 pub returns-else-compare_exchange-eq0-clause-word : goal.returns-else-compare_exchange-eq0-clause-word
 returns-else-compare_exchange-eq0-clause-word g c = lose_made _ _ _ _ _ _ _ _ c.requires.table c.compare_exchange.ensures.0 c.args.core.now.shared.table_id.slots c.from-word.result 0 (c.from-number.result + 1) c.compare_exchange.result c.from-word.ensures c.compare_exchange.ensures.2 c.if-compare_exchange-eq0.false c.requires.free
+
+pub returns-then-compare_exchange-eq0-clause-event : goal.returns-then-compare_exchange-eq0-clause-event
+returns-then-compare_exchange-eq0-clause-event g c = makes_one c.args.mutex.0 _ _ tries c.compare_exchange.result _ _ (step c.args.core.now.shared.table_id.slots (1 + c.from-word.result) 0 (c.from-number.result + 1) none) (ap (λ n. 1 + n) c.from-word.ensures) c.requires.table.its.one tried (λ st p q cs ds found x. x.0) c.compare_exchange.ensures.2
+
+pub returns-else-compare_exchange-eq0-clause-event : goal.returns-else-compare_exchange-eq0-clause-event
+returns-else-compare_exchange-eq0-clause-event g c = makes_one c.args.mutex.0 _ _ tries c.compare_exchange.result _ _ (step c.args.core.now.shared.table_id.slots (1 + c.from-word.result) 0 (c.from-number.result + 1) none) (ap (λ n. 1 + n) c.from-word.ensures) c.requires.table.its.one tried (λ st p q cs ds found x. x.0) c.compare_exchange.ensures.2

@@ -23,6 +23,9 @@ try_held-requires-clause-table g c = (at_table_of _ _ c.actor.view_is _ _ c.acto
 pub try_held-requires-clause-holder : goal.try_held-requires-clause-holder
 try_held-requires-clause-holder g c = (holds_for _ _ c.actor.view_is c.args.core.now.shared.table_id c.args.core.now.shared.key.value (taken_holds _ _ _ c.requires.taken.taken) c.args.mutex.0)
 
+pub try_held-requires-clause-ceiling : goal.try_held-requires-clause-ceiling
+try_held-requires-clause-ceiling g c = c.requires.ceiling
+
 pub invariant_of-actor : goal.invariant_of-actor
 invariant_of-actor g c = actor_at_mutexes _ _ _ _ _ _ c.actor.invariant (ap (λ a. a.table) c.actor.view_is ∙ c.requires.table.0) (ap (λ a. Rattle.evl_core.specs.rule.Known.first_of a.me.0) c.actor.view_is ∙ c.requires.table.1) c.try_held.ensures.word.core c.try_held.ensures.word.table
 

@@ -11,6 +11,9 @@ use Rattle.evl_machine.proofs.callers.Opened.{free_there, lock_open}
 use Rattle.evl_machine.proofs.mutex_locks.SeatsAt.{at_table}
 use Rattle.evl_machine.proofs.callers.Visits.{actor_at_mutexes, stage_resting}
 use Rattle.evl_machine.proofs.mutex_locks.WordCalls.{actor_in, caller_stepped, resting_stepped, tries_so}
+use Rattle.evl_machine.proofs.callers.OneSteps.{steps_in_one}
+use Rattle.evl_words.specs.MutexWorld.{tries}
+use Rattle.evl_core.specs.worlds.OneWorld.{on_word}
 use Rattle.evl_machine.proofs.machine.MachineOf.try_at_word.Goals as goal
 
 pub try_there-requires-clause-table : goal.try_there-requires-clause-table
@@ -66,3 +69,9 @@ returns-clause-stage g c =
     let was : caller_by X ≡ _ = ap (λ (x : Inside _ _). caller_by x.actor) c.caller-inside.view_is ∙ c.caller.view_is in
     let machine = c.requires.machine ∙ sym c.self.view_is in
     stage_resting (record X { table = c.try_there.new.seat.table_id; me = c.try_there.new.seat.me; places = c.try_there.new.places }) c.caller-inside.invariant.held (resting_stepped X c.try_there.new.seat.table_id c.try_there.new.seat.me c.try_there.new.places c.try_there.ensures.word.core (c.try_there.ensures.word.table.same ∙ sym (ap (λ (s : CallerState _). s.machine.id) was ∙ ap (λ (m : MachineState _). m.id) machine)) (subst (λ (x : Inside _ _). IsResting x.actor) (sym c.caller-inside.view_is) c.caller.invariant))
+
+pub returns-clause-event : goal.returns-clause-event
+returns-clause-event g c =
+    let X = actor_in c.caller-inside.invariant in
+    let was : caller_by X ≡ _ = ap (λ (x : Inside _ _). caller_by x.actor) c.caller-inside.view_is ∙ c.caller.view_is in
+    steps_in_one X (record X { table = c.try_there.new.seat.table_id; me = c.try_there.new.seat.me; places = c.try_there.new.places }) _ was (on_word c.args.mutex.0 tries) c.try_there.ensures.event

@@ -5,10 +5,13 @@ use Rattle.evl_machine.specs.callers.Callers.{IsResting, caller_by}
 use Rattle.evl_core.specs.rule.Ceilings.{has_ceiling}
 use Rattle.evl_machine.specs.callers.Handles.{CallerState, MachineState}
 use Rattle.evl_core.specs.words.MutexSeats.{UnlocksMutex, unlock_refusal}
-use Rattle.evl_core.specs.words.MutexTokens.{TellsTheSame, seats_at}
+use Rattle.evl_core.specs.words.MutexTokens.{seats_at}
 use Rattle.evl_machine.proofs.mutex_locks.SeatsAt.{at_table}
 use Rattle.evl_machine.proofs.callers.Visits.{actor_at_mutexes, stage_resting}
 use Rattle.evl_machine.proofs.mutex_locks.WordCalls.{actor_in, caller_stepped, resting_stepped, unlocks_so, once_there}
+use Rattle.evl_machine.proofs.callers.OneSteps.{steps_in_one}
+use Rattle.evl_words.specs.MutexWorld.{unlocks}
+use Rattle.evl_core.specs.worlds.OneWorld.{on_word}
 use Rattle.evl_machine.proofs.machine.MachineOf.unlock_last.Goals as goal
 
 pub unlock_there-requires-clause-table : goal.unlock_there-requires-clause-table
@@ -69,3 +72,9 @@ returns-clause-stage g c =
     let was : caller_by X ≡ _ = ap (λ (x : Inside _ _). caller_by x.actor) c.caller-inside.view_is ∙ c.caller.view_is in
     let machine = c.requires.machine ∙ sym c.self.view_is in
     stage_resting (record X { table = c.unlock_there.new.seat.table_id; me = c.unlock_there.new.seat.me; places = c.unlock_there.new.places }) c.caller-inside.invariant.held (resting_stepped X c.unlock_there.new.seat.table_id c.unlock_there.new.seat.me c.unlock_there.new.places c.unlock_there.ensures.word.core (c.unlock_there.ensures.word.table.same ∙ sym (ap (λ (s : CallerState _). s.machine.id) was ∙ ap (λ (m : MachineState _). m.id) machine)) (subst (λ (x : Inside _ _). IsResting x.actor) (sym c.caller-inside.view_is) c.caller.invariant))
+
+pub returns-clause-event : goal.returns-clause-event
+returns-clause-event g c =
+    let X = actor_in c.caller-inside.invariant in
+    let was : caller_by X ≡ _ = ap (λ (x : Inside _ _). caller_by x.actor) c.caller-inside.view_is ∙ c.caller.view_is in
+    steps_in_one X (record X { table = c.unlock_there.new.seat.table_id; me = c.unlock_there.new.seat.me; places = c.unlock_there.new.places }) _ was (on_word c.args.pass.mutex.0 unlocks) c.unlock_there.ensures.event
