@@ -4,7 +4,7 @@ ghost use Rattle.std.specs.Prelude.{⊤, ◌≡◌, ◌∷◌, [], codes};
 use bitflags::{Flag, Flags, bitflag_items};
 
 /// A set of kinds of actions, as a callback declares them.
-#[derive(Clone, Copy, Debug, PartialEq, Eq)]
+#[derive(Clone, Copy, PartialEq, Eq)]
 pub struct ActionKinds(u8);
 
 bitflag_items! {

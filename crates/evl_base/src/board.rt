@@ -9,7 +9,7 @@ use crate::refusal::Refusal;
 use arrayvec::ArrayVec;
 
 /// The elements of a kernel, as they are opened.
-#[derive(Debug, Drop)]
+#[derive(Drop)]
 pub struct Board {
     /// How many threads there are, 1 to `MAX_THREADS`.
     pub threads: u16,

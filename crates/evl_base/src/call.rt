@@ -12,7 +12,7 @@ use crate::way::Way;
 use std::alloc::Allocator;
 
 /// A call of the kernel (Xenomai 4: EVL elements; the forms are this profile's).
-#[derive(Debug, Drop)]
+#[derive(Drop)]
 pub enum Call {
     /// Lets a callback of the bank stand on a line of a stage, with a tag that its fires carry.
     Request {
@@ -191,7 +191,7 @@ pub enum Call {
 
 /// A word that names a call of the kernel (Dovetail: interrupt pipeline; Xenomai 4: EVL elements; the words are this
 /// profile's).
-#[derive(Clone, Copy, PartialEq, Eq, Debug)]
+#[derive(Clone, Copy, PartialEq, Eq)]
 pub enum StepWord {
     Request,
     Free,

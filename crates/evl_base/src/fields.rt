@@ -11,7 +11,7 @@ use std::fmt;
 
 /// The kinds of what stands behind the keys of calls: numbers of 8, 16, 32 and 64 bits, what else stands in texts, the
 /// date of a deadline, and truth.
-#[derive(Clone, Copy, PartialEq, Eq, Debug)]
+#[derive(Clone, Copy, PartialEq, Eq)]
 pub enum Kind {
     Byte,
     Half,

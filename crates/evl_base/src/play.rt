@@ -6,7 +6,7 @@ use crate::stage::Stage;
 use std::fmt;
 
 /// One event that the kernel played while it settled (Dovetail: interrupt pipeline).
-#[derive(Clone, Copy, Debug, PartialEq, Eq)]
+#[derive(Clone, Copy, PartialEq, Eq)]
 pub enum Play {
     /// Line 0, the clock's.
     Clock,

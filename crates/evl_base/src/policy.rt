@@ -4,7 +4,7 @@ ghost use Rattle.std.specs.Prelude.{Some};
 use std::fmt;
 
 /// A scheduling policy (Xenomai 4: EVL scheduling policies), with priorities of this profile.
-#[derive(Clone, Copy, Debug, PartialEq, Eq)]
+#[derive(Clone, Copy, PartialEq, Eq)]
 pub enum Policy {
     /// First in, first out, with a priority of 1 to 99.
     Fifo(u8),

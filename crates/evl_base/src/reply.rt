@@ -9,7 +9,7 @@ use std::alloc::Allocator;
 use std::fmt;
 
 /// What a call that wasn't refused answers.
-#[derive(Debug, Drop)]
+#[derive(Drop)]
 pub enum Reply {
     /// The call is done, and there is nothing to tell.
     Done,
@@ -32,7 +32,7 @@ pub enum Reply {
 }
 
 /// The kinds of what the calls answer where they aren't refused: a variant of `Reply`, or what ends a wait.
-#[derive(Clone, Copy, PartialEq, Eq, Debug)]
+#[derive(Clone, Copy, PartialEq, Eq)]
 pub enum ReplyKind {
     Done,
     Begun,

@@ -4,7 +4,7 @@ ghost use Rattle.std.specs.Prelude.{Some};
 use std::fmt;
 
 /// An execution stage (Dovetail: interrupt pipeline). The out-of-band stage goes before the in-band one.
-#[derive(Clone, Copy, Debug, PartialEq, Eq)]
+#[derive(Clone, Copy, PartialEq, Eq)]
 pub enum Stage {
     /// The stage of the general purpose kernel.
     Inband,

@@ -4,7 +4,7 @@ ghost use Rattle.std.specs.Prelude.{Some};
 use std::fmt;
 
 /// Which bits a thread takes out of a flag group (Xenomai 4: EVL event flag group; the kinds are this profile's).
-#[derive(Clone, Copy, Debug, PartialEq, Eq)]
+#[derive(Clone, Copy, PartialEq, Eq)]
 pub enum Take {
     /// All bits, where there are any.
     Any,

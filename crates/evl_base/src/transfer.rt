@@ -8,7 +8,7 @@ use std::alloc::{Allocator, Global};
 use std::marker::Model;
 
 /// The bytes of one transfer through a cross-buffer, at most 256, in a box: what carries one is as small as a pointer.
-#[derive(Debug, Drop)]
+#[derive(Drop)]
 pub struct Transfer {
     held: Box<Bytes>,
 }

@@ -8,7 +8,7 @@ use std::fmt;
 pub type Bytes = ArrayVec<u8, 256>;
 
 /// A way through a cross-buffer (Xenomai 4: EVL cross-buffer).
-#[derive(Clone, Copy, Debug, PartialEq, Eq)]
+#[derive(Clone, Copy, PartialEq, Eq)]
 pub enum Way {
     /// Written in-band, read out-of-band.
     In,

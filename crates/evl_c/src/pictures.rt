@@ -22,7 +22,7 @@ use lab_traces::{Misread, TraceLine, read_lines};
 use std::alloc::{AllocError, Global};
 
 /// Which way a picture goes: down where it has few marks, else across, where neither is asked for.
-#[derive(Clone, Copy, PartialEq, Eq, Debug)]
+#[derive(Clone, Copy, PartialEq, Eq)]
 pub enum Way {
     Fitting,
     Down,
@@ -30,7 +30,7 @@ pub enum Way {
 }
 
 /// In which form a picture is wanted.
-#[derive(Clone, Copy, PartialEq, Eq, Debug)]
+#[derive(Clone, Copy, PartialEq, Eq)]
 pub enum Form {
     Svg(Way),
     Rows,
@@ -54,7 +54,7 @@ pub struct Picture {
 }
 
 /// Why nothing is drawn.
-#[derive(Clone, Copy, PartialEq, Eq, Debug)]
+#[derive(Clone, Copy, PartialEq, Eq)]
 pub enum Undrawn {
     /// The text is no UTF-8.
     Text,
@@ -70,7 +70,7 @@ pub enum Undrawn {
 const CLOSING: &str = "\nclose -> ";
 
 // What marks come from: a trace alone, a scenario that was played, or the lines of callers.
-#[derive(Clone, Copy, PartialEq, Eq, Debug)]
+#[derive(Clone, Copy, PartialEq, Eq)]
 enum Source<'a> {
     Trace,
     Scenario(&'a str),

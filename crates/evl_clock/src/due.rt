@@ -3,7 +3,7 @@ use evl_base::{ThreadId, TimerId};
 use evl_pipeline::{Answer, Fire};
 
 /// What is due next, before it falls due.
-#[derive(Clone, Copy, Debug, PartialEq, Eq)]
+#[derive(Clone, Copy, PartialEq, Eq)]
 pub enum Item {
     /// A timer.
     Timer(TimerId),
@@ -12,7 +12,7 @@ pub enum Item {
 }
 
 /// What fell due.
-#[derive(Debug, Drop)]
+#[derive(Drop)]
 pub enum Due {
     /// A timer fired.
     Timer {

@@ -3,7 +3,7 @@ ghost use Rattle.std.specs.Prelude.{◌≡◌};
 ghost use Rattle.evl_clock.specs.Timers.{date_of, missed_periods, missed_of, state_after};
 
 /// What a timer does (Xenomai 4: EVL timers; this profile).
-#[derive(Clone, Copy, Debug, PartialEq, Eq)]
+#[derive(Clone, Copy, PartialEq, Eq)]
 pub enum TimerState {
     /// It doesn't run: it was never started, or stopped, or fired once with interval 0.
     Idle,

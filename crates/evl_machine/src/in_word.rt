@@ -14,7 +14,7 @@ use std::alloc::Allocator;
 
 /// What stands in a mutex's word: who owns the mutex or has it offered, which of the two it is, and whether somebody
 /// claims it.
-#[derive(Debug, Clone, Copy, PartialEq, Eq)]
+#[derive(Clone, Copy, PartialEq, Eq)]
 pub struct InWord {
     pub owner: Option<ThreadId>,
     pub is_offered: bool,

@@ -5,7 +5,7 @@ ghost use Rattle.evl_machine.specs.callers.Unfinished.{wait_after, wait_step};
 use evl_base::{Call, MutexId, Refusal, Reply};
 
 /// What an unfinished wait is for.
-#[derive(Clone, Copy, PartialEq, Eq, Debug)]
+#[derive(Clone, Copy, PartialEq, Eq)]
 pub enum Unfinished {
     /// A mutex.
     Mutex(MutexId),

@@ -2,7 +2,7 @@
 use std::fmt;
 
 /// The part of a callback that can't be read.
-#[derive(Clone, Copy, PartialEq, Eq, Debug)]
+#[derive(Clone, Copy, PartialEq, Eq)]
 pub enum Part {
     /// It is no table, has a key but `accepts` and `do`, or is more than the 64th.
     Keys,
@@ -35,7 +35,7 @@ impl fmt::Display for Part {
 }
 
 /// Why a text is no bank.
-#[derive(Clone, Copy, PartialEq, Eq, Debug)]
+#[derive(Clone, Copy, PartialEq, Eq)]
 pub enum BankFault {
     /// The text isn't UTF-8, or is no TOML document.
     Text,

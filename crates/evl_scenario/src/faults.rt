@@ -1,7 +1,7 @@
 //! Why a run stopped.
 
 /// Why a scenario wasn't played to its end.
-#[derive(Clone, Copy, PartialEq, Eq, Debug)]
+#[derive(Clone, Copy, PartialEq, Eq)]
 pub enum Fault {
     /// The text isn't UTF-8, is no TOML document, or has more than 1,048,576 bytes.
     Text,

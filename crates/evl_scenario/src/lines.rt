@@ -7,7 +7,7 @@ use evl_base::{Board, Play, Refusal, Reply};
 use std::fmt;
 
 /// How many elements of each kind there are.
-#[derive(Clone, Copy, PartialEq, Eq, Debug)]
+#[derive(Clone, Copy, PartialEq, Eq)]
 pub struct ElementCounts {
     pub sems: usize,
     pub flags: usize,
@@ -26,7 +26,7 @@ impl fmt::Display for ElementCounts {
 }
 
 /// How many mutexes and quota groups there are.
-#[derive(Clone, Copy, PartialEq, Eq, Debug)]
+#[derive(Clone, Copy, PartialEq, Eq)]
 pub struct OwnerCounts {
     pub mutexes: usize,
     pub groups: usize,
@@ -44,7 +44,7 @@ impl fmt::Display for OwnerCounts {
 }
 
 /// The first line of a trace: how many threads and elements there are, and the limit.
-#[derive(Clone, Copy, PartialEq, Eq, Debug)]
+#[derive(Clone, Copy, PartialEq, Eq)]
 pub struct BoardLine {
     pub threads: u16,
     pub elements: ElementCounts,
@@ -93,7 +93,7 @@ pub fn board_line(board: &Board, limit: u32) -> BoardLine
 }
 
 /// The number of an entry, or a dash where there is none.
-#[derive(Clone, Copy, PartialEq, Eq, Debug)]
+#[derive(Clone, Copy, PartialEq, Eq)]
 pub struct EntryNumber(pub Option<usize>);
 
 impl fmt::Display for EntryNumber {
@@ -110,7 +110,7 @@ impl fmt::Display for EntryNumber {
 }
 
 /// What a call answered: a reply, or the name of a refusal.
-#[derive(Debug, Drop)]
+#[derive(Drop)]
 pub struct StepAnswer(pub Result<Reply, Refusal>);
 
 impl fmt::Display for StepAnswer {
@@ -162,7 +162,7 @@ impl<'a> fmt::Display for StepLine<'a> {
 }
 
 /// The line of a play, after two spaces.
-#[derive(Clone, Copy, PartialEq, Eq, Debug)]
+#[derive(Clone, Copy, PartialEq, Eq)]
 pub struct PlayLine(pub Play);
 
 impl fmt::Display for PlayLine {

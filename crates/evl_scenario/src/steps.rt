@@ -10,7 +10,7 @@ use std::alloc::Global;
 use toml::{Table, Value};
 
 /// A call, and the thread that makes it.
-#[derive(Debug, Drop)]
+#[derive(Drop)]
 pub struct Step {
     pub who: ThreadId,
     pub call: Call,

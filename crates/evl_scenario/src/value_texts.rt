@@ -5,7 +5,7 @@ use evl_base::MutexKind;
 use std::fmt;
 
 /// A number of 64 bits: in quotes where no integer of TOML is as large, which have 63.
-#[derive(Clone, Copy, PartialEq, Eq, Debug)]
+#[derive(Clone, Copy, PartialEq, Eq)]
 pub struct Moment(pub u64);
 
 impl fmt::Display for Moment {
@@ -24,7 +24,7 @@ impl fmt::Display for Moment {
 }
 
 /// The date of a deadline, or `"none"`.
-#[derive(Clone, Copy, PartialEq, Eq, Debug)]
+#[derive(Clone, Copy, PartialEq, Eq)]
 pub struct Until(pub Option<u64>);
 
 impl fmt::Display for Until {
@@ -62,7 +62,7 @@ impl<'a> fmt::Display for Digits<'a> {
 }
 
 /// The kind of a mutex, without quotes.
-#[derive(Clone, Copy, PartialEq, Eq, Debug)]
+#[derive(Clone, Copy, PartialEq, Eq)]
 pub struct KindText(pub MutexKind);
 
 impl fmt::Display for KindText {

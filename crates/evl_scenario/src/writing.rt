@@ -14,7 +14,7 @@ use evl_base::{Board, Call, Entry, ThreadId};
 use std::alloc::{AllocError, Allocator};
 
 /// Why a history wasn't written as a scenario.
-#[derive(Clone, Copy, PartialEq, Eq, Debug)]
+#[derive(Clone, Copy, PartialEq, Eq)]
 pub enum Unwritten {
     /// The board has a stage exclusion lock, for which a scenario has no key, or a number outside its limits.
     Board,

@@ -20,7 +20,7 @@ use std::io::{Read, Write};
 const MOST_READ: usize = 1_048_577;
 
 /// Why the program stopped before the end of a trace.
-#[derive(Clone, Copy, PartialEq, Eq, Debug)]
+#[derive(Clone, Copy, PartialEq, Eq)]
 pub enum Stop {
     /// A read of the input failed.
     NoFile,

@@ -9,7 +9,7 @@ use std::io::Read;
 const PART: usize = 4096;
 
 /// Why an input was not read up to its end or its bound.
-#[derive(Clone, Copy, PartialEq, Eq, Debug)]
+#[derive(Clone, Copy, PartialEq, Eq)]
 pub enum ReadFault {
     /// A read failed.
     Failed,

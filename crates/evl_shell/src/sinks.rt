@@ -93,7 +93,7 @@ impl<W: Write> Sink for Over<W> {
 }
 
 /// A sink has failed.
-#[derive(Clone, Copy, PartialEq, Eq, Debug)]
+#[derive(Clone, Copy, PartialEq, Eq)]
 pub struct SinkFailed;
 
 /// Puts all of the bytes, or a front part where the sink fails.

@@ -6,7 +6,7 @@ use evl_base::{Take, ThreadId};
 use std::default::Default;
 
 /// A waiting thread, with the effective rank that it had when its wait began, and which bits it wants.
-#[derive(Clone, Copy, Debug)]
+#[derive(Clone, Copy)]
 pub struct FlagWaiter {
     /// The number of the thread, below `MAX_THREADS`.
     pub thread: u16,
@@ -46,7 +46,7 @@ impl Ranked for FlagWaiter {
 }
 
 /// A thread that a post served, and which bits it took.
-#[derive(Clone, Copy, Debug, PartialEq, Eq)]
+#[derive(Clone, Copy, PartialEq, Eq)]
 pub struct TakenBits {
     /// Who waits no more.
     pub thread: ThreadId,

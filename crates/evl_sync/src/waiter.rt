@@ -3,7 +3,7 @@ use crate::ranked::Ranked;
 
 /// A waiting thread, with the effective rank that it had when its wait began: a rank that it is given later doesn't
 /// move it.
-#[derive(Clone, Copy, Debug, Default, PartialEq, Eq)]
+#[derive(Clone, Copy, Default, PartialEq, Eq)]
 pub struct Waiter {
     /// The number of the thread, below `MAX_THREADS`.
     pub thread: u16,

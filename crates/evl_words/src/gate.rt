@@ -17,7 +17,7 @@ mod word;
 use steps::{GateKey, Gated};
 
 /// How a gate was left.
-#[derive(Clone, Copy, PartialEq, Eq, Debug)]
+#[derive(Clone, Copy, PartialEq, Eq)]
 pub enum Left {
     /// Nobody holds the gate any more. `claimed` says whether the claim mark stood.
     Last { claimed: bool },

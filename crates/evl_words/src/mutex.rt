@@ -29,7 +29,7 @@ pub enum Unlock {
 }
 
 /// What a claim found.
-#[derive(Clone, Copy, PartialEq, Eq, Debug)]
+#[derive(Clone, Copy, PartialEq, Eq)]
 pub enum Claim {
     /// Nobody had the mutex. The claimer has won it, and alone settles.
     Won,

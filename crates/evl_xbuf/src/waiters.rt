@@ -12,7 +12,7 @@ pub struct Writer {
 }
 
 /// A thread that waits to read.
-#[derive(Clone, Copy, Debug, Default)]
+#[derive(Clone, Copy, Default)]
 pub struct Reader {
     /// The number of the thread, below `MAX_THREADS`.
     pub thread: u16,

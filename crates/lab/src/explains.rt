@@ -24,7 +24,7 @@ use std::io::{self, Read};
 use std::rt::Files;
 
 /// The kind of text that a part takes beside scenarios.
-#[derive(Clone, Copy, PartialEq, Eq, Debug)]
+#[derive(Clone, Copy, PartialEq, Eq)]
 pub enum Takes {
     Scenarios,
     Orders,

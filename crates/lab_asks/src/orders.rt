@@ -33,7 +33,7 @@ use std::io::{self, Read};
 use std::rt::Files;
 
 // What is printed of all orders.
-#[derive(Clone, Copy, PartialEq, Eq, Debug)]
+#[derive(Clone, Copy, PartialEq, Eq)]
 enum View {
     Report,
     Json,

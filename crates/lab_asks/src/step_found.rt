@@ -17,7 +17,7 @@ use std::alloc::{AllocError, Global};
 use std::io;
 
 /// What is printed of the orders of steps.
-#[derive(Clone, Copy, PartialEq, Eq, Debug)]
+#[derive(Clone, Copy, PartialEq, Eq)]
 pub(crate) enum StepView {
     Report,
     /// The first order of the outcome with this number, from 1, step by step.

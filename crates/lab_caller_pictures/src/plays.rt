@@ -28,7 +28,7 @@ pub struct CallersRun {
 }
 
 /// Why nothing is drawn of a text of callers.
-#[derive(Clone, Copy, PartialEq, Eq, Debug)]
+#[derive(Clone, Copy, PartialEq, Eq)]
 pub enum Unplayed {
     /// It can't be read.
     Text(Fault),

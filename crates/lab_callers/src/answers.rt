@@ -18,7 +18,7 @@ use lab_callers_text::Act;
 use std::alloc::{AllocError, Global};
 
 /// Why the steps end before the last one.
-#[derive(Clone, Copy, PartialEq, Eq, Debug)]
+#[derive(Clone, Copy, PartialEq, Eq)]
 pub enum Stop {
     /// The step can't be made.
     Fault(StepFault),

@@ -25,7 +25,7 @@ use std::alloc::{AllocError, Global};
 use std::marker::Model;
 
 /// How the steps ended.
-#[derive(Clone, Copy, PartialEq, Eq, Debug)]
+#[derive(Clone, Copy, PartialEq, Eq)]
 pub enum Ending {
     /// All were made, and the machine is closed.
     Closed,
@@ -36,7 +36,7 @@ pub enum Ending {
 }
 
 /// What is told of the steps.
-#[derive(Debug, Drop)]
+#[derive(Drop)]
 pub struct Played {
     /// The board, and a line for each step that was made, with its plays below it.
     pub lines: String,

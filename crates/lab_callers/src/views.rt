@@ -10,7 +10,7 @@ use evl_pipeline::Handler;
 use std::alloc::{AllocError, Allocator, Global};
 
 /// What a step's line shows beside the answer.
-#[derive(Clone, Copy, PartialEq, Eq, Debug)]
+#[derive(Clone, Copy, PartialEq, Eq)]
 pub enum Shows {
     Nothing,
     Stax(StaxId),

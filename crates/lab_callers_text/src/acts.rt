@@ -6,7 +6,7 @@ use evl_base::{Call, MutexId, StaxId, ThreadId};
 use std::alloc::AllocError;
 
 /// What a step does. A name is that of a pass.
-#[derive(Debug, Drop)]
+#[derive(Drop)]
 pub enum Act {
     /// A call of the kernel.
     Call(Call),
@@ -22,7 +22,7 @@ pub enum Act {
 }
 
 /// What is done, and by which caller.
-#[derive(Debug, Drop)]
+#[derive(Drop)]
 pub struct CallersStep {
     pub who: ThreadId,
     pub act: Act,

@@ -26,7 +26,7 @@ pub struct Mark {
 }
 
 /// Why a step wasn't put so.
-#[derive(Clone, Copy, PartialEq, Eq, Debug)]
+#[derive(Clone, Copy, PartialEq, Eq)]
 pub enum MarkFault {
     /// A key of its word is missing, has a value that it can't have, or stands beside another of the same meaning.
     Step,

@@ -22,7 +22,7 @@ use toml::Table;
 const MOST_BYTES: usize = 1_048_576;
 
 /// What a text of callers asks for: a board, the limit of its history, and the steps in order.
-#[derive(Debug, Drop)]
+#[derive(Drop)]
 pub struct CallersText {
     pub board: Board,
     pub limit: u32,

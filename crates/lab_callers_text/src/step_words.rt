@@ -4,7 +4,7 @@ ghost use Rattle.std.specs.Prelude.{◌≡◌, option_map};
 ghost use Rattle.lab_callers_text.specs.StepWords.{name_key, number_key, other_word, own_word, stand_in};
 
 /// A word that names a step of a caller.
-#[derive(Clone, Copy, PartialEq, Eq, Debug)]
+#[derive(Clone, Copy, PartialEq, Eq)]
 pub enum OwnWord {
     TryLockStax,
     UnlockStax,

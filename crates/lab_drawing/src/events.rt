@@ -12,7 +12,7 @@ use lab_traces::{EntryLine, Says};
 use std::alloc::{AllocError, Global};
 
 /// What a call does on an interrupt line, by its lane.
-#[derive(Clone, Copy, PartialEq, Eq, Debug)]
+#[derive(Clone, Copy, PartialEq, Eq)]
 pub enum OnLines {
     /// It installs a callback there.
     Requests(Lane),

@@ -62,7 +62,7 @@ const BELOW: usize = 12;
 const LETTER: usize = 8;
 
 /// Which way the lines of a trace go in a picture.
-#[derive(Clone, Copy, PartialEq, Eq, Debug)]
+#[derive(Clone, Copy, PartialEq, Eq)]
 pub enum Goes {
     /// A column for each line, with its text below.
     Across,

@@ -10,7 +10,7 @@ use std::alloc::AllocError;
 use std::fmt;
 
 /// What a lane of a picture is of.
-#[derive(Clone, Copy, PartialEq, Eq, Debug)]
+#[derive(Clone, Copy, PartialEq, Eq)]
 pub enum Lane {
     Thread(u16),
     Mutex(u16),

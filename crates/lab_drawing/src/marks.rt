@@ -22,7 +22,7 @@ use lab_traces::{EntryLine, Says, TraceLine, is_refused};
 use std::alloc::{AllocError, Global};
 
 /// How a mark looks.
-#[derive(Clone, Copy, PartialEq, Eq, Debug)]
+#[derive(Clone, Copy, PartialEq, Eq)]
 pub enum Shape {
     /// A call that was answered.
     Answered,
@@ -43,7 +43,7 @@ pub enum Shape {
 }
 
 /// A mark: the line that it stands for, its lane, the lane of what its call names, and how it looks.
-#[derive(Clone, Copy, PartialEq, Eq, Debug)]
+#[derive(Clone, Copy, PartialEq, Eq)]
 pub struct Mark<'a> {
     pub line: &'a str,
     pub lane: Lane,

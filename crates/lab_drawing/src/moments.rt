@@ -6,7 +6,7 @@ use crate::lanes::{Lane, is_lane};
 use evl_base::Policy;
 
 /// How a lane stands after a call.
-#[derive(Clone, Copy, PartialEq, Eq, Debug)]
+#[derive(Clone, Copy, PartialEq, Eq)]
 pub enum Condition {
     /// The thread is attached, and in-band; callers of that stage hold the stax.
     Inband,
@@ -37,7 +37,7 @@ pub enum Condition {
 /// How one lane stands, with the effective rank of its thread, the owner of its mutex or who gets it, how many events
 /// are pending on its stage, how many callers hold its stax, or who has the core. Of a thread also its own policy, and
 /// the thread whose rank it is lent, if it is.
-#[derive(Clone, Copy, PartialEq, Eq, Debug)]
+#[derive(Clone, Copy, PartialEq, Eq)]
 pub struct Standing {
     pub lane: Lane,
     pub condition: Condition,

@@ -5,7 +5,7 @@ ghost use Rattle.lab_drawing.specs.Html.{told_cell};
 use std::alloc::AllocError;
 
 /// Where a cell stands in the rows of a table.
-#[derive(Clone, Copy, PartialEq, Eq, Debug)]
+#[derive(Clone, Copy, PartialEq, Eq)]
 pub enum Place {
     /// It begins a row, and names it.
     Name,

@@ -10,7 +10,7 @@ use crate::moments::Moment;
 use std::alloc::{AllocError, Global};
 
 /// What stands at the end of a tie.
-#[derive(Clone, Copy, PartialEq, Eq, Debug)]
+#[derive(Clone, Copy, PartialEq, Eq)]
 pub enum TieEnd {
     /// The lane is named by the call.
     Named,

@@ -8,7 +8,7 @@ use std::alloc::AllocError;
 use std::fmt;
 
 /// A place in a text: the line, from 1, and the byte in it, from 1.
-#[derive(Clone, Copy, PartialEq, Eq, Debug)]
+#[derive(Clone, Copy, PartialEq, Eq)]
 pub struct Place {
     pub line: usize,
     pub column: usize,
@@ -26,7 +26,7 @@ impl fmt::Display for Place {
 }
 
 /// A fault of a scenario's text: of which kind it is, where it stands, and what is said of it.
-#[derive(Debug, Drop)]
+#[derive(Drop)]
 pub struct Found {
     pub fault: Fault,
     pub place: Place,

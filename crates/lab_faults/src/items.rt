@@ -3,7 +3,7 @@ ghost use Rattle.std.specs.Prelude.{◌≡◌};
 ghost use Rattle.lab_faults.specs.Steps.{bytes_between, unquoted};
 
 /// What a key or a heading stands in.
-#[derive(Clone, Copy, PartialEq, Eq, Debug)]
+#[derive(Clone, Copy, PartialEq, Eq)]
 pub enum Section {
     /// Beside the board and the steps.
     Opening,
@@ -15,7 +15,7 @@ pub enum Section {
 }
 
 /// A key with its value, each from a byte up to another.
-#[derive(Clone, Copy, PartialEq, Eq, Debug)]
+#[derive(Clone, Copy, PartialEq, Eq)]
 pub struct Item {
     pub section: Section,
     pub key: (usize, usize),
@@ -23,7 +23,7 @@ pub struct Item {
 }
 
 /// A heading, and what it begins.
-#[derive(Clone, Copy, PartialEq, Eq, Debug)]
+#[derive(Clone, Copy, PartialEq, Eq)]
 pub struct Heading {
     pub section: Section,
     pub name: (usize, usize),

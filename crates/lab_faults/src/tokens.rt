@@ -6,7 +6,7 @@ ghost use Rattle.lab_faults.specs.Pieces.{begun_word, token_marked, pieces_from,
 use std::alloc::{AllocError, Global};
 
 /// What a piece is.
-#[derive(Clone, Copy, PartialEq, Eq, Debug)]
+#[derive(Clone, Copy, PartialEq, Eq)]
 pub enum Kind {
     /// A text between quotes, or anything else without a mark in it.
     Word,
@@ -20,7 +20,7 @@ pub enum Kind {
 }
 
 /// A piece of a text, from a byte up to another.
-#[derive(Clone, Copy, PartialEq, Eq, Debug)]
+#[derive(Clone, Copy, PartialEq, Eq)]
 pub struct Token {
     pub kind: Kind,
     pub from: usize,

@@ -10,7 +10,7 @@ use lab_faults::Found;
 use std::alloc::{AllocError, Global};
 
 /// A kind of what is found.
-#[derive(Clone, Copy, PartialEq, Eq, Debug)]
+#[derive(Clone, Copy, PartialEq, Eq)]
 pub enum Noticed {
     /// The text is refused for it, or a bank is.
     Fault,

@@ -9,7 +9,7 @@ use lab_faults::{Heading, Item, Section, items_of, named};
 use std::alloc::{AllocError, Global};
 
 /// A kind of text.
-#[derive(Clone, Copy, PartialEq, Eq, Debug)]
+#[derive(Clone, Copy, PartialEq, Eq)]
 pub enum TextKind {
     /// A board and steps: for `evl`, `lab play`, `lab live` and `lab draw`.
     Scenario,

@@ -9,7 +9,7 @@ use lab_faults::{Kind, Token, tokens_of};
 use std::alloc::{AllocError, Global};
 
 /// How many braces are open, and how many rows were begun since the last key outside them.
-#[derive(Clone, Copy, PartialEq, Eq, Debug)]
+#[derive(Clone, Copy, PartialEq, Eq)]
 pub struct Braces {
     pub depth: usize,
     pub row: usize,

@@ -13,7 +13,7 @@ use lab_faults::check;
 use std::alloc::{AllocError, Global};
 
 /// A line that can't be read: the byte, from 1, and what was wanted there.
-#[derive(Debug, Drop)]
+#[derive(Drop)]
 pub struct Unread {
     pub column: usize,
     pub words: String,

@@ -21,7 +21,7 @@ use lab_traces::{EntryLine, Says, read_line};
 use std::alloc::{AllocError, Global};
 
 /// A step that isn't answered as its text expects.
-#[derive(Debug, Drop)]
+#[derive(Drop)]
 pub struct Unexpected {
     /// The line that says what is expected, from 1.
     pub line: usize,

@@ -7,14 +7,14 @@ ghost use Rattle.lab_lines.specs.declared.places.Part.{Part as Word};
 use std::alloc::{AllocError, Global};
 
 /// A part of a line, from a byte up to another.
-#[derive(Clone, Copy, PartialEq, Eq, Debug)]
+#[derive(Clone, Copy, PartialEq, Eq)]
 pub struct Part {
     pub from: usize,
     pub to: usize,
 }
 
 /// A key of a line, with its value. The value goes up to the next key, so it may have spaces in it.
-#[derive(Clone, Copy, PartialEq, Eq, Debug)]
+#[derive(Clone, Copy, PartialEq, Eq)]
 pub struct Pair {
     pub key: Part,
     pub value: Part,

@@ -11,7 +11,7 @@ use lab_faults::{Item, bare, items_of, number_of, slice};
 use std::alloc::{AllocError, Global};
 
 /// An answer that a text expects of a step, as a trace writes it, and the line that says so. Both count from 1.
-#[derive(Debug, Drop)]
+#[derive(Drop)]
 pub struct Expected {
     pub line: usize,
     pub step: usize,
@@ -19,7 +19,7 @@ pub struct Expected {
 }
 
 /// Why it can't be read what a text expects.
-#[derive(Clone, Copy, PartialEq, Eq, Debug)]
+#[derive(Clone, Copy, PartialEq, Eq)]
 pub enum ExpectFault {
     /// The line of an `expect` that has no answer, and its step; both count from 1.
     NoAnswer(usize, usize),

@@ -13,7 +13,7 @@ use evl_scenario::{Step, Unwritten, write_scenario};
 use std::alloc::{AllocError, Global};
 
 /// Why a text of lines isn't read.
-#[derive(Debug, Drop)]
+#[derive(Drop)]
 pub enum LinesFault {
     /// Its bytes are no UTF-8.
     Text,

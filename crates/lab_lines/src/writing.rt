@@ -15,7 +15,7 @@ use evl_scenario::{
 use std::alloc::{AllocError, Global};
 
 /// Why a scenario isn't written as a text of lines.
-#[derive(Clone, Copy, PartialEq, Eq, Debug)]
+#[derive(Clone, Copy, PartialEq, Eq)]
 pub enum Unlined {
     /// The text is no scenario.
     Scenario(Fault),

@@ -9,7 +9,7 @@ use lab_traces::{Says, read_line};
 use std::alloc::{AllocError, Global};
 
 /// Where two traces differ: the line, from 1, and what stands there in each; none behind the last line.
-#[derive(Clone, Copy, PartialEq, Eq, Debug)]
+#[derive(Clone, Copy, PartialEq, Eq)]
 pub struct Difference<'a> {
     pub line: usize,
     pub stored: Option<&'a str>,

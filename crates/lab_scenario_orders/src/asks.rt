@@ -57,7 +57,7 @@ pub struct Ask {
 }
 
 /// A key of `[ask]`.
-#[derive(Clone, Copy, PartialEq, Eq, Debug)]
+#[derive(Clone, Copy, PartialEq, Eq)]
 pub enum AskKey {
     Never,
     AlwaysEnds,
@@ -72,7 +72,7 @@ pub enum AskKey {
 }
 
 /// Why a text isn't facts of a board.
-#[derive(Clone, Copy, PartialEq, Eq, Debug)]
+#[derive(Clone, Copy, PartialEq, Eq)]
 pub enum FactFault {
     /// It isn't facts with `and` between them; and the word of facts that may be meant in it.
     Unread(Option<&'static str>),
@@ -81,7 +81,7 @@ pub enum FactFault {
 }
 
 /// Why it can't be read what is asked.
-#[derive(Clone, Copy, PartialEq, Eq, Debug)]
+#[derive(Clone, Copy, PartialEq, Eq)]
 pub enum AskFault {
     /// The text isn't UTF-8, or its tables `[ask]` aren't one table of TOML.
     Table,

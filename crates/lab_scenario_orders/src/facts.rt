@@ -8,7 +8,7 @@ use evl_kernel::{Awaited, KernelOf};
 use std::alloc::Global;
 
 /// How a number is compared.
-#[derive(Clone, Copy, PartialEq, Eq, Debug)]
+#[derive(Clone, Copy, PartialEq, Eq)]
 pub enum Relation {
     Equal,
     Below,
@@ -47,7 +47,7 @@ pub enum Fact {
 }
 
 /// What a board has a number of.
-#[derive(Clone, Copy, PartialEq, Eq, Debug)]
+#[derive(Clone, Copy, PartialEq, Eq)]
 pub enum Part {
     Thread,
     Sem,

@@ -19,7 +19,7 @@ use lab_orders::{Led, lead};
 use std::alloc::{AllocError, Global};
 
 /// Why a text is no order that callers can make.
-#[derive(Clone, Copy, PartialEq, Eq, Debug)]
+#[derive(Clone, Copy, PartialEq, Eq)]
 pub enum OrderFault {
     /// The word with this number, from 1, isn't a caller, as `T1`.
     Name(usize),

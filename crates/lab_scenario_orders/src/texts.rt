@@ -10,7 +10,7 @@ use evl_scenario::{Fault, read_scenario};
 use std::alloc::Global;
 
 /// Why a text of callers isn't gone through.
-#[derive(Clone, Copy, PartialEq, Eq, Debug)]
+#[derive(Clone, Copy, PartialEq, Eq)]
 pub enum TextFault {
     /// The scenario in it can't be read; the steps that are set up are counted too.
     Scenario(Fault),

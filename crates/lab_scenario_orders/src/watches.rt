@@ -7,7 +7,7 @@ use evl_kernel::KernelOf;
 use std::alloc::{AllocError, Global};
 
 /// When it is asked for that facts are so.
-#[derive(Clone, Copy, PartialEq, Eq, Debug)]
+#[derive(Clone, Copy, PartialEq, Eq)]
 pub enum When {
     /// At no moment of any order: `never_state`.
     Never,

@@ -5,7 +5,7 @@ use evl_base::{MutexId, Refusal, StaxId, ThreadId};
 use std::fmt;
 
 /// A call of a machine. A caller's pass is known by what it is of.
-#[derive(Clone, Copy, Debug, PartialEq, Eq)]
+#[derive(Clone, Copy, PartialEq, Eq)]
 pub enum WordCall {
     TryLockStax(StaxId),
     UnlockStax(StaxId),
@@ -26,7 +26,7 @@ pub enum WordCall {
 }
 
 /// What a call is answered.
-#[derive(Clone, Copy, Debug, PartialEq, Eq)]
+#[derive(Clone, Copy, PartialEq, Eq)]
 pub enum Answer {
     /// A pass.
     Passed,

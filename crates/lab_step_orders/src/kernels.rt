@@ -35,7 +35,7 @@ impl BankMaker for NoPlans {
 }
 
 /// A call of the kernel in a visit, and the thread that made it.
-#[derive(Clone, Copy, Debug, PartialEq, Eq)]
+#[derive(Clone, Copy, PartialEq, Eq)]
 pub(crate) struct Visited {
     pub(crate) who: u16,
     pub(crate) visit: Visit,

@@ -3,7 +3,7 @@ use crate::calls::Answer;
 use evl_base::{MutexId, StaxId, ThreadId};
 
 /// An atomic step on the word of a stax.
-#[derive(Clone, Copy, Debug, PartialEq, Eq)]
+#[derive(Clone, Copy, PartialEq, Eq)]
 pub enum GateStep {
     /// The load before an exchange.
     Look,
@@ -15,7 +15,7 @@ pub enum GateStep {
 }
 
 /// What a caller does to the word of a mutex: one exchange, or what it does with the kernel in hand.
-#[derive(Clone, Copy, Debug, PartialEq, Eq)]
+#[derive(Clone, Copy, PartialEq, Eq)]
 pub enum MutexStep {
     Try,
     Unlock,
@@ -33,7 +33,7 @@ pub enum MutexStep {
 }
 
 /// What the kernel is called in a visit.
-#[derive(Clone, Copy, Debug, PartialEq, Eq)]
+#[derive(Clone, Copy, PartialEq, Eq)]
 pub enum Visit {
     Release(MutexId),
     Claim {
@@ -47,7 +47,7 @@ pub enum Visit {
 }
 
 /// What a turn does to its caller's wait.
-#[derive(Clone, Copy, Debug, PartialEq, Eq)]
+#[derive(Clone, Copy, PartialEq, Eq)]
 pub enum WaitChange {
     Same,
     Begins(Waiting),
@@ -55,7 +55,7 @@ pub enum WaitChange {
 }
 
 /// What a caller waits for.
-#[derive(Clone, Copy, Debug, PartialEq, Eq)]
+#[derive(Clone, Copy, PartialEq, Eq)]
 pub enum Waiting {
     Mutex(MutexId),
     /// An element of the kernel that is no mutex.
@@ -63,14 +63,14 @@ pub enum Waiting {
 }
 
 /// An atomic step on a word.
-#[derive(Clone, Copy, Debug, PartialEq, Eq)]
+#[derive(Clone, Copy, PartialEq, Eq)]
 pub enum WordStep {
     AtGate(StaxId, GateStep),
     AtMutex(MutexId, MutexStep),
 }
 
 /// Where a caller stands in its next call.
-#[derive(Clone, Copy, Debug, PartialEq, Eq)]
+#[derive(Clone, Copy, PartialEq, Eq)]
 pub enum Place {
     /// Before its first step.
     Begins,
@@ -83,7 +83,7 @@ pub enum Place {
 }
 
 /// What a turn comes to.
-#[derive(Clone, Copy, Debug, PartialEq, Eq)]
+#[derive(Clone, Copy, PartialEq, Eq)]
 pub enum Then {
     /// The call goes on.
     Stands(Place),
@@ -92,7 +92,7 @@ pub enum Then {
 }
 
 /// What a turn does to the core's lock.
-#[derive(Clone, Copy, Debug, PartialEq, Eq)]
+#[derive(Clone, Copy, PartialEq, Eq)]
 pub enum CoreChange {
     Same,
     Takes,
@@ -102,14 +102,14 @@ pub enum CoreChange {
 }
 
 /// Who has the core, and whether that has visited the kernel.
-#[derive(Clone, Copy, Debug, PartialEq, Eq)]
+#[derive(Clone, Copy, PartialEq, Eq)]
 pub struct Taken {
     pub who: u16,
     pub is_done: bool,
 }
 
 /// How a call that visits the kernel comes by the core.
-#[derive(Clone, Copy, Debug, PartialEq, Eq)]
+#[derive(Clone, Copy, PartialEq, Eq)]
 pub enum CoreUse {
     /// The visit is one turn, which waits until nobody has the core.
     Whole,
@@ -120,7 +120,7 @@ pub enum CoreUse {
 }
 
 /// A wrong step that callers make in place of the right one.
-#[derive(Clone, Copy, Debug, PartialEq, Eq)]
+#[derive(Clone, Copy, PartialEq, Eq)]
 pub enum WhatIf {
     /// A mutex is offered without the mark of those that still wait.
     OfferDropsMark,
@@ -133,7 +133,7 @@ pub enum WhatIf {
 }
 
 /// A caller's turn: the step that it makes, if any, and what it comes to.
-#[derive(Clone, Copy, Debug, PartialEq, Eq)]
+#[derive(Clone, Copy, PartialEq, Eq)]
 pub struct Turn {
     pub step: Option<WordStep>,
     /// What the kernel is called.
@@ -144,7 +144,7 @@ pub struct Turn {
 }
 
 /// What a visit is for.
-#[derive(Clone, Copy, Debug, PartialEq, Eq)]
+#[derive(Clone, Copy, PartialEq, Eq)]
 pub enum Asked {
     /// A mutex that others claim is handed on.
     Hand(MutexId),
@@ -159,7 +159,7 @@ pub enum Asked {
 }
 
 /// What is ahead of a caller.
-#[derive(Clone, Copy, Debug, PartialEq, Eq)]
+#[derive(Clone, Copy, PartialEq, Eq)]
 pub enum Ahead {
     Turns(Turn),
     /// A turn that the kernel's answer decides.

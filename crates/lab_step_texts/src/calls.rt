@@ -12,21 +12,21 @@ use lab_step_orders::WordCall;
 use std::alloc::{AllocError, Global};
 
 /// A call, and the thread that makes it.
-#[derive(Clone, Copy, Debug, PartialEq, Eq)]
+#[derive(Clone, Copy, PartialEq, Eq)]
 pub struct CallerCall {
     pub who: ThreadId,
     pub call: WordCall,
 }
 
 // What a name stands for.
-#[derive(Clone, Copy, Debug, PartialEq, Eq)]
+#[derive(Clone, Copy, PartialEq, Eq)]
 pub(crate) enum Lock {
     Stax(StaxId),
     Mutex(MutexId),
 }
 
 /// Why the steps of a text are no calls on words.
-#[derive(Clone, Copy, Debug, PartialEq, Eq)]
+#[derive(Clone, Copy, PartialEq, Eq)]
 pub(crate) enum CallsFault {
     /// The number of the first that is none.
     Step(usize, StepFault),

@@ -8,7 +8,7 @@ use lab_scenario_orders::When;
 use std::alloc::{AllocError, Global};
 
 /// Why a step isn't gone through.
-#[derive(Clone, Copy, PartialEq, Eq, Debug)]
+#[derive(Clone, Copy, PartialEq, Eq)]
 pub enum StepFault {
     /// The board has no such thread.
     Who,
@@ -38,7 +38,7 @@ impl StepFault {
 }
 
 /// A text of a question that isn't facts.
-#[derive(Clone, Copy, PartialEq, Eq, Debug)]
+#[derive(Clone, Copy, PartialEq, Eq)]
 pub struct Unread {
     /// The key at which it stands.
     pub when: When,
@@ -92,7 +92,7 @@ impl Unread {
 }
 
 /// Why a text isn't gone through.
-#[derive(Clone, Copy, PartialEq, Eq, Debug)]
+#[derive(Clone, Copy, PartialEq, Eq)]
 pub enum StepsFault {
     /// It can't be read as one of callers; the steps that are set up are counted too.
     Text(Fault),

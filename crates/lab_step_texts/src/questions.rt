@@ -18,7 +18,7 @@ use lab_step_orders::{StepClaim, StepFact, StepWatch};
 use std::alloc::{AllocError, Global};
 
 /// Why a line asks nothing.
-#[derive(Clone, Copy, PartialEq, Eq, Debug)]
+#[derive(Clone, Copy, PartialEq, Eq)]
 pub(crate) enum NotAsked {
     /// It isn't set to texts in brackets.
     Value,

@@ -18,7 +18,7 @@ const MOST: usize = 67_108_864;
 const MOST_READ: usize = 67_108_865;
 
 /// Why a text isn't read.
-#[derive(Clone, Copy, PartialEq, Eq, Debug)]
+#[derive(Clone, Copy, PartialEq, Eq)]
 pub enum Unread {
     /// There is no such file, or a read failed.
     NoFile,

@@ -8,7 +8,7 @@ ghost use Rattle.lab_streams.specs.Words.{AsksFor};
 use clap::ArgMatches;
 
 /// The form of a picture.
-#[derive(Clone, Copy, PartialEq, Eq, Debug)]
+#[derive(Clone, Copy, PartialEq, Eq)]
 pub enum Form {
     Svg,
     Html,
@@ -18,7 +18,7 @@ pub enum Form {
 }
 
 /// Which way a picture as SVG goes.
-#[derive(Clone, Copy, PartialEq, Eq, Debug)]
+#[derive(Clone, Copy, PartialEq, Eq)]
 pub enum Way {
     Down,
     Across,
@@ -27,7 +27,7 @@ pub enum Way {
 }
 
 /// What `draw` asks for.
-#[derive(Clone, Copy, PartialEq, Eq, Debug)]
+#[derive(Clone, Copy, PartialEq, Eq)]
 pub struct Drawing {
     pub form: Form,
     pub way: Way,
@@ -38,7 +38,7 @@ pub struct Drawing {
 }
 
 /// The traces that others are compared with.
-#[derive(Clone, Copy, PartialEq, Eq, Debug)]
+#[derive(Clone, Copy, PartialEq, Eq)]
 pub struct Comparing<'a> {
     /// Their folder.
     pub folder: &'a str,
@@ -47,7 +47,7 @@ pub struct Comparing<'a> {
 }
 
 /// Where traces are kept.
-#[derive(Clone, Copy, PartialEq, Eq, Debug)]
+#[derive(Clone, Copy, PartialEq, Eq)]
 pub struct Recording<'a> {
     /// Their folder.
     pub folder: &'a str,
@@ -56,7 +56,7 @@ pub struct Recording<'a> {
 }
 
 /// What is told of a scenario that was played.
-#[derive(Clone, Copy, PartialEq, Eq, Debug)]
+#[derive(Clone, Copy, PartialEq, Eq)]
 pub enum Telling<'a> {
     /// Its trace.
     Trace,
@@ -69,7 +69,7 @@ pub enum Telling<'a> {
 }
 
 /// What `play` asks for.
-#[derive(Clone, Copy, PartialEq, Eq, Debug)]
+#[derive(Clone, Copy, PartialEq, Eq)]
 pub struct Playing<'a> {
     /// The file of the bank; the program's where none is named.
     pub bank: Option<&'a str>,
@@ -79,7 +79,7 @@ pub struct Playing<'a> {
 }
 
 /// What `live` asks for.
-#[derive(Clone, Copy, PartialEq, Eq, Debug)]
+#[derive(Clone, Copy, PartialEq, Eq)]
 pub struct Driving<'a> {
     /// The scenario that comes first.
     pub file: Option<&'a str>,
@@ -90,7 +90,7 @@ pub struct Driving<'a> {
 }
 
 /// What `convert` asks for: lines, or a scenario; the form that the text hasn't where neither is named.
-#[derive(Clone, Copy, PartialEq, Eq, Debug)]
+#[derive(Clone, Copy, PartialEq, Eq)]
 pub struct Converting {
     pub lines: bool,
     pub toml: bool,
@@ -141,7 +141,7 @@ fn way_of(matches: &ArgMatches<'_>) -> Way
 }
 
 /// What is printed of all orders, or which order alone is asked for.
-#[derive(Clone, Copy, PartialEq, Eq, Debug)]
+#[derive(Clone, Copy, PartialEq, Eq)]
 pub enum Shown<'a> {
     /// The report.
     Report,

@@ -6,7 +6,7 @@ use crate::parts::{around_blank, around_point, before, behind, small_number};
 use evl_scenario::number_of_text;
 
 /// The parts of the line of an entry.
-#[derive(Clone, Copy, PartialEq, Eq, Debug)]
+#[derive(Clone, Copy, PartialEq, Eq)]
 pub struct EntryLine<'a> {
     /// The entry's number, from 1; none where the history was full.
     pub number: Option<u64>,

@@ -23,7 +23,7 @@ use evl_scenario::BoardLine;
 use std::alloc::Global;
 
 /// What a line of a trace says.
-#[derive(Clone, Copy, PartialEq, Eq, Debug)]
+#[derive(Clone, Copy, PartialEq, Eq)]
 pub enum Says<'a> {
     /// The board and the limit.
     Board(BoardLine),
@@ -34,14 +34,14 @@ pub enum Says<'a> {
 }
 
 /// A line of a trace, without its line feed, and what it says.
-#[derive(Clone, Copy, PartialEq, Eq, Debug)]
+#[derive(Clone, Copy, PartialEq, Eq)]
 pub struct TraceLine<'a> {
     pub text: &'a str,
     pub says: Says<'a>,
 }
 
 /// Why the lines of a trace couldn't be read.
-#[derive(Clone, Copy, PartialEq, Eq, Debug)]
+#[derive(Clone, Copy, PartialEq, Eq)]
 pub enum Misread {
     /// A growth was refused.
     Memory,

@@ -6,7 +6,7 @@ use evl_base::{Board, Call, Entry};
 use std::alloc::AllocError;
 
 /// How many threads and elements a board has.
-#[derive(Clone, Copy, Debug, PartialEq, Eq)]
+#[derive(Clone, Copy, PartialEq, Eq)]
 pub struct Counts {
     pub threads: u16,
     pub sems: usize,
@@ -16,7 +16,7 @@ pub struct Counts {
 }
 
 /// A kind of element.
-#[derive(Clone, Copy, Debug, PartialEq, Eq)]
+#[derive(Clone, Copy, PartialEq, Eq)]
 pub enum Element {
     OfSem,
     OfFlags,

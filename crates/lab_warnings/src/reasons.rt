@@ -10,7 +10,7 @@ use evl_scenario::Step;
 use std::alloc::AllocError;
 
 /// Why a step may not be what was meant, from what the machine is before it.
-#[derive(Clone, Copy, Debug, PartialEq, Eq)]
+#[derive(Clone, Copy, PartialEq, Eq)]
 pub enum Reason {
     /// An out-of-band thread makes it while another one is picked.
     Unpicked,

@@ -29,30 +29,13 @@ fn are_refused(alloc: Global, steps: &[&str]) -> bool {
 #[test]
 fn a_bad_board_is_refused(rt: HostRuntime) {
     let alloc = rt.alloc();
-    assert_eq!(rt;
-        fault_of(alloc, "[board]\nthreads = 2\nstaxes = [1, 2]\n"),
-        None
-    );
-    assert_eq!(rt;
-        fault_of(alloc, "[board]\nthreads = 2\nstaxes = 1\n"),
-        Some(Fault::Board)
-    );
-    assert_eq!(rt;
-        fault_of(alloc, "[board]\nthreads = 2\nstaxes = [0]\n"),
-        Some(Fault::Board)
-    );
-    assert_eq!(rt;
-        fault_of(alloc, "[board]\nthreads = 2\nstaxes = [1001]\n"),
-        Some(Fault::Board)
-    );
-    assert_eq!(rt;
-        fault_of(
-            alloc,
-            "[board]\nthreads = 2\nstaxes = [1,1,1,1,1,1,1,1,1,1,1,1,1,1,1,1,1]\n"
-        ),
-        Some(Fault::Board)
-    );
-    assert_eq!(rt; fault_of(alloc, "[board\n"), Some(Fault::Text));
+    assert!(rt; fault_of(alloc, "[board]\nthreads = 2\nstaxes = [1, 2]\n") == None);
+    assert!(rt; fault_of(alloc, "[board]\nthreads = 2\nstaxes = 1\n") == Some(Fault::Board));
+    assert!(rt; fault_of(alloc, "[board]\nthreads = 2\nstaxes = [0]\n") == Some(Fault::Board));
+    assert!(rt; fault_of(alloc, "[board]\nthreads = 2\nstaxes = [1001]\n") == Some(Fault::Board));
+    let seventeen = "[board]\nthreads = 2\nstaxes = [1,1,1,1,1,1,1,1,1,1,1,1,1,1,1,1,1]\n";
+    assert!(rt; fault_of(alloc, seventeen) == Some(Fault::Board));
+    assert!(rt; fault_of(alloc, "[board\n") == Some(Fault::Text));
 }
 
 #[test]

@@ -24,7 +24,7 @@ pub struct Texts {
 pub const LIMIT: u32 = 1_000_000;
 
 /// Why there are no texts of a run.
-#[derive(Clone, Copy, Debug)]
+#[derive(Clone, Copy)]
 pub enum Failure {
     /// The machine wasn't made, or not closed, or there was no memory.
     Refused(Refusal),
