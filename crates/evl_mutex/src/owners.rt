@@ -13,7 +13,7 @@ mod likeness;
 mod queues;
 
 use crate::changes::{RankChanges, Unnoted};
-use crate::mutex_record::{MutexRecord, opened};
+use crate::mutex_record::{MutexRecord, opened_by};
 use crate::waiter::Waiter;
 use crate::{mending, notes, ranks, walks};
 use evl_base::{MutexId, MutexKind, Refusal, ThreadId};
@@ -61,11 +61,11 @@ impl<A: Allocator + Clone> OwnersOf<A> {
     fn with_room(alloc: A, threads: u16, kinds: &[MutexKind]) -> Result<OwnersOf<A>, AllocError>
         ensures fresh { IfOk result (λ o. o ≡ fresh threads kinds.now) }
     {
-        let base = zeros(alloc.clone()?, threads as usize)?;
-        let mutexes = opened(alloc.clone()?, kinds, threads as usize)?;
-        let ahead = notes::nobody(alloc.clone()?, threads as usize)?;
-        let lenders = zeros(alloc.clone()?, threads as usize)?;
-        let lent = zeros(alloc.clone()?, threads as usize)?;
+        let base = zeros_by(&alloc, threads as usize)?;
+        let mutexes = opened_by(&alloc, kinds, threads as usize)?;
+        let ahead = notes::nobody_by(&alloc, threads as usize)?;
+        let lenders = zeros_by(&alloc, threads as usize)?;
+        let lent = zeros_by(&alloc, threads as usize)?;
         let ceilings = zeros(alloc, threads as usize)?;
         Ok(OwnersOf {
             base,
@@ -413,6 +413,13 @@ fn zeros<A: Allocator>(alloc: A, threads: usize) -> Result<Vec<u16, A>, AllocErr
     ensures zeros { IfOk result (λ base. base.items ≡ replicate threads 0) }
 {
     Vec::from_elem(alloc, 0, threads)
+}
+
+// The same, in memory of an allocator that is kept.
+fn zeros_by<A: Allocator + Clone>(alloc: &A, threads: usize) -> Result<Vec<u16, A>, AllocError>
+    ensures zeros { IfOk result (λ base. base.items ≡ replicate threads 0) }
+{
+    zeros(alloc.clone()?, threads)
 }
 
 // What refuses a claim, but for a ring.

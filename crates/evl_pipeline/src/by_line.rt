@@ -56,6 +56,15 @@ impl<T: Blank, A: Allocator> Model for ByLine<T, A> {
     ghost invariant = { λ b. (length b.written.items ≤ line_count) × (line_count ≤ vec_capacity b.written) };
 }
 
+impl<T: Blank, A: Allocator + Clone> ByLine<T, A> {
+    /// A blank for each line, in memory of an allocator that is kept.
+    pub fn new_by(alloc: &A) -> Result<ByLine<T, A>, AllocError>
+        ensures empty { IfOk result (λ b. b.items ≡ replicate line_count T.blank) }
+    {
+        ByLine::new(alloc.clone()?)
+    }
+}
+
 impl<T: Blank, A: Allocator> ByLine<T, A> {
     /// A blank for each line.
     pub fn new(alloc: A) -> Result<ByLine<T, A>, AllocError>

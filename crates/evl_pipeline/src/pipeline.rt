@@ -53,8 +53,8 @@ impl<C: Drop, A: Allocator + Clone> PipelineOf<C, A> {
     fn with_room(alloc: A) -> Result<PipelineOf<C, A>, AllocError>
         ensures opening { IfOk result (λ p. p ≡ opening) }
     {
-        let spurious = ByLine::new(alloc.clone()?)?;
-        let oob = SideOf::new(alloc.clone()?)?;
+        let spurious = ByLine::new_by(&alloc)?;
+        let oob = SideOf::new_by(&alloc)?;
         let inband = SideOf::new(alloc)?;
         Ok(PipelineOf {
             oob,

@@ -53,9 +53,9 @@ impl<C, A: Allocator + Clone> SideOf<C, A> {
     pub fn new(alloc: A) -> Result<SideOf<C, A>, AllocError>
         ensures empty { IfOk result (λ s. s ≡ empty_side) }
     {
-        let log = Log::new(alloc.clone()?)?;
-        let ports = ByLine::new(alloc.clone()?)?;
-        let unhandled = ByLine::new(alloc.clone()?)?;
+        let log = Log::new_by(&alloc)?;
+        let ports = ByLine::new_by(&alloc)?;
+        let unhandled = ByLine::new_by(&alloc)?;
         let callbacks = Slab::with_capacity(alloc, LINES)?;
         Ok(SideOf {
             stalled: false,
@@ -64,6 +64,13 @@ impl<C, A: Allocator + Clone> SideOf<C, A> {
             callbacks,
             unhandled,
         })
+    }
+
+    /// The same, in memory of an allocator that is kept.
+    pub fn new_by(alloc: &A) -> Result<SideOf<C, A>, AllocError>
+        ensures empty { IfOk result (λ s. s ≡ empty_side) }
+    {
+        SideOf::new(alloc.clone()?)
     }
 }
 
