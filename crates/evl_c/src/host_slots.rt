@@ -9,9 +9,8 @@ use std::alloc::Global;
 use std::marker::Model;
 use std::ptr;
 
-/// The box of a caller, or none. A drop forgets the box.
+/// The box of a caller, or none.
 #[repr(C)]
-#[derive(Drop)]
 pub struct HostSlot {
     at: *mut (),
     alloc: Global,
@@ -20,6 +19,15 @@ pub struct HostSlot {
 
 impl Model for HostSlot {
     ghost also_owns = { λ s. slot_owns s.alloc s.at s.held };
+}
+
+// Only a slot without a box goes, so that no box is lost.
+impl Drop for HostSlot {
+    fn drop(self)
+        requires none { self.held ≡ None }
+    {
+        let HostSlot { at: _, alloc: _ } = self;
+    }
 }
 
 // What is there may go to another host thread, so its box may.

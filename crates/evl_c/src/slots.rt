@@ -10,9 +10,8 @@ use std::alloc::Global;
 use std::marker::Model;
 use std::ptr;
 
-/// The box of a kernel, or none. A drop forgets the box.
+/// The box of a kernel, or none.
 #[repr(C)]
-#[derive(Drop)]
 pub struct Slot {
     at: *mut (),
     alloc: Global,
@@ -21,6 +20,15 @@ pub struct Slot {
 
 impl Model for Slot {
     ghost also_owns = { λ s. slot_owns s.alloc s.at s.held };
+}
+
+// Only a slot without a box goes, so that no box is lost.
+impl Drop for Slot {
+    fn drop(self)
+        requires none { self.held ≡ None }
+    {
+        let Slot { at: _, alloc: _ } = self;
+    }
 }
 
 // What is there may go to another host thread, so its box may.
