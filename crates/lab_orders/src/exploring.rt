@@ -223,8 +223,8 @@ fn found<M: Drop>(front: Front<M>, firsts: Vec<First>) -> Explored<M>
 }
 
 /// Goes through all orders of fewer than `steps` steps from a moment, and no further than where a number of steps leads
-/// to more than `most` moments. `Memory` where memory couldn't grow, `Count` where more orders lead to one state than a
-/// count can tell.
+/// to more than `most` moments. `Memory` where memory couldn't grow, `Count` where there are more orders of some length
+/// than a count can hold.
 pub fn explore<W: World>(
     alloc: Global,
     world: &W,

@@ -214,8 +214,8 @@ fn found(order: Vec<u16>, steps: usize) -> Sought
 }
 
 /// Goes through the orders of a world as `explore` does, up to the first that is against what is asked: that leads to a
-/// moment or an end which is. `Memory` where memory couldn't grow, `Count` where more orders lead to one state than a
-/// count can tell.
+/// moment or an end which is. `Memory` where memory couldn't grow, `Count` where there are more orders of some length
+/// than a count can hold.
 pub fn find_first<W: World, J: Judge<W>>(
     alloc: Global,
     world: &W,

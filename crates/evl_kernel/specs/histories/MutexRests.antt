@@ -1,4 +1,4 @@
--- What settling does to mutexes, and every call that isn't about one: waits for them end by their deadlines, and nothing else.
+-- What settling does to mutexes, and every call that isn't about one: waits for them end, and nothing else.
 use Rattle.std.specs.Prelude.{◌≡◌, ℕ, ◌==◌, ◌&&◌, Bool, true, false, List, [], ◌∷◌, Option, Some, is_some, Result, Ok, slice_get}
 use Rattle.std.specs.Option.{option_map_or}
 use Rattle.evl_base.specs.Board.{board_fits}
@@ -40,7 +40,7 @@ abbrev pub left_by : List ℕ → MutexRecorded → MutexRecorded
 left_by [] m = m
 left_by (thread ∷ threads) m = drop_waiter thread (left_by threads m)
 
--- of a mutex only waiters left, by their deadlines: just these, and so what follows of it
+-- of a mutex only waiters left: these, and so what follows of it
 pub record LeftBy (m m' : MutexRecorded) : Type 0 where
   pub gone : List ℕ
   pub left : m' ≡ left_by gone m
@@ -56,7 +56,7 @@ pub record OnlyLeft (n : ℕ) (old new : State) : Type 0 where
   pub records : (m' : MutexRecorded) → slice_get new.elements.mutexes n ≡ Some m' → (m : MutexRecorded) × (slice_get old.elements.mutexes n ≡ Some m) × LeftBy m m'
   pub got : (t : ℕ) → got_it n (wait_at new t) ≡ got_it n (wait_at old t)
 
--- an accepted call did what it does, and then settling ended waits for mutexes by their deadlines alone
+-- an accepted call did what it does, and then settling only ended waits for mutexes
 abbrev pub SettlingOnlyDrops : Type 0
 SettlingOnlyDrops =
     (h : History) → IsLegal h → board_fits h.board ≡ true → (caller : ℕ) (asked : Call) (reply : Reply) (plays : List Play) (new : State)
