@@ -15,10 +15,6 @@ place_passes p = p.depth
 abbrev pub AreCountedPlaces : List MutexPlace → ℕ → Type 0
 AreCountedPlaces places count = AreCounted (λ p. p.mutex.0) place_passes places count
 
--- places at which nothing is held
-abbrev pub AreUnheld : List MutexPlace → Type 0
-AreUnheld places = AreCountedPlaces places 0
-
 -- some mutex is held
 abbrev pub holds_place : List MutexPlace → Bool
 holds_place places = list_any (λ p. nat_lt 0 p.depth) places
