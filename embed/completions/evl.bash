@@ -5,7 +5,7 @@ _evl() {
         --limit) return ;;
     esac
     case $word in
-        -*) mapfile -t COMPREPLY < <(compgen -W "--limit --help --version" -- "$word") ;;
+        -*) mapfile -t COMPREPLY < <(compgen -W "--limit --color=always --color=never --help --version" -- "$word") ;;
         *) mapfile -t COMPREPLY < <(compgen -f -X '!*.toml' -- "$word"; compgen -d -- "$word") ;;
     esac
 }

@@ -8,6 +8,7 @@ _lab() {
     case ${COMP_WORDS[COMP_CWORD - 1]} in
         --limit | --most | --outcome | --state | --order | --upto | --page) return ;;
         --bank) files=toml part=bank ;;
+        --junit) mapfile -t COMPREPLY < <(compgen -f -- "$word"); return ;;
         --against | --record) mapfile -t COMPREPLY < <(compgen -d -- "$word"); return ;;
     esac
     case $part in
@@ -20,6 +21,12 @@ _lab() {
         help) mapfile -t COMPREPLY < <(compgen -W "--json $("${COMP_WORDS[0]}" help 2>/dev/null | cut -d' ' -f2)" -- "$word"); return ;;
         draw) words="--bank --outcome --svg --html --perfetto --csv --lanes --down --across --upto --page --help" ;;
         *) words=--help ;;
+    esac
+    case $part in
+        check | play | orders) words="$words --junit" ;;
+    esac
+    case $part in
+        check | play | convert | live | orders | callers) words="$words --color=always --color=never" ;;
     esac
     case $word in
         -*) mapfile -t COMPREPLY < <(compgen -W "$words" -- "$word") ;;
