@@ -1,4 +1,9 @@
 # For cmake: find_package(evlsim) gives the targets evlsim::evlsim (shared) and evlsim::static, and evlsim_add_scenario.
+# evlsim_IDENTITY is the library's version, with the proof that built it, or UNPROVED.
+set(evlsim_IDENTITY "@EVLSIM_IDENTITY@")
+if(evlsim_IDENTITY MATCHES "UNPROVED" AND NOT evlsim_FIND_QUIETLY)
+  message(STATUS "evlsim ${evlsim_IDENTITY}")
+endif()
 get_filename_component(_evlsim_lib "${CMAKE_CURRENT_LIST_DIR}/../.." ABSOLUTE)
 set(_evlsim_include "@EVLSIM_INCLUDE@")
 if(NOT TARGET evlsim::evlsim)
