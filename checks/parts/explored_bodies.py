@@ -89,14 +89,23 @@ def requests_the_clock(bench):
     yield bench.rest()
 
 
-def two_sources(bench):
-    """Two kinds of arrivals of one line, of which only the second is bad."""
-    came = []
-    bench.request(5, lambda: None)
-    bench.may_arrive(5, 1, lambda: came.append("good"))
-    bench.may_arrive(5, 1, lambda: came.append("bad"))
-    yield bench.rest()
-    assert came != ["bad"]
+def three_sources(wrong):
+    """A body with three kinds of arrivals of one line, of which this one fails where it comes alone."""
+
+    def body(bench):
+        came = []
+
+        def bad_frame():
+            came.append("second")
+
+        bench.request(5, lambda: None)
+        bench.may_arrive(5, 1, lambda: came.append("first"))
+        bench.may_arrive(5, 1, bad_frame)
+        bench.may_arrive(5, 1, lambda: came.append("third"))
+        yield bench.rest()
+        assert came != [wrong]
+
+    return body
 
 
 # a body, why its exploration fails, and in which function of it
@@ -125,7 +134,9 @@ FAILING = [
         "<lambda>",
     ),
     (with_handler(lambda bench: bench.kernel.close()), "RuntimeError: bench.kernel.close(): the kernel of a run", "<lambda>"),
-    (two_sources, "AssertionError: ", "two_sources"),
+    (three_sources("first"), "AssertionError: ", "body"),
+    (three_sources("second"), "AssertionError: ", "body"),
+    (three_sources("third"), "AssertionError: ", "body"),
 ]
 # what explore itself refuses
 REFUSED = [
@@ -203,5 +214,6 @@ def try_passing():
 try_failing()
 try_refused()
 try_passing()
-assert explore(two_sources).choices == "line 5 #2 @ 1"
+told = [explore(three_sources(it)).choices for it in ("first", "second", "third")]
+assert told == ["line 5 @ 1", "line 5 [bad_frame] @ 1", "line 5 [3] @ 1"], told
 print(f"{len(FAILING)} bodies fail as they should, {len(PASSING)} pass")

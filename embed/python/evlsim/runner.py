@@ -236,13 +236,20 @@ class Bench:
 
     def may_arrive(self, line: int, times: int = 1, device: Optional[Callable[[], Any]] = None) -> None:
         """A source: line may arrive so often from here on, at any moment, once `device` has been called. A line may have
-        several; in a list of events the second of line 5 is "line 5 #2"."""
+        several: in a list of events "line 5" is the first, and "line 5 [2]" the second, or "line 5 [bad_frame]", if that
+        is the name of its device."""
         line = whole(BadQuestion, "may_arrive: line", line, 0, 4095)
         times = whole(BadQuestion, f"may_arrive: times of line {line}", times, 0, 1 << 32)
-        others = sum(it.line == line for it in self._sources.values())
-        name = f"line {line} #{others + 1}" if others else f"line {line}"
+        name = self._source_name(line, getattr(device, "__name__", ""))
         called = None if device is None else _to_its_end(device, f"the device of {name}")
         self._sources[name] = _Source(line, times, called)
+
+    def _source_name(self, line: int, device: str) -> str:
+        place = 1 + sum(it.line == line for it in self._sources.values())
+        named = f"line {line} [{device}]"
+        if place == 1:
+            return f"line {line}"
+        return named if device.isidentifier() and named not in self._sources else f"line {line} [{place}]"
 
     def rest(self) -> Request:
         """Waits until all others wait; after it no source has an event."""
