@@ -224,18 +224,22 @@ LABS = [
 ]
 
 
-# what the module raises, of which each kind that was met here has been pickled
+# what the module raises, and one of each kind that was met here
 ERRORS = {it for it in vars(evlsim).values() if isinstance(it, type) and issubclass(it, Exception)}
-met = {Exception}
+met = {}
+
+
+def is_same(raised, again):
+    """Whether an error is another one's like: its kind, its text and what it has."""
+    return type(again) is type(raised) and str(again) == str(raised) and vars(again) == vars(raised)
 
 
 def try_pickled(raised):
-    """An error of the module is the same after it was pickled: its kind, its text and what it has."""
-    if not isinstance(raised, tuple(ERRORS)):
-        return
-    again = pickle.loads(pickle.dumps(raised))
-    assert type(again) is type(raised) and str(again) == str(raised) and vars(again) == vars(raised), again
-    met.update(type(raised).__mro__)
+    """An error of the module is the same after it was pickled."""
+    if isinstance(raised, tuple(ERRORS)):
+        again = pickle.loads(pickle.dumps(raised))
+        assert is_same(raised, again), again
+        met[type(raised)] = raised
 
 
 def try_list(name, misuses):
@@ -278,22 +282,24 @@ def call_a_closed_kernel():
     kernel.now(0)
 
 
-def give_a_wrong_type():
-    board(threads="2")
+def raise_it(raised):
+    raise raised
 
 
 def try_processes():
-    """What is raised in another process is raised here; what no misuse raises can be pickled too."""
-    kinds = {refuse_a_call: evlsim.CallRefused, call_a_closed_kernel: evlsim.KernelClosed, give_a_wrong_type: BAD}
+    """What is raised in another process is raised here, of each kind that there is."""
     with concurrent.futures.ProcessPoolExecutor(1, multiprocessing.get_context("fork")) as pool:
-        for function, kind in kinds.items():
-            raised = pool.submit(function).exception(60)
-            assert isinstance(raised, kind), repr(raised)
-            try_pickled(raised)
-            assert kind is not evlsim.CallRefused or (raised.call, raised.answer) == ("T0 put sem=5", "Unknown")
-    # (a call holds the interpreter's lock, so that no other caller has the core)
-    try_pickled(evlsim.CoreBusy("another caller has the core"))
-    assert ERRORS <= met, ERRORS - met
+        for function in (refuse_a_call, call_a_closed_kernel):
+            try_pickled(pool.submit(function).exception(60))
+        # (a call holds the interpreter's lock, so that no other caller has the core)
+        try_pickled(evlsim.CoreBusy("another caller has the core"))
+        for raised in met.values():
+            again = pool.submit(raise_it, raised).exception(60)
+            assert is_same(raised, again), repr(again)
+    refused = met[evlsim.CallRefused]
+    assert (refused.call, refused.answer) == ("T0 put sem=5", "Unknown") and "T0 put sem=5 -> Unknown" in refused.trace
+    kinds = {kind for it in met for kind in it.__mro__}
+    assert ERRORS <= kinds, ERRORS - kinds
 
 
 class Counted(evlsim.Kernel):
