@@ -161,6 +161,8 @@ MACHINES = [
     (lambda: evlsim.Machine(threads=1, staxes=[1] * 17), BAD, "staxes has 17 items: 16"),
     (lambda: evlsim.Machine(threads=1, limit=0), BAD, "limit is 0"),
     (lambda: evlsim.Machine(threads=1, bank=[3]), TypeError, "plan 0 of the bank is 3"),
+    (lambda: MACHINE.see_date(), AttributeError, "a machine has no 'see_date'; did you mean \"see_now\"?"),
+    (lambda: C.pust(sem=0), AttributeError, "a caller has no 'pust'; did you mean \"put\"?"),
     (lambda: C.put(0, sem=0), TypeError, "positional"),
     (lambda: C.put(semm=0), STEP, 'put has no key "semm"; did you mean "sem"? (its keys: sem)'),
     (lambda: C.put(who=1, sem=0), TypeError, "who"),

@@ -79,6 +79,8 @@ class Caller(OwnWords, Questions):
     `wait_flags`, `read_xbuf`, `write_xbuf`, `lock_mutex`, `unlock_mutex`, `lock_stax`. They never end if no other caller
     brings that about."""
 
+    _asked = "a caller"
+
     def __init__(self, handle: lib.Handle, thread: int) -> None:
         self._calls = _Calls(handle)
         self.thread = thread
@@ -231,6 +233,8 @@ class Machine(Questions):
     Threads of Python may call callers of one machine, and one caller in turn: each call holds the interpreter's lock. A
     machine lives as long as one of its callers does, and is freed with the last one.
     """
+
+    _asked = "a machine"
 
     def __new__(cls, *given: Any, **board: Any) -> Any:
         if cls.__init__ is Machine.__init__ and not given and "threads" not in board:

@@ -48,10 +48,6 @@ class Kernel(Words, Questions):
         answer: Answer = getattr(self, word + "_" * (word == "raise"))(who, **keys)
         return answer
 
-    def __getattr__(self, name: str) -> NoReturn:
-        names = [it for it in dir(type(self)) if not it.startswith("_")]
-        raise AttributeError(f"a kernel has no {name!r}{near(name, names)}")
-
     def close(self) -> None:
         """Frees the kernel; what is asked of it then raises KernelClosed."""
         lib.LIBRARY.evlsim_c_close(self._at)
