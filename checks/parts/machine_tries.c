@@ -1,7 +1,8 @@
 /*
  * Tries machines: what each call of a caller answers, in an order on one host thread; null pointers, callers that are closed, numbers out
  * of their ranges; what the kernel tells; host threads that count under a mutex, put into a semaphore and enter staxes of two stages,
- * in rounds; and host threads that wait for one another at each element. Prints what is wrong, and ends with 1 then.
+ * in rounds; host threads that wait for one another at each element; and waits for a thread that isn't the caller's. Prints what is
+ * wrong, and ends with 1 then.
  */
 #include <evlsim/waits.h>
 
@@ -10,6 +11,7 @@
 #include <stdio.h>
 #include <stdlib.h>
 #include <string.h>
+#include <unistd.h>
 
 static unsigned wrong;
 
@@ -329,6 +331,52 @@ static void try_waits(void) {
   expect(is_null(evlsim_lock_mutex(NULL, 0)) && is_null(evlsim_unlock_mutex(NULL, 0)) && is_null(evlsim_lock_stax(NULL, 0)), "none");
 }
 
+static bool is_bad_number(evlsim_answer answer) {
+  return !evlsim_was_called(answer) && evlsim_status_is(evlsim_why(answer), EVLSIM_BAD_NUMBER);
+}
+
+/* Calls that wait, for a thread that isn't the caller's: each ends at once, and the wait can be waited out. */
+static void try_other_threads(void) {
+  static const uint16_t others[] = {1, 77, 65535};
+  evlsim_board board = board_of(2);
+  evlsim_caller both[2];
+  uint8_t got = 0;
+  const evlsim_way way = EVLSIM_IN;
+  board.flags = sems, board.flag_count = 1;
+  alarm(60); /* a wait that never ends ends this program */
+  for (size_t it = 0; it < sizeof others / sizeof *others; it++) {
+    const uint16_t other = others[it];
+    expect(evlsim_ok(evlsim_machine_open(both, 2, &board, NULL, 0, NULL, 0, 100)), "for threads of others");
+    for (int place = 0; place < 2; place++) expect(done(attach(&both[place], 10)), "attached");
+    expect(is_bad_number(evlsim_wait_out(&both[0], 0, NULL, 0)), "nothing was begun");
+    expect(is_bad_number(evlsim_get_sem(&both[0], other, 0)), "a semaphore, for another thread");
+    expect(done(evlsim_do_call(&both[1], evlsim_call_put(0))) && done(evlsim_wait_out(&both[0], 0, NULL, 0)), "and it goes on");
+    expect(is_bad_number(evlsim_wait_flags(&both[0], other, 0, EVLSIM_TAKE_ANY, 0)), "flags, for another thread");
+    expect(evlsim_is_begun(evlsim_do_call(&both[1], evlsim_until(evlsim_call_begin_get(0), 0))), "the other's wait is over at once");
+    expect(is_bad_number(evlsim_wait_out(&both[0], 1, NULL, 0)), "which isn't the caller's");
+    expect(evlsim_is_timed_out(evlsim_wait_out(&both[1], 1, NULL, 0)), "the other finishes its own");
+    expect(done(evlsim_do_call(&both[1], evlsim_call_post_flags(0, 6))), "the flags are posted");
+    expect(evlsim_has(evlsim_wait_out(&both[0], 0, NULL, 0), EVLSIM_BITS), "and taken");
+    expect(is_bad_number(evlsim_read_xbuf(&both[0], other, 0, way, &got, 1)), "a read, for another thread");
+    for (int place = 0; place < 2; place++) evlsim_caller_close(&both[place]);
+  }
+  alarm(0);
+}
+
+/* A write that has to wait, for a thread that isn't the caller's. */
+static void try_other_writer(void) {
+  evlsim_board board = board_of(2);
+  evlsim_caller both[2];
+  const uint8_t byte = 7;
+  board.xbufs = one_byte;
+  alarm(60);
+  expect(evlsim_ok(evlsim_machine_open(both, 2, &board, NULL, 0, NULL, 0, 100)), "for a writer");
+  expect(done(attach(&both[0], 10)) && done(evlsim_write_xbuf(&both[0], 0, 0, EVLSIM_OUT, &byte, 1)), "there is room");
+  expect(is_bad_number(evlsim_write_xbuf(&both[0], 77, 0, EVLSIM_OUT, &byte, 1)), "a write, for another thread");
+  for (int place = 0; place < 2; place++) evlsim_caller_close(&both[place]);
+  alarm(0);
+}
+
 int main(int count, char **words) {
   if (count > 1) rounds = (unsigned)strtoul(words[1], NULL, 10);
   try_in_order();
@@ -337,5 +385,7 @@ int main(int count, char **words) {
   try_misuses();
   try_threads();
   try_waits();
+  try_other_threads();
+  try_other_writer();
   return wrong == 0 ? 0 : 1;
 }

@@ -15,6 +15,8 @@ kernel.read(0, xbuf=0, way="up", len=1)  # wrong
 kernel.tick(0, delta=1.5)  # wrong
 kernel.see_waiter("semaphore", 0)  # wrong
 evlsim.Kernel(threads="2")  # wrong
+evlsim.Kernel(thread=2)  # wrong
+evlsim.Machine()  # wrong
 evlsim.Kernel(threads=2, mutexes=[7])  # wrong
 evlsim.Plan(1, (1, "post_sem", "0"))  # wrong
 evlsim.play(3)  # wrong

@@ -1,6 +1,9 @@
-"""Misuses of the module evlsim: each raises an error that says what was given and what is wanted, and none changes the
-kernel. Run by checks/embed."""
+"""Misuses of the module evlsim: each raises an error that says what was given and what is wanted, which can be pickled, and
+none changes the kernel. Run by checks/embed."""
+import concurrent.futures
 import copy
+import gc
+import multiprocessing
 import os
 import pathlib
 import pickle
@@ -10,7 +13,6 @@ import threading
 import time
 
 import evlsim
-from evlsim.runner import explore
 
 BOARD = {"threads": 2, "sems": [0], "xbufs": [(16, 16)], "flags": [0], "mutexes": ["normal"]}
 STEP, BAD, PLAN, ASK = evlsim.BadStep, evlsim.BadBoard, evlsim.BadPlan, evlsim.BadQuestion
@@ -24,6 +26,7 @@ KERNEL = board()
 K = KERNEL
 MACHINE = evlsim.Machine(threads=2, sems=[0], xbufs=[(16, 16)], mutexes=["normal"], staxes=[1])
 C = MACHINE.callers[0]
+PLANNED = evlsim.Plan(1, (2, "post_sem", 0))
 # what is written, the error, and what it says
 CALLS = [
     (lambda: K.put(0, semm=0), STEP, 'put has no key "semm"; did you mean "sem"? (its keys: sem)'),
@@ -44,6 +47,7 @@ CALLS = [
     (lambda: K.call("pust", 0, sem=0), STEP, "no step word 'pust'; did you mean \"put\"?"),
     (lambda: K.call("put", 0), STEP, 'needs the key "sem"'),
     (lambda: K.pust(0, sem=0), AttributeError, "no 'pust'; did you mean \"put\"?"),
+    (lambda: K.see_date(), AttributeError, "no 'see_date'; did you mean \"see_now\"?"),
     (lambda: K.claim(0, mutex=0), STEP, 'claim needs the key "owner" (its keys: mutex, owner, until)'),
     (lambda: K.request(0, line=5, stage="oob"), STEP, 'needs the key "callback"'),
     (lambda: K.request(0, line=5, stage="oob", callback=300), STEP, "callback is 300"),
@@ -117,7 +121,9 @@ BOARDS = [
     (lambda: board(mutexes=["ceiling 050"]), BAD, "'ceiling 050'"),
     (lambda: board(mutexes=["normal 5"]), BAD, "'normal 5'"),
     (lambda: board(mutexes=["ceiling 0"]), BAD, "'ceiling 0'"),
-    (lambda: board(mutexes=["ceiling"]), BAD, "'ceiling'"),
+    (lambda: board(mutexes=["ceiling"]), BAD, "mutexes[0] is 'ceiling': 'normal', 'recursive' or 'ceiling P' with P from 1 to 99 is wanted\n"),
+    (lambda: evlsim.Kernel(), TypeError, 'a board needs the key "threads" (its keys: threads, sems'),
+    (lambda: evlsim.Kernel(thread=3), TypeError, 'a board has no key "thread"; did you mean "threads"?'),
     (lambda: board(mutexes=[7]), TypeError, "mutexes[0] is 7"),
     (lambda: board(groups=[101]), BAD, "groups[0] is 101"),
     (lambda: board(limit=0), BAD, "limit is 0: a whole number from 1 to 1000000"),
@@ -128,6 +134,9 @@ BOARDS = [
     (lambda: board(bank=[{"accepts": 1}]), TypeError, "plan 0 of the bank is"),
     (lambda: board(bank=[evlsim.Plan(1)] * 65), PLAN, "65 plans: 64"),
     (lambda: board(bank=[(1, (1, "post_sem", 0))]), TypeError, "an evlsim.Plan is wanted"),
+    (lambda: setattr(PLANNED, "accepts", 2), AttributeError, "isn't changed after it is made: accepts"),
+    (lambda: setattr(PLANNED, "rows", ()), AttributeError, "isn't changed after it is made: rows"),
+    (lambda: delattr(PLANNED, "rows"), AttributeError, "isn't changed after it is made: rows"),
     (lambda: evlsim.Plan(0), PLAN, "accepts is 0"),
     (lambda: evlsim.Plan(-1), PLAN, "accepts is -1"),
     (lambda: evlsim.Plan(2**64 + 1), PLAN, "accepts is 18446744073709551617"),
@@ -143,6 +152,7 @@ BOARDS = [
 ]
 MACHINES = [
     (lambda: evlsim.Machine(threads=0), BAD, "threads is 0"),
+    (lambda: evlsim.Machine(thread=1), TypeError, 'a machine has no key "thread"; did you mean "threads"?'),
     (lambda: evlsim.Machine(threads=1, stax=[1]), BAD, 'a machine has no key "stax"; did you mean "staxes"?'),
     (lambda: evlsim.Machine(threads=1, staxes=3), TypeError, "staxes is 3: a list"),
     (lambda: evlsim.Machine(threads=1, staxes=[0]), BAD, "staxes[0] is 0: a whole number from 1 to 1000"),
@@ -151,6 +161,8 @@ MACHINES = [
     (lambda: evlsim.Machine(threads=1, staxes=[1] * 17), BAD, "staxes has 17 items: 16"),
     (lambda: evlsim.Machine(threads=1, limit=0), BAD, "limit is 0"),
     (lambda: evlsim.Machine(threads=1, bank=[3]), TypeError, "plan 0 of the bank is 3"),
+    (lambda: MACHINE.see_date(), AttributeError, "a machine has no 'see_date'; did you mean \"see_now\"?"),
+    (lambda: C.pust(sem=0), AttributeError, "a caller has no 'pust'; did you mean \"put\"?"),
     (lambda: C.put(0, sem=0), TypeError, "positional"),
     (lambda: C.put(semm=0), STEP, 'put has no key "semm"; did you mean "sem"? (its keys: sem)'),
     (lambda: C.put(who=1, sem=0), TypeError, "who"),
@@ -211,28 +223,25 @@ LABS = [
     (lambda: evlsim.callers(SMALL, limit=-1), BAD, "limit is -1"),
     (lambda: evlsim.Kernel.from_lines(None), TypeError, "text is None"),
     (lambda: evlsim.Kernel.from_lines("board sems=[0]\n"), BAD, "has no threads"),
-    (lambda: explore(5), TypeError, "body is 5: a function with a yield"),
-    (lambda: explore(print, arrivals=-1), ASK, "arrivals is -1"),
-    (lambda: explore(print, runs="9"), TypeError, "runs is '9'"),
 ]
 
 
-def divides(bench):
-    bench.request(5, lambda: 1 // 0)
-    bench.may_arrive(5)
-    yield bench.rest()
+# what the module raises, and one of each kind that was met here
+ERRORS = {it for it in vars(evlsim).values() if isinstance(it, type) and issubclass(it, Exception)}
+met = {}
 
 
-def yields_five(_bench):
-    yield 5
+def is_same(raised, again):
+    """Whether an error is another one's like: its kind, its text and what it has."""
+    return type(again) is type(raised) and str(again) == str(raised) and vars(again) == vars(raised)
 
 
-# a body, why its exploration fails, and in which function of it
-EXPLORED = [
-    (divides, "ZeroDivisionError: ", ", in <lambda>"),
-    (yields_five, "TypeError: T1 yields 5: a call, as thread.get(sem), or nothing", ""),
-    (lambda bench: None, "TypeError: the body is no generator", ""),
-]
+def try_pickled(raised):
+    """An error of the module is the same after it was pickled."""
+    if isinstance(raised, tuple(ERRORS)):
+        again = pickle.loads(pickle.dumps(raised))
+        assert is_same(raised, again), again
+        met[type(raised)] = raised
 
 
 def try_list(name, misuses):
@@ -241,7 +250,8 @@ def try_list(name, misuses):
         try:
             answer = function()
         except error as raised:
-            assert part in str(raised), f"{name} {number}: it says {raised}"
+            assert part in f"{raised}\n", f"{name} {number}: it says {raised}"
+            try_pickled(raised)
         except Exception as raised:
             raise AssertionError(f"{name} {number}: {type(raised).__name__}: {raised}") from None
         else:
@@ -264,12 +274,65 @@ def try_program():
     assert none.returncode == 2 and none.stderr.startswith("evlsim: no file: "), none
 
 
-def try_explored():
-    """Bodies that fail: why, and where."""
-    for body, why, where in EXPLORED:
-        found = explore(body)
-        assert found.failed and found.why.startswith(why), found
-        assert where in found.where and (not where or found.where.startswith(f"{__file__}:")), found
+def refuse_a_call():
+    evlsim.Kernel(threads=1, strict=True).put(0, sem=5)
+
+
+def call_a_closed_kernel():
+    kernel = board()
+    kernel.close()
+    kernel.now(0)
+
+
+def raise_it(raised):
+    raise raised
+
+
+def try_processes():
+    """What is raised in another process is raised here, of each kind that there is."""
+    with concurrent.futures.ProcessPoolExecutor(1, multiprocessing.get_context("fork")) as pool:
+        for function in (refuse_a_call, call_a_closed_kernel):
+            try_pickled(pool.submit(function).exception(60))
+        # (a call holds the interpreter's lock, so that no other caller has the core)
+        try_pickled(evlsim.CoreBusy("another caller has the core"))
+        for raised in met.values():
+            again = pool.submit(raise_it, raised).exception(60)
+            assert is_same(raised, again), repr(again)
+    refused = met[evlsim.CallRefused]
+    assert (refused.call, refused.answer) == ("T0 put sem=5", "Unknown") and "T0 put sem=5 -> Unknown" in refused.trace
+    kinds = {kind for it in met for kind in it.__mro__}
+    assert ERRORS <= kinds, ERRORS - kinds
+
+
+class Counted(evlsim.Kernel):
+    """A kernel with more in it."""
+
+    def __init__(self):
+        super().__init__(threads=2, sems=[0])
+        self.calls = [1]
+
+
+def try_copies():
+    """A copy is of the same class; a plan is a value."""
+    kernel = Counted()
+    kernel.put(0, sem=0)
+    made = kernel.copy()
+    assert type(made) is Counted and made.calls == [1] and made.trace() == kernel.trace()
+    assert made.put(0, sem=0) and kernel.see_count(0) == 1
+    again = pickle.loads(pickle.dumps(PLANNED))
+    assert again == PLANNED == copy.deepcopy(PLANNED) and repr(again) == "Plan(1, (2, 'post_sem', 0))"
+    assert len({PLANNED, again}) == 1
+
+
+def try_lonely_callers():
+    """Callers keep their machine alive; the last one that goes frees it."""
+    callers = evlsim.Machine(threads=2, sems=[0]).callers
+    gc.collect()
+    assert callers[0].put(sem=0) and callers[1].see_count(0) == 1
+    last = callers[1]
+    del callers
+    gc.collect()
+    assert last.put(sem=0) and last.trace().count("-> done") == 2
 
 
 def try_right_ones():
@@ -386,7 +449,9 @@ def try_callers(rounds=5000):
 tried = try_list("call", CALLS) + try_list("board", BOARDS) + try_list("play", PLAYS) + try_list("lab", LABS)
 tried += try_list("machine", MACHINES)
 try_program()
-try_explored()
+try_processes()
+try_copies()
+try_lonely_callers()
 try_right_ones()
 try_closed()
 try_closed_callers()

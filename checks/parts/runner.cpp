@@ -63,6 +63,7 @@ int main() {
   well = holds(bad.failed && bad.all.size() == 3 && bad.all[2].text == "2 seen; FAILED: an exception: too many came", "it throws") && well;
   well = holds(evlsim::replay("good", [] { wait_for_events(2); }, good.all[2].choices.c_str()), "a replay") && well;
   well = holds(replays(good.all[2].choices.c_str()), "a replay by the environment") && well;
+  well = holds(int{good} == 0 && int{bad} == 1, "the status for main") && well;
   limits.forks = true;
   evlsim::explored crashed = evlsim::explore("crashed", [] {
     wait_for_events(2);

@@ -1,4 +1,9 @@
 # For cmake: find_package(evlsim) gives the targets evlsim::evlsim (shared) and evlsim::static, and evlsim_add_scenario.
+# evlsim_IDENTITY is the library's version, with the proof that built it, or UNPROVED.
+set(evlsim_IDENTITY "@EVLSIM_IDENTITY@")
+if(evlsim_IDENTITY MATCHES "UNPROVED" AND NOT evlsim_FIND_QUIETLY)
+  message(STATUS "evlsim ${evlsim_IDENTITY}")
+endif()
 get_filename_component(_evlsim_lib "${CMAKE_CURRENT_LIST_DIR}/../.." ABSOLUTE)
 set(_evlsim_include "@EVLSIM_INCLUDE@")
 if(NOT TARGET evlsim::evlsim)
@@ -14,7 +19,23 @@ if(NOT TARGET evlsim::evlsim)
     INTERFACE_INCLUDE_DIRECTORIES "${_evlsim_include}")
 endif()
 
-# evlsim_add_scenario(NAME FILE): a test that FILE.toml has the trace that FILE.trace beside it is.
+# Refuses what can't be a test of evlsim_add_scenario, as cmake runs: no file, a text of lines, or no trace beside it.
+function(_evlsim_check_scenario name scenario trace)
+  if(NOT EXISTS "${scenario}")
+    message(FATAL_ERROR "evlsim_add_scenario(${name}): there is no file ${scenario}")
+  endif()
+  file(STRINGS "${scenario}" _first LIMIT_COUNT 1 REGEX "^[ \t]*[^# \t]" ENCODING UTF-8)
+  set(_line "^[ \t]*((([0-9]+|-) )?T[0-9]+ [a-z]|(board|limit|setup)[ \t]+[^= \t])")
+  if(NOT "${scenario}" MATCHES "\\.toml$" OR "${_first}" MATCHES "${_line}")
+    message(FATAL_ERROR "evlsim_add_scenario(${name}): ${scenario}: a scenario in TOML is wanted, as NAME.toml; `lab convert` makes one of a text of lines")
+  endif()
+  if(NOT EXISTS "${trace}")
+    message(FATAL_ERROR "evlsim_add_scenario(${name}): there is no trace ${trace}; `evl ${scenario}` prints it")
+  endif()
+endfunction()
+
+# evlsim_add_scenario(NAME FILE): a test that evl plays FILE, a scenario in TOML, and that its trace is the one that lies
+# beside FILE.toml as FILE.trace. What differs is printed.
 function(evlsim_add_scenario name scenario)
   find_program(EVLSIM_EVL evl HINTS "${_evlsim_lib}/../bin" "${_evlsim_lib}/../../bin")
   if(NOT EVLSIM_EVL)
@@ -22,7 +43,11 @@ function(evlsim_add_scenario name scenario)
   endif()
   get_filename_component(_scenario "${scenario}" ABSOLUTE)
   string(REGEX REPLACE "\\.toml$" ".trace" _trace "${_scenario}")
-  add_test(NAME ${name} COMMAND sh -c "\"$1\" \"$2\" | diff -u \"$3\" -" sh "${EVLSIM_EVL}" "${_scenario}" "${_trace}")
+  _evlsim_check_scenario("${name}" "${_scenario}" "${_trace}")
+  # (a pipe's status would be that of diff, also where evl refuses the scenario)
+  set(_refused "{ echo \"evl ended with status $? for $2: lab check says what is wrong there\" >&2; exit 1; }")
+  set(_plays "told=$(\"$1\" \"$2\") || ${_refused}; printf '%s\\n' \"$told\" | diff -u \"$3\" -")
+  add_test(NAME ${name} COMMAND sh -c "${_plays}" sh "${EVLSIM_EVL}" "${_scenario}" "${_trace}")
 endfunction()
 
 # evlsim_add_driver(NAME SOURCES FILE .. [DEFINITIONS WORD ..] [CALLS_ALONE] [FAILS]): a driver's own sources and its

@@ -56,6 +56,8 @@ struct outcome {
 
 struct explored : evlsim_explored {
   std::vector<outcome> all;
+  // The status for main, as evlsim_explore returns it: int main() { return evlsim::explore(..); }
+  operator int() const { return failed ? 1 : 0; }
 };
 
 // The name is that of the files of a failure.

@@ -40,29 +40,38 @@ static inline evlsim_answer evlsim_switch_inband(evlsim_caller *caller) {
   return evlsim_do_call(caller, evlsim_call_set_stage(EVLSIM_INBAND));
 }
 
+/* Finishes a wait that is over. Who holds a mutex or a stax keeps the stage; the caller itself refuses the other form,
+   with nothing done. */
+static inline evlsim_answer evlsim_finish_wait(evlsim_caller *caller, uint8_t *out, size_t out_length) {
+  evlsim_answer answer = evlsim_do_call_bytes(caller, evlsim_call_finish(false), NULL, 0, out, out_length);
+  if (evlsim_refused_as(answer, EVLSIM_REFUSAL_AGAIN)) return evlsim_not_called(EVLSIM_BAD_NUMBER);
+  if (!evlsim_refused_as(answer, EVLSIM_REFUSAL_INVALID)) return answer;
+  return evlsim_do_call_bytes(caller, evlsim_call_finish(true), NULL, 0, out, out_length);
+}
+
 /*
  * Waits until the wait for an element which the caller's thread has begun is over, and finishes it: that is the answer.
  * `thread` is the caller's thread, which is its place in evlsim_machine_open. It asks the kernel, so that nothing is
- * entered before the end. EVLSIM_REFUSAL_HISTORY_FULL and EVLSIM_REFUSAL_NO_MEMORY leave the wait unfinished.
+ * entered before the end. EVLSIM_REFUSAL_HISTORY_FULL and EVLSIM_REFUSAL_NO_MEMORY leave the wait unfinished; so does
+ * EVLSIM_BAD_NUMBER (evlsim_why), where `thread` is not the caller's: it has no unfinished wait, or the caller's goes on
+ * when that thread's is over. Call this again then, with the caller's thread.
  */
 static inline evlsim_answer evlsim_wait_out(evlsim_caller *caller, uint16_t thread, uint8_t *out, size_t out_length) {
   for (;;) {
-    evlsim_reading over = {false, 0, 0};
+    evlsim_reading over = {false, 0, 0}, waits = {false, 0, 0};
     evlsim_status status = evlsim_caller_look(caller, EVLSIM_SEE_FINISHED, thread, &over);
+    if (over.there) return evlsim_finish_wait(caller, out, out_length);
+    if (evlsim_ok(status)) status = evlsim_caller_look(caller, EVLSIM_SEE_WAITS, thread, &waits);
+    if (evlsim_ok(status) && !waits.there) return evlsim_not_called(EVLSIM_BAD_NUMBER);
     if (!evlsim_ok(status) && !evlsim_status_is(status, EVLSIM_CORE_BUSY)) return evlsim_not_called(status);
-    if (over.there) {
-      /* who holds a mutex or a stax keeps the stage; the caller itself refuses the other form, with nothing done */
-      evlsim_answer answer = evlsim_do_call_bytes(caller, evlsim_call_finish(false), NULL, 0, out, out_length);
-      if (!evlsim_refused_as(answer, EVLSIM_REFUSAL_INVALID)) return answer;
-      return evlsim_do_call_bytes(caller, evlsim_call_finish(true), NULL, 0, out, out_length);
-    }
     EVLSIM_YIELD();
   }
 }
 
 /*
  * Makes a call that begins a wait for an element (evlsim_call_begin_get, .._take, .._read or .._write, with or without
- * evlsim_until), and waits it out if it is begun. `bytes` are those of a write; what is read goes into `out`.
+ * evlsim_until), and waits it out if it is begun, as evlsim_wait_out. `bytes` are those of a write; what is read goes into
+ * `out`. EVLSIM_BAD_NUMBER, where a wait is begun and `thread` is not the caller's: evlsim_wait_out goes on with it.
  */
 static inline evlsim_answer evlsim_do_wait(evlsim_caller *caller, uint16_t thread, evlsim_call begin,
                                            const uint8_t *bytes, size_t length, uint8_t *out, size_t out_length) {
@@ -70,7 +79,8 @@ static inline evlsim_answer evlsim_do_wait(evlsim_caller *caller, uint16_t threa
   return evlsim_is_begun(answer) ? evlsim_wait_out(caller, thread, out, out_length) : answer;
 }
 
-/* Takes one from a semaphore's count, or bits of a flag group, and waits where it cannot at once. */
+/* Takes one from a semaphore's count, or bits of a flag group, and waits where it cannot at once. `thread` is the caller's,
+   here and below, or the wait is EVLSIM_BAD_NUMBER, as evlsim_do_wait says. */
 static inline evlsim_answer evlsim_get_sem(evlsim_caller *caller, uint16_t thread, uint16_t sem) {
   return evlsim_do_wait(caller, thread, evlsim_call_begin_get(sem), NULL, 0, NULL, 0);
 }

@@ -34,7 +34,7 @@ from ._play import play
 from ._reports import Callers, Orders, Outcome, State, Step, callers, orders
 from ._traces import Entry, Trace
 
-__version__ = _lib.VERSION.partition(",")[0]
+__version__ = _lib.VERSION.partition(",")[0] + ("" if IS_PROVED else ".unproved")
 __all__ = [
     "Answer", "Awaited", "BadBoard", "BadPlan", "BadQuestion", "BadStep", "BadText", "CallRefused", "Caller",
     "Callers", "Clock", "CoreBusy", "Deadline", "Entry", "Finding", "Form", "IS_PROVED", "Kernel", "KernelClosed", "Line",

@@ -8,8 +8,8 @@ from typing import Any, Callable, Dict, Iterable, NoReturn, Optional, Tuple, Typ
 from . import _library as lib
 from ._answers import Answer
 from ._calls import OwnWords, Words
-from ._errors import BadBoard, BadQuestion, BadStep, CoreBusy, KernelClosed, Refused, items, near, whole, wrong_type
-from ._kernel import LISTS, MISSING, Bytes, Plan, Way, no_key, read_bank, read_board
+from ._errors import BadBoard, BadQuestion, BadStep, CoreBusy, KernelClosed, Refused, items, near, whole
+from ._kernel import LISTS, MISSING, Bytes, Plan, Way, refuse_board, no_key, read_bank, read_board
 from ._pictures import shown
 from ._questions import Questions
 from ._traces import Entry, read_trace
@@ -78,6 +78,8 @@ class Caller(OwnWords, Questions):
     These wait, while other threads of Python run, and end with their answer: `do`, which makes any call; `get_sem`,
     `wait_flags`, `read_xbuf`, `write_xbuf`, `lock_mutex`, `unlock_mutex`, `lock_stax`. They never end if no other caller
     brings that about."""
+
+    _asked = "a caller"
 
     def __init__(self, handle: lib.Handle, thread: int) -> None:
         self._calls = _Calls(handle)
@@ -196,6 +198,10 @@ class Caller(OwnWords, Questions):
         """Frees the caller, and with the last one its machine."""
         lib.LIBRARY.evlsim_c_caller_close(self._calls._at)
 
+    def __del__(self, close: Any = lib.LIBRARY.evlsim_c_caller_close) -> None:
+        if "_calls" in self.__dict__:
+            close(self._calls._at)
+
     @property
     def closed(self) -> bool:
         """Whether it is closed."""
@@ -206,6 +212,9 @@ class Caller(OwnWords, Questions):
 
     def __reduce__(self) -> NoReturn:
         raise TypeError("a caller isn't pickled")
+
+
+MACHINE_KEYS = ("threads", *LISTS, "staxes", "limit", "bank")
 
 
 class Machine(Questions):
@@ -221,8 +230,16 @@ class Machine(Questions):
     ('done', 'Again', False)
     1 T0 attach policy=fifo 10 stage=oob -> done
 
-    Threads of Python may call callers of one machine, and one caller in turn: each call holds the interpreter's lock.
+    Threads of Python may call callers of one machine, and one caller in turn: each call holds the interpreter's lock. A
+    machine lives as long as one of its callers does, and is freed with the last one.
     """
+
+    _asked = "a machine"
+
+    def __new__(cls, *given: Any, **board: Any) -> Any:
+        if cls.__init__ is Machine.__init__ and not given and "threads" not in board:
+            refuse_board("a machine", board, MACHINE_KEYS)
+        return super().__new__(cls)
 
     def __init__(
         self,
@@ -237,9 +254,8 @@ class Machine(Questions):
         bank: Optional[Iterable[Plan]] = None,
         **wrong: NoReturn,
     ) -> None:
-        names = ("threads", *LISTS, "staxes", "limit", "bank")
-        for key in wrong:
-            raise wrong_type(BadBoard, f'a machine has no key "{key}"{near(key, names)} (its keys: {", ".join(names)})')
+        if wrong:
+            refuse_board("a machine", wrong, MACHINE_KEYS)
         board: Dict[str, Any] = dict(
             threads=threads, sems=sems, flags=flags, xbufs=xbufs, mutexes=mutexes, groups=groups
         )
@@ -306,10 +322,6 @@ class Machine(Questions):
         self, kind: Optional[Type[BaseException]], error: Optional[BaseException], trace: Optional[TracebackType]
     ) -> None:
         self.close()
-
-    def __del__(self) -> None:
-        if "callers" in self.__dict__:
-            self.close()
 
     def __repr__(self) -> str:
         return f"<evlsim.Machine of {len(self.callers)} callers{', closed' if self.closed else ''}>"

@@ -40,9 +40,12 @@ class BadStep(Refused, ValueError):
 class CallRefused(Refused):
     """A kernel that is strict refused a call: `call` and `answer` say which and how, `trace` has the last lines."""
 
-    def __init__(self, call: str, answer: Any, trace: str) -> None:
-        super().__init__(f"{call} -> {answer}\n{trace}")
+    def __init__(self, call: str, answer: Any, trace: str = "") -> None:
+        super().__init__(f"{call} -> {answer}" + (f"\n{trace}" if trace else ""))
         self.call, self.answer, self.trace = call, answer, trace
+
+    def __reduce__(self) -> Tuple[Any, ...]:
+        return type(self), (self.call, self.answer, self.trace)
 
 
 class CoreBusy(Refused):
@@ -53,19 +56,26 @@ class KernelClosed(ValueError):
     """The kernel, the caller or the machine is closed."""
 
 
-class _BoardType(BadBoard, TypeError):
+class _Typed(TypeError):
+    """A TypeError that is one of the errors above too, under whose name it is pickled."""
+
+    def __reduce__(self) -> Tuple[Any, ...]:
+        return wrong_type, (type(self).__bases__[0], str(self))
+
+
+class _BoardType(BadBoard, _Typed):
     __doc__ = BadBoard.__doc__
 
 
-class _PlanType(BadPlan, TypeError):
+class _PlanType(BadPlan, _Typed):
     __doc__ = BadPlan.__doc__
 
 
-class _QuestionType(BadQuestion, TypeError):
+class _QuestionType(BadQuestion, _Typed):
     __doc__ = BadQuestion.__doc__
 
 
-class _StepType(BadStep, TypeError):
+class _StepType(BadStep, _Typed):
     __doc__ = BadStep.__doc__
 
 
@@ -85,9 +95,14 @@ def wrong_type(bad: Type[Refused], message: str) -> Refused:
     return made
 
 
+# what is looked for under a name of its own
+MEANT = {"see_date": "see_now", "see_time": "see_now", "see_clock": "see_now", "date": "now", "time": "now"}
+
+
 def near(given: object, names: Iterable[str]) -> str:
     """The names that may be meant: "; did you mean "put"?", or nothing."""
-    found = difflib.get_close_matches(str(given).lower(), list(names), 1, 0.6)
+    known, word = list(names), str(given).lower()
+    found = [MEANT[word]] if MEANT.get(word) in known else difflib.get_close_matches(word, known, 1, 0.6)
     return f'; did you mean "{found[0]}"?' if found else ""
 
 

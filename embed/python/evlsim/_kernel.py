@@ -60,17 +60,30 @@ class Plan:
     """
 
     __slots__ = ("accepts", "rows", "_form")
+    accepts: int
+    rows: Tuple[Rows, ...]
 
     def __init__(self, accepts: int, *rows: Rows) -> None:
         if len(rows) > 4:
             raise BadPlan(f"a plan has {len(rows)} rows: four at most are wanted")
-        self.accepts = whole(BadPlan, "accepts", accepts, 1, (1 << 64) - 1)
+        every = whole(BadPlan, "accepts", accepts, 1, (1 << 64) - 1)
         made = [_row(row) for row in rows]
-        self.rows = tuple(row for row, _ in made)
         kinds = 0
         for _, form in made:
             kinds |= 1 << form.action
-        self._form = lib.PlanForm(self.accepts, kinds, len(made), (lib.Row * 4)(*(form for _, form in made)))
+        keep = super().__setattr__
+        keep("accepts", every)
+        keep("rows", tuple(row for row, _ in made))
+        keep("_form", lib.PlanForm(every, kinds, len(made), (lib.Row * 4)(*(form for _, form in made))))
+
+    def __setattr__(self, name: str, value: object) -> NoReturn:
+        raise AttributeError(f"a plan isn't changed after it is made: {name} stays; make another Plan")
+
+    def __delattr__(self, name: str) -> NoReturn:
+        raise AttributeError(f"a plan isn't changed after it is made: {name} stays")
+
+    def __reduce__(self) -> Tuple[Any, ...]:
+        return type(self), (self.accepts, *self.rows)
 
     def __repr__(self) -> str:
         return f"Plan({', '.join(map(repr, (self.accepts, *self.rows)))})"
@@ -121,7 +134,7 @@ def _ceiling(place: int, value: Any) -> Tuple[int, int]:
         raise wrong_type(BadBoard, wanted)
     word, blank, ceiling = value.partition(" ")
     if word not in MUTEXES or bool(blank) != (word == "ceiling"):
-        raise BadBoard(wanted + near(word, MUTEXES))
+        raise BadBoard(wanted + ("" if word in MUTEXES else near(word, MUTEXES)))
     if blank and not (is_number(ceiling) and 1 <= int(ceiling) <= 99):
         raise BadBoard(wanted)
     return MUTEXES.index(word), int(ceiling or 0)
@@ -214,8 +227,25 @@ def no_key(word: str, wrong: Dict[str, Any], **given: Any) -> NoReturn:
     raise wrong_type(BadStep, f'{word} needs the key "{missing[0]}" ({told})')
 
 
+def refuse_board(what: str, keys: Iterable[str], names: Tuple[str, ...]) -> None:
+    """Raises for a board of which no threads are given: a key may be misspelt."""
+    told = f"its keys: {', '.join(names)}"
+    for key in keys:
+        if key not in names:
+            raise wrong_type(BadBoard, f'{what} has no key "{key}"{near(key, names)} ({told})')
+    raise wrong_type(BadBoard, f'{what} needs the key "threads" ({told})')
+
+
+BOARD_KEYS = ("threads", *LISTS, "limit", "bank", "strict")
+
+
 class Calls:
     """What makes the calls of a kernel; the methods, one for each step word, are in _calls.py."""
+
+    def __new__(cls, *given: Any, **board: Any) -> Any:
+        if cls.__init__ is Calls.__init__ and not given and "threads" not in board:
+            refuse_board("a board", board, BOARD_KEYS)
+        return super().__new__(cls)
 
     def __init__(
         self,
@@ -233,9 +263,8 @@ class Calls:
         self._handle = lib.Handle()
         self._at = _ref(self._handle)
         self._told: List[Tuple[lib.Told, Any]] = []
-        names = ("threads", *LISTS, "limit", "bank", "strict")
-        for key in wrong:
-            raise wrong_type(BadBoard, f'a board has no key "{key}"{near(key, names)} (its keys: {", ".join(names)})')
+        if wrong:
+            refuse_board("a board", wrong, BOARD_KEYS)
         self._board: Dict[str, Any] = dict(
             threads=threads, sems=sems, flags=flags, xbufs=xbufs, mutexes=mutexes, groups=groups
         )

@@ -1,7 +1,7 @@
 """A kernel with its history."""
 
 from types import TracebackType
-from typing import Any, Dict, Iterable, Iterator, NoReturn, Optional, Tuple, Type
+from typing import Any, Dict, Iterable, Iterator, NoReturn, Optional, Tuple, Type, TypeVar
 
 from . import _library as lib
 from ._answers import Answer
@@ -11,6 +11,9 @@ from ._kernel import Plan
 from ._pictures import shown
 from ._questions import Questions
 from ._traces import Entry, board_line, read_board_line, read_history, read_trace
+
+
+Copied = TypeVar("Copied", bound="Kernel")
 
 
 class Kernel(Words, Questions):
@@ -44,10 +47,6 @@ class Kernel(Words, Questions):
             raise BadStep(f"there is no step word {word!r}{near(word, lib.WORDS)}")
         answer: Answer = getattr(self, word + "_" * (word == "raise"))(who, **keys)
         return answer
-
-    def __getattr__(self, name: str) -> NoReturn:
-        names = [it for it in dir(type(self)) if not it.startswith("_")]
-        raise AttributeError(f"a kernel has no {name!r}{near(name, names)}")
 
     def close(self) -> None:
         """Frees the kernel; what is asked of it then raises KernelClosed."""
@@ -89,11 +88,15 @@ class Kernel(Words, Questions):
     def __reduce__(self) -> NoReturn:
         raise TypeError("a kernel isn't pickled: its scenario() is a text, and copy() makes another one")
 
-    def copy(self) -> "Kernel":
-        """Another kernel in the same state, by playing the history again."""
-        made = Kernel(**self._board, limit=self._limit, bank=self._bank)
+    def copy(self: "Copied") -> "Copied":
+        """Another kernel of the same class in the same state, by playing the history again; what a class of its own has
+        besides is shared."""
+        made = object.__new__(type(self))
+        Kernel.__init__(made, **self._board, limit=self._limit, bank=self._bank)
         for entry in self:
-            made.call(entry.word, entry.who, **entry.keys)
+            getattr(Kernel, entry.word + "_" * (entry.word == "raise"))(made, entry.who, **entry.keys)
+        for name, value in self.__dict__.items():
+            made.__dict__.setdefault(name, value)
         made._strict = self._strict
         return made
 
@@ -127,7 +130,7 @@ class Kernel(Words, Questions):
         made._strict = strict
         return made
 
-    def __deepcopy__(self, memo: Dict[int, Any]) -> "Kernel":
+    def __deepcopy__(self: "Copied", memo: Dict[int, Any]) -> "Copied":
         return self.copy()
 
     def trace(self, start: int = 0) -> str:

@@ -1,14 +1,21 @@
 """What a kernel tells besides its answers: a method for each question."""
 
-from typing import Optional
+from typing import NoReturn, Optional
 
 from . import _library as lib
-from ._errors import BadQuestion, one_of, whole
+from ._errors import BadQuestion, near, one_of, whole
 from ._kernel import AWAITED, STAGES, WAYS, Awaited, Stage, Way
 
 
 class Questions:
     """Questions to a kernel. They change nothing, and enter nothing into its history."""
+
+    # what is asked, as an error names it
+    _asked = "a kernel"
+
+    def __getattr__(self, name: str) -> NoReturn:
+        names = [it for it in dir(type(self)) if not it.startswith("_")]
+        raise AttributeError(f"{self._asked} has no {name!r}{near(name, names)}")
 
     def _ask(
         self, kind: int, what: str, element: int = 0, stage: int = 0, way: int = 0, on: int = 0, place: int = 0

@@ -3,21 +3,34 @@ scenarios as tests.
 
     def test_put(evlsim_kernel):
         kernel = evlsim_kernel(threads=2, sems=[0])
-        assert kernel.put(0, sem=0)
+        kernel.put(0, sem=0)
+        assert kernel.see_count(0) == 1
+
+A kernel of evlsim_kernel is strict: a call that it refuses fails the test, unless it is made with strict=False.
 
 With `evlsim_scenarios = true` in pytest's configuration each NAME.toml that has a NAME.trace beside it is a test: it
 passes if the scenario has just this trace."""
 
 import difflib
+import sys
 from pathlib import Path
 from typing import Any, Callable, Generator, Iterator, List, Optional, Tuple, Union
 
 import pytest
 
-from . import Kernel, Machine, Refused, check, draw, play, version
+from . import Kernel, KernelClosed, Machine, Refused, check, draw, play, version
 
 Made = Union[Kernel, Machine]
 _MADE = pytest.StashKey[List[List[Made]]]() if hasattr(pytest, "StashKey") else None
+
+
+def _is_refused(raised: Any) -> bool:
+    return raised is not None and isinstance(raised.value, (Refused, KernelClosed))
+
+
+# What is refused is shown where the test called, and not where the module raised it: pytest leaves such modules out.
+for _name in [it for it in sys.modules if it.startswith(f"{__package__}.")]:
+    setattr(sys.modules[_name], "__tracebackhide__", _is_refused)
 
 
 def pytest_addoption(parser: pytest.Parser) -> None:
@@ -28,14 +41,14 @@ def pytest_report_header(config: pytest.Config) -> str:
     return f"evlsim: {version()}"
 
 
-def _making(request: pytest.FixtureRequest, kind: Callable[..., Any]) -> Iterator[Callable[..., Any]]:
-    """Makes things of a kind for a test, notes them for its report, and closes them at its end."""
+def _making(request: pytest.FixtureRequest, kind: Callable[..., Any], **usual: Any) -> Iterator[Callable[..., Any]]:
+    """Makes things of a kind for a test, as is usual, notes them for its report, and closes them at its end."""
     made: List[Made] = []
     if _MADE is not None:
         request.node.stash.setdefault(_MADE, []).append(made)
 
-    def make(**board: Any) -> Any:
-        made.append(kind(**board))
+    def make(*threads: int, **board: Any) -> Any:
+        made.append(kind(*threads, **{**usual, **board}))
         return made[-1]
 
     yield make
@@ -45,8 +58,9 @@ def _making(request: pytest.FixtureRequest, kind: Callable[..., Any]) -> Iterato
 
 @pytest.fixture
 def evlsim_kernel(request: pytest.FixtureRequest) -> Iterator[Callable[..., Kernel]]:
-    """Makes kernels, as evlsim.Kernel does. A failing test's report has their traces, scenarios and pictures."""
-    yield from _making(request, Kernel)
+    """Makes kernels, as evlsim.Kernel does, but strict: a refused call raises CallRefused, unless strict=False is given. A
+    failing test's report has their histories as texts of lines, which from_lines and `lab play` play again, and pictures."""
+    yield from _making(request, Kernel, strict=True)
 
 
 @pytest.fixture
@@ -71,19 +85,10 @@ def pytest_runtest_makereport(item: pytest.Item, call: Any) -> Generator[None, A
 def _parts(made: Made) -> Iterator[Tuple[str, str]]:
     """What a report has of a kernel or a machine."""
     try:
-        yield "trace", made.trace()
-        if isinstance(made, Kernel):
-            yield "scenario", _scenario(made)
+        yield "trace", made.lines() if isinstance(made, Kernel) else made.trace()
         yield "picture", draw(made, "lanes")
     except (Refused, MemoryError):  # another caller has the core, or there is no memory for a picture
         return
-
-
-def _scenario(kernel: Kernel) -> str:
-    try:
-        return kernel.scenario()
-    except Exception as why:  # a long history has no scenario
-        return str(why)
 
 
 class ScenarioFile(pytest.File):

@@ -25,23 +25,28 @@ come between two of their steps is tried (docs/use/DRIVERS.md).
 """
 
 import collections.abc
+import inspect
 import os
+import sys
 import traceback
 from collections import Counter, deque
-from typing import Any, Callable, Deque, Dict, Generator, List, NamedTuple, Optional, Tuple
+from typing import Any, Callable, Deque, Dict, Generator, Iterable, List, NamedTuple, NoReturn, Optional, Tuple
 
+from . import _library as lib
 from ._answers import Answer, Line
-from ._errors import BadQuestion, whole
+from ._errors import BadQuestion, CallRefused, items, near, whole, wrong_type
 from ._kernel import PROGRAM_BANK, Plan
 from ._machine import Kernel
+from ._traces import keys_text
 
-__all__ = ["Bench", "Explored", "Thread", "explore"]
+__all__ = ["Bench", "Explored", "NotYielded", "Request", "Thread", "explore"]
 
-Request = Tuple[str, str, Dict[str, Any]]
-Steps = Generator[Optional[Request], Any, None]
+Step = Tuple[str, str, Dict[str, Any]]
 Choices = Tuple[Tuple[int, str], ...]
 MACHINE, BODY = 0, 1
 OTHER = "a list of another body, or a body that isn't the same in each run?"
+ASKED = "the kernel of a run only answers questions, as see_count: a thread yields its calls, a handler has "
+ASKED += "bench.put and bench.post, an interrupt comes by bench.may_arrive, and the run closes it"
 
 
 class Explored(NamedTuple):
@@ -64,70 +69,139 @@ class _Stuck(Exception):
     """All threads wait, and nothing is due."""
 
 
+class NotYielded(RuntimeError):
+    """A thread's call was made and not yielded, so nothing was called: `place` says where."""
+
+    def __init__(self, message: str, place: str = "") -> None:
+        super().__init__(message)
+        self.place = place
+
+
+class Request:
+    """A call of a thread, which is made where it is yielded."""
+
+    __slots__ = ("step", "is_yielded", "_name", "_code", "_line", "_lost")
+
+    def __init__(self, name: str, step: Step, lost: List[NotYielded]) -> None:
+        self.step, self.is_yielded, self._name, self._lost = step, False, name, lost
+        frame = sys._getframe(2)
+        self._code, self._line = frame.f_code, frame.f_lineno
+
+    def __del__(self) -> None:
+        if not self.is_yielded:
+            place = f"{self._code.co_filename}:{self._line}, in {self._code.co_name}"
+            self._lost.append(NotYielded(f"{self._name}(..) was not yielded: answer = yield {self._name}(..)", place))
+
+    def __repr__(self) -> str:
+        return f"<{self._name}, to be yielded>"
+
+
+Steps = Generator[Optional[Request], Any, None]
+
+
 def _no_steps() -> Steps:
     yield None
 
 
 class Thread:
-    """A thread of a run. Its calls are yielded: answer = yield thread.get(sem)."""
+    """A thread of a run. Its calls are yielded: answer = yield thread.get(sem). One that the kernel refuses raises
+    CallRefused there, unless `explore` allows the refusal."""
 
-    def __init__(self, number: int) -> None:
+    def __init__(self, number: int, lost: List[NotYielded]) -> None:
         self.number = number
         self.steps: Steps = _no_steps()
-        self.pending: Optional[Request] = None
+        self.pending: Optional[Step] = None
         self.value: Any = None
+        self.refused: Optional[CallRefused] = None
+        self._lost = lost
         self.has_ended = self.is_attached = self.is_oob = self.waits = self.rests = False
         self.date: Optional[int] = None
 
     def attach(self, policy: str, stage: str = "oob") -> Request:
         """Makes it a thread of the core, out-of-band if no stage is named: "fifo 10", "rr 10 1000" and so on."""
-        return ("call", "attach", {"policy": policy, "stage": stage})
+        return Request("thread.attach", ("call", "attach", {"policy": policy, "stage": stage}), self._lost)
 
     def detach(self) -> Request:
         """Takes it out of the core, in-band."""
-        return ("call", "detach", {})
+        return Request("thread.detach", ("call", "detach", {}), self._lost)
 
     def switch(self, stage: str) -> Request:
         """Moves it to "inband" or "oob"."""
-        return ("call", "set_stage", {"stage": stage})
+        return Request("thread.switch", ("call", "set_stage", {"stage": stage}), self._lost)
 
     def put(self, sem: int) -> Request:
         """Serves the first thread that waits for a semaphore, or raises its count."""
-        return ("call", "put", {"sem": sem})
+        return Request("thread.put", ("call", "put", {"sem": sem}), self._lost)
 
     def try_get(self, sem: int) -> Request:
         """Takes one from a semaphore: the answer is false (`Again`) where its count is 0."""
-        return ("call", "try_get", {"sem": sem})
+        return Request("thread.try_get", ("call", "try_get", {"sem": sem}), self._lost)
 
     def get(self, sem: int, until: Optional[int] = None) -> Request:
         """Takes one, and waits for it; the answer is "timed out" at the date `until`, in nanoseconds."""
-        return ("wait", "begin_get", {"sem": sem, "until": until})
+        return Request("thread.get", ("wait", "begin_get", {"sem": sem, "until": until}), self._lost)
 
     def post(self, flags: int, bits: int) -> Request:
         """Adds bits to a flag group."""
-        return ("call", "post_flags", {"flags": flags, "bits": bits})
+        return Request("thread.post", ("call", "post_flags", {"flags": flags, "bits": bits}), self._lost)
 
     def take(self, flags: int, kind: str = "any", until: Optional[int] = None) -> Request:
         """Takes bits, "any", "of MASK" or "exact MASK", and waits for them: the answer's value is the bits."""
-        return ("wait", "begin_take", {"flags": flags, "kind": kind, "until": until})
+        return Request("thread.take", ("wait", "begin_take", {"flags": flags, "kind": kind, "until": until}), self._lost)
 
     def sleep(self, until: int) -> Request:
         """Sleeps until a date in nanoseconds, in-band."""
-        return ("sleep", "", {"until": until})
+        return Request("thread.sleep", ("sleep", "", {"until": until}), self._lost)
+
+
+class _Asked(Kernel):
+    """The kernel of a run: it answers questions, and the run makes its calls."""
+
+    is_called = False
+
+    def _bare(self, kind: int, word: str, key: str, who: int, element: int) -> Answer:
+        self._is_of_the_run(f"bench.kernel.{word}(..)")
+        return super()._bare(kind, word, key, who, element)
+
+    def _make(self, word: str, who: int, call: lib.CallForm, data: bytes = b"") -> Answer:
+        self._is_of_the_run(f"bench.kernel.{word}(..)")
+        return super()._make(word, who, call, data)
+
+    def close(self) -> None:
+        self._is_of_the_run("bench.kernel.close()")
+        super().close()
+
+    def _is_of_the_run(self, what: str) -> None:
+        if not self.is_called:
+            raise RuntimeError(f"{what}: {ASKED}")
+
+    def copy(self) -> Any:
+        return Kernel.from_lines(self.lines(), bank=self._bank)
+
+    __copy__ = copy
+
+
+class _Source:
+    """What may make a line's interrupt arrive: how often still, and what is called before."""
+
+    def __init__(self, line: int, left: int, device: Optional[Callable[[], Any]]) -> None:
+        self.line, self.left, self.device = line, left, device
 
 
 class Bench:
     """A run, for its body. Elements, threads and handlers are made before the body's first yield."""
 
-    def __init__(self, chosen: Choices) -> None:
+    def __init__(self, chosen: Choices, allowed: Tuple[str, ...] = ("Again",)) -> None:
         self._chosen: Deque[Tuple[int, str]] = deque(chosen)
+        self._allowed = allowed
+        self._lost: List[NotYielded] = []
         self._sems: List[int] = []
         self._flags: List[int] = []
         self._threads: List[Thread] = []
         self._handlers: Dict[Tuple[int, str], Callable[[], Any]] = {}
         self._inband: Deque[Callable[[], Any]] = deque()
-        self._sources: Dict[str, Tuple[int, Optional[Callable[[], Any]]]] = {}
-        self._kernel: Optional[Kernel] = None
+        self._sources: Dict[str, _Source] = {}
+        self._kernel: Optional[_Asked] = None
         self._step = 0
         self.date = 0
         self.offered: List[Tuple[int, str]] = []
@@ -150,23 +224,36 @@ class Bench:
     def thread(self, run: Callable[[Thread], Steps]) -> Thread:
         """A thread, in-band until it attaches itself."""
         self._make([], 0)
-        made = Thread(len(self._threads) + BODY + 1)
+        made = Thread(len(self._threads) + BODY + 1, self._lost)
         made.steps = _steps_of(run(made), f"thread T{made.number}")
         self._threads.append(made)
         return made
 
     def request(self, line: int, handler: Callable[[], Any], stage: str = "oob") -> None:
-        """A handler on a line."""
+        """A handler on a line: a function without a yield, which runs to its end."""
         self._make([], 0)
-        self._handlers[line, stage] = handler
+        self._handlers[line, stage] = _to_its_end(handler, f"the handler of line {line}")
 
     def may_arrive(self, line: int, times: int = 1, device: Optional[Callable[[], Any]] = None) -> None:
-        """A source: line may arrive so often from here on, at any moment, once `device` has been called."""
-        self._sources[f"line {line}"] = (times, device)
+        """A source: line may arrive so often from here on, at any moment, once `device` has been called. A line may have
+        several: in a list of events "line 5" is the first, and "line 5 [2]" the second, or "line 5 [bad_frame]", if that
+        is the name of its device."""
+        line = whole(BadQuestion, "may_arrive: line", line, 0, 4095)
+        times = whole(BadQuestion, f"may_arrive: times of line {line}", times, 0, 1 << 32)
+        name = self._source_name(line, getattr(device, "__name__", ""))
+        called = None if device is None else _to_its_end(device, f"the device of {name}")
+        self._sources[name] = _Source(line, times, called)
+
+    def _source_name(self, line: int, device: str) -> str:
+        place = 1 + sum(it.line == line for it in self._sources.values())
+        named = f"line {line} [{device}]"
+        if place == 1:
+            return f"line {line}"
+        return named if device.isidentifier() and named not in self._sources else f"line {line} [{place}]"
 
     def rest(self) -> Request:
         """Waits until all others wait; after it no source has an event."""
-        return ("rest", "", {})
+        return Request("bench.rest", ("rest", "", {}), self._lost)
 
     def say(self, text: str) -> None:
         """Adds to what the outcome of this run is."""
@@ -189,7 +276,7 @@ class Bench:
 
     def _open(self) -> None:
         bank = [*PROGRAM_BANK, *([Plan(1)] * max(0, len(self._handlers) - 2))]
-        self._kernel = Kernel(
+        self._kernel = _Asked(
             threads=len(self._threads) + BODY,
             sems=self._sems,
             flags=self._flags,
@@ -201,7 +288,16 @@ class Bench:
             self._call(MACHINE, "request", {"line": line, "stage": stage, "callback": callback})
 
     def _call(self, who: int, word: str, keys: Dict[str, Any]) -> Answer:
-        answer = self.kernel.call(word, who, **{key: value for key, value in keys.items() if value is not None})
+        keys = {key: value for key, value in keys.items() if value is not None}
+        kernel = self._kernel
+        assert kernel is not None
+        kernel.is_called = True
+        try:
+            answer = kernel.call(word, who, **keys)
+        finally:
+            kernel.is_called = False
+        if answer.kind == "refused" and answer.value not in self._allowed:
+            raise CallRefused(f"T{who} {word}{keys_text(keys)}", answer)
         for play in answer.plays:
             if isinstance(play, Line) and (play.line, play.stage) in self._handlers:
                 handler = self._handlers[play.line, play.stage]
@@ -236,20 +332,20 @@ class Bench:
             self._bring(self._chosen.popleft()[1])
             return True
         if not self._chosen:
-            self.offered += [(self._step, name) for name, (left, _) in self._sources.items() if left > 0]
+            self.offered += [(self._step, name) for name, source in self._sources.items() if source.left > 0]
         return False
 
     def _bring(self, name: str) -> None:
-        left, device = self._sources.get(name, (0, None))
-        if left == 0:
+        source = self._sources.get(name)
+        if source is None or source.left == 0:
             raise RuntimeError(f"the chosen event {name} @ {self._step} can't come there: {OTHER}")
-        self._sources[name] = (left - 1, device)
-        if device is not None:
-            device()
-        self._call(MACHINE, "arrive", {"line": int(name.split()[1])})
+        source.left -= 1
+        if source.device is not None:
+            source.device()
+        self._call(MACHINE, "arrive", {"line": source.line})
 
-    def _make_step(self, thread: Thread, request: Request) -> None:
-        how, word, keys = request
+    def _make_step(self, thread: Thread, step: Step) -> None:
+        how, word, keys = step
         thread.pending = None
         if how == "rest":
             thread.rests = True
@@ -268,17 +364,20 @@ class Bench:
                 thread.is_oob = thread.is_attached and keys.get("stage") == "oob"
 
     def _go_on(self, thread: Thread) -> None:
-        thread.date = None
+        refused, thread.refused, thread.date = thread.refused, None, None
         try:
-            request = thread.steps.send(thread.value)
-            if request is not None and not _is_request(request):
+            request = thread.steps.send(thread.value) if refused is None else thread.steps.throw(refused)
+            if request is not None and not isinstance(request, Request):
                 raise TypeError(f"T{thread.number} yields {request!r}: a call, as thread.get(sem), or nothing")
-            thread.value = None
-            thread.pending = request if request is not None else ("nothing", "", {})
+            thread.value, thread.pending = None, ("nothing", "", {})
+            if request is not None:
+                request.is_yielded, thread.pending = True, request.step
         except StopIteration:
             if thread.is_attached:
                 self._call(thread.number, "detach", {})
             thread.has_ended, thread.is_oob = True, False
+        if self._lost:
+            raise self._lost[0]
 
     def _step_of(self, thread: Thread) -> None:
         """A thread's next step: its request, or on to its next yield."""
@@ -287,8 +386,11 @@ class Bench:
         elif not self._moment():
             if thread.pending[0] == "nothing":
                 thread.pending = None
-            else:
+                return
+            try:
                 self._make_step(thread, thread.pending)
+            except CallRefused as refused:
+                thread.refused = refused
 
     def _idle(self) -> None:
         """All wait: an event comes, or the body has rested, or the date moves."""
@@ -309,7 +411,7 @@ class Bench:
 
     def run(self, body: Callable[["Bench"], Steps]) -> None:
         """Runs the body to its end."""
-        first = Thread(BODY)
+        first = Thread(BODY, self._lost)
         first.steps = _steps_of(body(self), "the body")
         self._go_on(first)
         self._threads.insert(0, first)
@@ -323,9 +425,29 @@ class Bench:
         if self._chosen:
             raise RuntimeError(f"the chosen event {_text(tuple(self._chosen))} didn't come: {OTHER}")
 
+    def end(self) -> None:
+        """Frees the run's kernel."""
+        if self._kernel is not None:
+            self._kernel.is_called = True
+            self._kernel.close()
 
-def _is_request(request: object) -> bool:
-    return isinstance(request, tuple) and len(request) == 3 and isinstance(request[2], dict)
+
+def _to_its_end(function: Callable[[], Any], what: str) -> Callable[[], Any]:
+    """A handler or device, which has no yield: what a generator does would never run."""
+    if not callable(function):
+        raise TypeError(f"{what} is {function!r}: a function is wanted")
+    if inspect.isgeneratorfunction(function) or inspect.iscoroutinefunction(function):
+        _refuse_generator(what)
+
+    def runs() -> None:
+        if inspect.isgenerator(function()):
+            _refuse_generator(what)
+
+    return runs
+
+
+def _refuse_generator(what: str) -> NoReturn:
+    raise TypeError(f"{what} is a generator, and would never run: a function without a yield is wanted")
 
 
 def _steps_of(steps: Any, what: str) -> Steps:
@@ -337,6 +459,8 @@ def _steps_of(steps: Any, what: str) -> Steps:
 
 def _where(why: BaseException) -> str:
     """Where in the test an error was raised: the last place that isn't in this package."""
+    if isinstance(why, NotYielded):
+        return why.place
     here = os.path.dirname(os.path.abspath(__file__))
     places = traceback.extract_tb(why.__traceback__)
     places = traceback.StackSummary(it for it in places if os.path.dirname(os.path.abspath(it.filename)) != here)
@@ -355,21 +479,37 @@ def _read(choices: str) -> Choices:
         raise ValueError(f"choices is {choices!r}: a list as 'line 5 @ 3, line 5 @ 8' is wanted") from None
 
 
+def _refusals(allowed: Iterable[str]) -> Tuple[str, ...]:
+    """The names of refusals."""
+    names = items(BadQuestion, "allowed", allowed, "names of refusals")
+    for name in names:
+        if name not in lib.REFUSALS:
+            told = f"allowed has {name!r}: names of refusals are wanted{near(name, lib.REFUSALS)}"
+            raise BadQuestion(told) if isinstance(name, str) else wrong_type(BadQuestion, told)
+    return names
+
+
 def explore(
-    body: Callable[[Bench], Steps], arrivals: int = 2, runs: int = 100000, choices: Optional[str] = None
+    body: Callable[[Bench], Steps],
+    arrivals: int = 2,
+    runs: int = 100000,
+    choices: Optional[str] = None,
+    allowed: Iterable[str] = ("Again",),
 ) -> Explored:
     """Runs the body, a function with a yield, with each list of up to so many events, fewest first, up to the first run
-    that raises or is stuck, or so many `runs`; with `choices`, as a failure names it, with that list alone."""
+    that raises or is stuck, or so many `runs`; with `choices`, as a failure names it, with that list alone. A call that
+    the kernel refuses raises CallRefused, where it is yielded or in the handler, unless its refusal is `allowed`."""
     if not callable(body):
         raise TypeError(f"body is {body!r}: a function with a yield in it is wanted")
     for name, number, least in (("arrivals", arrivals, 0), ("runs", runs, 1)):
         whole(BadQuestion, name, number, least, (1 << 63) - 1)
+    refusals = _refusals(allowed)
     outcomes: Counter[str] = Counter()
     count = 0
     lists: Deque[Choices] = deque([() if choices is None else _read(choices)])
     while lists and count < runs:
         chosen = lists.popleft()
-        bench, count = Bench(chosen), count + 1
+        bench, count = Bench(chosen, refusals), count + 1
         try:
             bench.run(body)
         except Exception as why:  # pylint: disable=broad-except
@@ -379,5 +519,5 @@ def explore(
         outcomes["; ".join(bench.said)] += 1
         if choices is None and len(chosen) < arrivals:
             lists.extend((*chosen, choice) for choice in bench.offered)
-        bench.kernel.close()
+        bench.end()
     return Explored(False, "", "", "", "", count, dict(outcomes), bool(lists))
