@@ -3,6 +3,14 @@
  * is a load or store of the driver, or one of its calls; all are counted, so a moment has a number.
  */
 
+/* Whether another in-band thread may go on in place of the one that runs: not while interrupts are off. */
+static bool can_switch(void) {
+  if (tasks[run->now].is_oob || in_handler() || run->now == IDLE) return false;
+  if (run->is_stalled[false] || run->is_stalled[true]) return false;
+  int next = next_inband(run->now + 1);
+  return next != run->now && next != IDLE;
+}
+
 /* The sources that could have an event now, a bit for each. */
 static uint32_t ready_sources(void) {
   uint32_t ready = 0;
@@ -11,8 +19,7 @@ static uint32_t ready_sources(void) {
     bool is_ready = source->left > 0;
     if (source->kind == THE_CLOCK) is_ready = is_ready && next_due() != NEVER;
     if (source->kind == A_TURN) {
-      is_ready = is_ready && !tasks[run->now].is_oob && !in_handler() && run->now != IDLE &&
-                 next_inband(run->now + 1) != run->now && next_inband(run->now + 1) != IDLE;
+      is_ready = is_ready && can_switch();
     }
     if (is_ready) ready |= 1u << each;
   }

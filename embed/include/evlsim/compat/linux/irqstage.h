@@ -11,24 +11,20 @@
 extern "C" {
 #endif
 
-void evlsim_stall_stage(bool is_oob);
+bool evlsim_stall_stage(bool is_oob);
 void evlsim_unstall_stage(bool is_oob);
 bool evlsim_is_stalled(bool is_oob);
 
-static inline void stall_oob(void) { evlsim_stall_stage(true); }
+static inline void stall_oob(void) { (void)evlsim_stall_stage(true); }
 static inline void unstall_oob(void) { evlsim_unstall_stage(true); }
 static inline bool oob_irqs_disabled(void) { return evlsim_is_stalled(true); }
-static inline void oob_irq_disable(void) { evlsim_stall_stage(true); }
+static inline void oob_irq_disable(void) { (void)evlsim_stall_stage(true); }
 static inline void oob_irq_enable(void) { evlsim_unstall_stage(true); }
-static inline void hard_local_irq_disable(void) { evlsim_stall_stage(true); }
+static inline void hard_local_irq_disable(void) { (void)evlsim_stall_stage(true); }
 static inline void hard_local_irq_enable(void) { evlsim_unstall_stage(true); }
-static inline void local_irq_disable(void) { evlsim_stall_stage(false); }
+static inline void local_irq_disable(void) { (void)evlsim_stall_stage(false); }
 static inline void local_irq_enable(void) { evlsim_unstall_stage(false); }
-static inline unsigned long evlsim_save_stall(bool is_oob) {
-  unsigned long before = evlsim_is_stalled(is_oob) ? 1ul : 0ul;
-  evlsim_stall_stage(is_oob);
-  return before;
-}
+static inline unsigned long evlsim_save_stall(bool is_oob) { return evlsim_stall_stage(is_oob) ? 1ul : 0ul; }
 static inline void evlsim_restore_stall(bool is_oob, unsigned long before) {
   if (before == 0) evlsim_unstall_stage(is_oob);
 }
