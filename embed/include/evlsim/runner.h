@@ -59,7 +59,9 @@ typedef struct evlsim_explored {
 /*
  * Runs the body once, with no event of a source, and reports how it failed if it did: 0 or 1, for main. evlsim_explore
  * runs it again and again, each time with another list of events, fewest first. `limits` may be null.
- * evlsim_replay runs it with one list, as a failure names it: "line 5 @ 31, clock @ 40".
+ * evlsim_replay runs it with one list, as a failure names it: "line 5 @ 31, clock @ 40". Where a line has more than one
+ * source, that has the name of its device, as line 5 [frame_is_bad] @ 31, or, if that is none or another has it too, its
+ * place among them, as line 5 [2] @ 31.
  *
  * With EVLSIM_REPLAY=".." in the environment, evlsim_explore replays that, with its limits of a run (history, steps,
  * until). EVLSIM_FOLDER is where the scenario and the picture of a failure go, else the current one.
@@ -79,9 +81,12 @@ const char *evlsim_outcome(uint32_t place, uint64_t *lists, const char **choices
 /*
  * Sources of events, which may come at any moment from here on, each up to `times` times in a run: an interrupt on a
  * line, before which `device` is called, if it isn't null, to do what the hardware does; the clock's move to the next
- * due date while threads compute; another in-band thread's turn.
+ * due date while threads compute; another in-band thread's turn, unless interrupts are off. A call with the same line,
+ * device and `it` as one before adds its times to that source. The macro hands on how the device is written.
  */
 void evlsim_may_arrive(unsigned line, unsigned times, void (*device)(void *it), void *it);
+void evlsim_may_arrive_as(const char *arguments, unsigned line, unsigned times, void (*device)(void *it), void *it);
+#define evlsim_may_arrive(line, times, ...) evlsim_may_arrive_as(#__VA_ARGS__, line, times, __VA_ARGS__)
 void evlsim_may_pass(unsigned times);
 void evlsim_may_switch(unsigned times);
 

@@ -42,7 +42,7 @@ static void conclude(enum ending ending) {
 static void take_choices(uint32_t at) {
   kept->choice_count = kept->node[at].depth;
   for (unsigned each = kept->choice_count; each > 0; each--) {
-    struct choice choice = {kept->node[at].step, kept->node[at].source};
+    struct choice choice = {kept->node[at].step, kept->node[at].source, ""};
     kept->choices[each - 1] = choice;
     at = kept->node[at].parent;
   }
@@ -109,24 +109,31 @@ static void print_explored(void) {
   fputc('\n', stderr);
 }
 
-/* The lists of events as they are written: "line 5 @ 31, clock @ 40". */
+/* An event as it is written: how long that is, or 0. */
+static size_t read_choice(const char *text, struct choice *choice) {
+  unsigned line = 0, step = 0;
+  int length = 0;
+  char name[NAME_BYTES] = "";
+  uint32_t kind = A_LINE;
+  if (sscanf(text, "line %u [%31[^]]] @ %u%n", &line, name, &step, &length) != 3 || length == 0) {
+    name[0] = 0;
+    if (sscanf(text, "line %u @ %u%n", &line, &step, &length) != 2 || length == 0) kind = THE_CLOCK;
+  }
+  if (kind == THE_CLOCK && (sscanf(text, "clock @ %u%n", &step, &length) != 1 || length == 0)) kind = A_TURN;
+  if (kind == A_TURN && (sscanf(text, "turn @ %u%n", &step, &length) != 1 || length == 0)) return 0;
+  struct choice read = {step, IS_NAMED | kind << 16 | (kind == A_LINE ? line : 0), ""};
+  memcpy(read.name, name, sizeof name);
+  *choice = read;
+  return (size_t)length;
+}
+
+/* The list of events as it is written: "line 5 @ 31, clock @ 40". */
 static bool read_choices(const char *text) {
   kept->choice_count = 0;
   while (*text != 0 && kept->choice_count < CHOICES) {
-    unsigned line = 0, step = 0;
-    int length = 0;
-    uint32_t source = UINT32_MAX;
-    if (sscanf(text, "line %u @ %u%n", &line, &step, &length) == 2 && length > 0) {
-      source = line;
-    } else if (sscanf(text, "clock @ %u%n", &step, &length) == 1 && length > 0) {
-      source = 1u << 16;
-    } else if (sscanf(text, "turn @ %u%n", &step, &length) == 1 && length > 0) {
-      source = 2u << 16;
-    } else {
-      return false;
-    }
-    struct choice choice = {step, source | IS_NAMED};
-    kept->choices[kept->choice_count++] = choice;
+    size_t length = read_choice(text, &kept->choices[kept->choice_count]);
+    if (length == 0) return false;
+    kept->choice_count++;
     text += length;
     text += strspn(text, ", ");
   }
@@ -162,7 +169,8 @@ static int replay(void (*body)(void), const char *name, const char *choices, con
     if (!kept->explored.failed) fprintf(stderr, "%s passed with %s\n", name, choices);
   } else {
     kept->explored.failed = true;
-    fprintf(stderr, "evlsim: no list of events, as \"line 5 @ 10, clock @ 18, turn @ 19\": %s\n", choices);
+    fprintf(stderr, "evlsim: no list of events, as \"line 5 @ 10, line 5 [name] @ 12, clock @ 18, turn @ 19\": %s\n",
+            choices);
   }
   return end_exploring(explored);
 }

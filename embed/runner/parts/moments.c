@@ -71,14 +71,57 @@ static void offer(uint32_t step, bool is_relevant_step) {
   kept->candidate[kept->candidates++] = noted;
 }
 
+/* What a source is, as a choice has it that was read. */
+static uint32_t kind_of(const struct source *source) { return (uint32_t)source->kind << 16 | source->line; }
+
+/* Which one of its line's sources it is, from 1 on. */
+static unsigned place_of(unsigned number) {
+  unsigned place = 0;
+  for (unsigned each = 0; each <= number; each++) place += kind_of(&kept->source[each]) == kind_of(&kept->source[number]);
+  return place;
+}
+
+/* Whether a source is meant by a name, or by its place in the place of a name; by none each of its line is. */
+static bool is_meant(unsigned number, const char *name) {
+  char *end;
+  unsigned long place = strtoul(name, &end, 10);
+  if (*name == 0) return true;
+  return *end == 0 ? place == place_of(number) : strcmp(name, kept->source[number].name) == 0;
+}
+
+/* The sources that a kind and a name mean: how many, and the first. */
+static unsigned sources_meant(uint32_t kind, const char *name, unsigned *first) {
+  unsigned count = 0;
+  for (unsigned each = kept->sources; each > 0; each--) {
+    if (kind_of(&kept->source[each - 1]) != kind || !is_meant(each - 1, name)) continue;
+    *first = each - 1;
+    count++;
+  }
+  return count;
+}
+
+/* What tells a source from the others of its line: nothing if there are none, its name, or its place. */
+static void write_name(char *name, unsigned number) {
+  const struct source *source = &kept->source[number];
+  unsigned first = 0;
+  bool is_alone = sources_meant(kind_of(source), "", &first) == 1;
+  bool is_known = source->name[0] != 0 && sources_meant(kind_of(source), source->name, &first) == 1;
+  snprintf(name, NAME_BYTES, "%s", is_alone ? "" : source->name);
+  if (!is_alone && !is_known) snprintf(name, NAME_BYTES, "%u", place_of(number));
+}
+
 /* The source of a choice: a number, or, where a list was read, what it is. */
 static unsigned source_of(struct choice *choice) {
+  unsigned first = 0, line = choice->source & 0xffff;
   if ((choice->source & IS_NAMED) == 0) return choice->source;
-  for (unsigned each = 0; each < run->sources; each++) {
-    const struct source *source = &run->source[each];
-    if (((unsigned)source->kind << 16 | source->line) == (choice->source & ~IS_NAMED)) return choice->source = each;
+  unsigned count = sources_meant(choice->source & ~IS_NAMED, choice->name, &first);
+  if (count == 0) fail("an event is chosen that no source has");
+  if (count > 1) {
+    char name[NAME_BYTES];
+    write_name(name, first);
+    fail("line %u has %u sources here: name one, as line %u [%s] @ %u", line, count, line, name, (unsigned)choice->step);
   }
-  fail("an event is chosen that no source has");
+  return choice->source = first;
 }
 
 /* The next choice, if it is for this step. */
@@ -126,21 +169,46 @@ static void see_read(const void *at, size_t size) {
   if (has_hooks) see_access(at, size, false, NULL);
 }
 
-/* The bench's side: sources, rest, outcomes. */
-static void add_source(enum source_kind kind, unsigned line, unsigned times, void (*device)(void *it), void *it) {
+/* The bench's side: sources, rest, outcomes. What is a source already has its further events. */
+static void add_source(struct source source) {
+  unsigned each = 0;
   expect_run("a source of events");
-  if (run->sources >= SOURCES) fail("there are more than %d sources", SOURCES);
-  struct source source = {kind, (uint16_t)line, times, device, it};
-  run->source[run->sources] = kept->source[run->sources] = source;
-  run->sources++;
   run->sources_open = true;
+  for (; each < run->sources; each++) {
+    const struct source *known = &run->source[each];
+    if (kind_of(known) == kind_of(&source) && known->device == source.device && known->it == source.it) break;
+  }
+  if (each >= SOURCES) fail("there are more than %d sources", SOURCES);
+  if (each < run->sources) source.left += run->source[each].left;
+  run->source[each] = kept->source[each] = source;
+  if (each == run->sources) kept->sources = ++run->sources;
 }
 
-void evlsim_may_arrive(unsigned line, unsigned times, void (*device)(void *it), void *it) {
-  add_source(A_LINE, line, times, device, it);
+/* Takes the name of a device from the arguments that a test has written; what is no name is left out. */
+static void take_name(struct source *source, const char *arguments) {
+  static const char letters[] = "abcdefghijklmnopqrstuvwxyzABCDEFGHIJKLMNOPQRSTUVWXYZ0123456789_:";
+  const char *name = arguments + strspn(arguments, "& ");
+  size_t length = strspn(name, letters), end = length + strspn(name + length, " ");
+  if (name[end] != ',' || length == 0 || length >= NAME_BYTES || (*name >= '0' && *name <= '9')) return;
+  memcpy(source->name, name, length);
 }
-void evlsim_may_pass(unsigned times) { add_source(THE_CLOCK, 0, times, NULL, NULL); }
-void evlsim_may_switch(unsigned times) { add_source(A_TURN, 0, times, NULL, NULL); }
+
+void evlsim_may_arrive_as(const char *arguments, unsigned line, unsigned times, void (*device)(void *it), void *it) {
+  struct source source = {A_LINE, (uint16_t)line, times, device, it, ""};
+  take_name(&source, arguments);
+  add_source(source);
+}
+void (evlsim_may_arrive)(unsigned line, unsigned times, void (*device)(void *it), void *it) {
+  evlsim_may_arrive_as("", line, times, device, it);
+}
+void evlsim_may_pass(unsigned times) {
+  struct source source = {THE_CLOCK, 0, times, NULL, NULL, ""};
+  add_source(source);
+}
+void evlsim_may_switch(unsigned times) {
+  struct source source = {A_TURN, 0, times, NULL, NULL, ""};
+  add_source(source);
+}
 
 void evlsim_settle(void) {
   expect_run("evlsim_settle");

@@ -82,6 +82,7 @@ static void begin_run(void) {
   run->sleepers = -1;
   run->inband = BODY;
   kept->candidates = 0;
+  kept->sources = 0;
   run->is_on = true;
   (void)make_task(be_idle, NULL, "idle");
   (void)make_task(run_body, NULL, "body");

@@ -13,7 +13,8 @@ enum {
   STAXES = 16,
   SOURCES = 16,
   CHOICES = 64,
-  CHOICES_BYTES = 2048, /* of a list of so many events, as text */
+  NAME_BYTES = 32,      /* of a source's name, with its end */
+  CHOICES_BYTES = 4096, /* of a list of so many events, as text */
   QUEUE = 1 << 12,
   CANDIDATES = 1 << 20,
   NODES = 1 << 24,
@@ -126,6 +127,7 @@ struct source {
   unsigned left;
   void (*device)(void *);
   void *it;
+  char name[NAME_BYTES]; /* what its test calls the device; empty where that is no name */
 };
 
 /* A moment at which a source's event may come, and which sources could have one. */
@@ -136,6 +138,7 @@ struct candidate {
 struct choice {
   uint32_t step;
   uint32_t source;
+  char name[NAME_BYTES]; /* of its source, where a list was read that has it */
 };
 /* Where a chosen event came. */
 struct place {
@@ -227,6 +230,7 @@ struct kept {
   struct choice choices[CHOICES];
   unsigned choice_count;
   struct source source[SOURCES]; /* those of the last run, by which events are named */
+  unsigned sources;
   bool offers; /* whether candidates are noted */
   bool has_grown;
   enum ending ending;

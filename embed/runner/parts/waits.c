@@ -9,7 +9,7 @@ struct transfer {
   void *out;
   size_t room;
 };
-static const struct transfer nothing = {NULL, 0, NULL, 0};
+static const struct transfer no_bytes = {NULL, 0, NULL, 0};
 
 /* Waits for what `begin` begins, and returns what ended the wait. There is no moment before it begins, so what its
    caller saw since the last one is still so. */
@@ -38,7 +38,7 @@ static evlsim_answer wait_in_core(evlsim_call begin, uint64_t date, struct trans
   return wait_at_once(begin, date, with);
 }
 
-static evlsim_answer simple_wait(evlsim_call begin, uint64_t date) { return wait_in_core(begin, date, nothing); }
+static evlsim_answer simple_wait(evlsim_call begin, uint64_t date) { return wait_in_core(begin, date, no_bytes); }
 
 /* Notes a new element: its place, or the run begins again, since the board lacks it. `is_same` tells of a known one. */
 static int note_element(unsigned *made, unsigned *known, unsigned opened, unsigned most, bool is_same) {
