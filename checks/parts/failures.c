@@ -195,6 +195,12 @@ static void many_events(void) {
 #define EVENTS(ten) EVENT(ten##1) EVENT(ten##2) EVENT(ten##3) EVENT(ten##4) EVENT(ten##5)
 #define MANY "line 1000 @ 300" EVENTS(30) EVENTS(31) EVENTS(32) EVENT(333)
 
+/* An exploration within a run. */
+static void nested(void) {
+  begin();
+  (void)evlsim_explore(begin, NULL);
+}
+
 /* What only UndefinedBehaviorSanitizer sees. */
 static void undefined(void) {
   static volatile int most = 0x7fffffff;
@@ -225,6 +231,7 @@ static const struct {
              {"turn_not_reached", listed, "turn @ 9000"},
              {"no_source", listed, "clock @ 500"},
              {"many", many_events, MANY},
+             {"nested", nested, ""},
              {"undefined", undefined, ""}};
 
 int main(int count, char **words) {

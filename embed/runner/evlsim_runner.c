@@ -70,8 +70,10 @@ static ssize_t read_timer(int number, void *bytes, size_t count);
 static bool pthread_mutex_is_free(const void *mutex);
 __attribute__((noreturn)) static void fail_stuck(void);
 static void note_outcome(enum ending ending);
+static irqreturn_t do_works(int irq, void *device);
 
 #include "parts/coroutines.c"
+#include "parts/seen.c"
 #include "parts/machine.c"
 #include "parts/schedule.c"
 #include "parts/errors.c"

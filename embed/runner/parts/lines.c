@@ -75,13 +75,16 @@ void evlsim_unstall_stage(bool is_oob) {
 bool evlsim_is_stalled(bool is_oob) { return run->is_stalled[is_oob]; }
 
 /* In-band work: a line of the in-band stage, after all that a driver would request, does what is pending. */
-static irqreturn_t do_works(int irq, void *device) {
+CALLER static irqreturn_t do_works(int irq, void *device) {
   (void)irq, (void)device;
   while (run->first_work != NULL) {
     struct evl_work *work = run->first_work;
     run->first_work = work->next;
     work->is_pending = false;
-    (void)work->handler(work);
+    run->is_seen = false;
+    int (*handler)(struct evl_work *) = work->handler;
+    (void)handler(work);
+    if (!run->is_seen) note_unseen("in-band work", -1, &handler);
   }
   return IRQ_HANDLED;
 }

@@ -116,10 +116,6 @@ static bool in_handler(void) { return run->in_oob_handler || tasks[run->now].in_
 /* Who makes a call: the machine, where a handler does. */
 static int caller(void) { return in_handler() ? IDLE : run->now; }
 
-static void note_unseen(const char *what, int number) {
-  if (has_hooks && kept->unseen[0] == 0) snprintf(kept->unseen, sizeof kept->unseen, "%s%d", what, number);
-}
-
 CALLER static void call_handler(const struct handler *handler) {
   char here;
   const char *before = run->below;
@@ -130,7 +126,8 @@ CALLER static void call_handler(const struct handler *handler) {
   if (handler->is_used && handler->is_timer) fire_timer(handler->element);
   if (handler->is_used && handler->handle != NULL) {
     (void)handler->handle(handler->element, handler->device);
-    if (!run->is_seen) note_unseen("the handler of line ", handler->element);
+    bool is_runners = handler->handle == do_works;
+    if (!run->is_seen && !is_runners) note_unseen("the handler of line ", handler->element, &handler->handle);
   }
   run->is_seen = was_seen;
   run->below = before;

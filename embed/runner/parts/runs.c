@@ -116,9 +116,7 @@ static void finish_run(enum ending ending, void (*conclude)(enum ending)) {
     ending = FAILED;
   }
   kept->ending = ending;
-  for (int each = BODY; each < (int)run->made.tasks; each++) {
-    if (tasks[each].has_begun && !tasks[each].is_seen) note_unseen("T", each);
-  }
+  note_unseen_threads();
   if (ending != BEGINS_AGAIN) conclude(ending);
   end_kernel();
 }
@@ -187,6 +185,9 @@ static void take_limits(const evlsim_limits *limits) {
 }
 
 static void begin(void (*body)(void), const char *name, const evlsim_limits *limits) {
+  if (run != NULL && run->is_on) {
+    fail("evlsim_explore, evlsim_test or evlsim_replay of %s is called within a run: call them one after another", name);
+  }
   if (kept != NULL) munmap(kept, sizeof *kept);
   bool is_first = run == NULL;
   kept = pages(sizeof *kept, MAP_SHARED);
