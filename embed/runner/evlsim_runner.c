@@ -13,6 +13,7 @@
 #include <evl/stax.h>
 #include <evl/work.h>
 #include <evlsim/runner.h>
+#include <fcntl.h>
 #include <linux/interrupt.h>
 #include <linux/irq_pipeline.h>
 #include <linux/irqstage.h>
@@ -73,6 +74,7 @@ static void note_outcome(enum ending ending);
 static irqreturn_t do_works(int irq, void *device);
 
 #include "parts/coroutines.c"
+#include "parts/output.c"
 #include "parts/seen.c"
 #include "parts/machine.c"
 #include "parts/schedule.c"

@@ -41,6 +41,7 @@ typedef struct evlsim_limits {
   bool whole;        /* each moment is tried, also those that can't make a difference */
   bool forks;        /* each run in a process of its own; with AddressSanitizer it is so always */
   bool quiet;        /* nothing is printed */
+  bool prints;       /* what driver and test print goes to standard output in each run: else that of the failing run */
 } evlsim_limits;
 
 /* What came of an exploration. */

@@ -67,6 +67,7 @@ static void begin_round(void) {
   struct node root = {0, 0, 0, 0};
   kept->node[0] = root;
   kept->nodes = 1;
+  kept->at = 0;
   kept->outcomes = 0;
   kept->has_grown = false;
   kept->explored.lists = 0;
@@ -80,20 +81,50 @@ static bool has_to_begin_again(uint32_t done) {
   return is_level && kept->has_grown && !kept->limits.whole;
 }
 
+/* Runs the next list, and notes those that it leads to. */
+static void explore_next(void) {
+  take_choices(kept->at);
+  kept->explored.lists++;
+  run_whole(conclude);
+  if (!add_nodes(kept->at)) kept->explored.is_cut = true;
+  kept->at++;
+  if (has_to_begin_again(kept->at)) begin_round();
+}
+
+/* Runs one list after another, until all are run or this process's own memory has grown too much. */
+static void explore_part(void) {
+  size_t before = own_memory();
+  for (uint32_t runs = 1; kept->at < kept->nodes && (kept->limits.goes_on || !kept->explored.failed); runs++) {
+    kept->is_large = runs % 16 == 0 && own_memory() > before + MOST_GROWTH;
+    kept->explored.is_cut |= kept->explored.runs >= kept->limits.runs;
+    if (kept->is_large || kept->explored.runs >= kept->limits.runs) return;
+    explore_next();
+  }
+}
+
+/* A part in a process of its own, so that the memory which its runs don't give back goes with it. */
+static void explore_apart(void) {
+  int status = 0;
+  fflush(NULL);
+  kept->is_large = false;
+  pid_t child = fork();
+  if (child == 0) {
+    explore_part();
+    fflush(NULL);
+    _exit(0);
+  }
+  if (child < 0 || waitpid(child, &status, 0) != child) {
+    fprintf(stderr, "evlsim: %s can't go on in another process\n", kept->name);
+    exit(EXIT_FAILURE);
+  }
+  if (WIFSIGNALED(status)) signal(WTERMSIG(status), SIG_DFL), raise(WTERMSIG(status));
+  if (status != 0) exit(EXIT_FAILURE);
+}
+
 static void explore_all(void) {
   begin_round();
-  for (uint32_t at = 0; at < kept->nodes && (kept->limits.goes_on || !kept->explored.failed);) {
-    if (kept->explored.runs >= kept->limits.runs) {
-      kept->explored.is_cut = true;
-      return;
-    }
-    take_choices(at);
-    kept->explored.lists++;
-    run_whole(conclude);
-    if (!add_nodes(at)) kept->explored.is_cut = true;
-    at++;
-    if (has_to_begin_again(at)) begin_round(), at = 0;
-  }
+  explore_part();
+  while (kept->is_large) explore_apart();
 }
 
 static void print_explored(void) {
@@ -142,6 +173,7 @@ static bool read_choices(const char *text) {
 
 /* The variables are again as before: what is to outlast a run is EVLSIM_KEPT, or an outcome. */
 static int end_exploring(evlsim_explored *explored) {
+  restore_output();
   restore_variables();
   kept->explored.outcomes = kept->outcomes;
   if (kept->unseen[0] != 0) kept->explored.sees_accesses = false;
@@ -184,6 +216,7 @@ int evlsim_explore_as(void (*body)(void), const char *name, const evlsim_limits 
   if (replayed != NULL) return replay(body, name, replayed, limits, explored);
   begin(body, name, limits);
   kept->offers = true;
+  keep_output();
   explore_all();
   print_explored();
   return end_exploring(explored);

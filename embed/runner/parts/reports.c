@@ -233,6 +233,7 @@ static bool has_own_limits(void) {
 static void report_failure(void) {
   char choices[CHOICES_BYTES];
   write_choices(choices, sizeof choices);
+  print_output();
   fprintf(stderr, "%s FAILED: %s\n", kept->name, run->why);
   if (run->choices_made > 0) fprintf(stderr, "events:\n");
   print_events();

@@ -16,6 +16,7 @@ enum {
   NAME_BYTES = 32,      /* of a source's name, with its end */
   CHOICES_BYTES = 4096, /* of a list of so many events, as text */
   QUEUE = 1 << 12,
+  MOST_GROWTH = 1 << 28, /* bytes by which a process may grow in an exploration */
   CANDIDATES = 1 << 20,
   NODES = 1 << 24,
   TOUCHED = 1 << 16,
@@ -234,6 +235,10 @@ struct kept {
   bool offers; /* whether candidates are noted */
   bool has_grown;
   enum ending ending;
+  uint32_t at;   /* the node that is run next */
+  bool is_large; /* whether this process ended its part of the exploration, since its memory has grown */
+  int output; /* the program's standard output, while that of runs is kept */
+  bool is_output_kept;
   char unseen[64]; /* whose loads and stores aren't seen, though those of other code are */
   uint32_t candidates;
   uint32_t nodes;
