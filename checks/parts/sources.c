@@ -74,7 +74,7 @@ static bool is_replayed(void (*body)(void), const char *name, const char *list) 
   }
   bool fails = evlsim_replay_as(body, name, found) != 0;
   if (evlsim_outcome(0, NULL, &choices) != NULL) snprintf(again, sizeof again, "%s", choices);
-  return holds(strcmp(found, list) == 0, name, found) & holds(fails, "the list fails again", found) &
+  return holds(strcmp(found, list) == 0, name, found) && holds(fails, "the list fails again", found) &&
          holds(strcmp(found, again) == 0, "the list is told again", again);
 }
 
@@ -88,16 +88,16 @@ static const char *outcome_of(const char *list) {
 int main(void) {
   const char *unnamed = "FAILED: line 5 has 2 sources here: name one, as line 5 [is_good] @ 2";
   bool well = is_replayed(two_devices, "two_devices", "line 5 [is_bad] @ 2");
-  well &= is_replayed(one_device, "one_device", "line 5 [2] @ 2");
-  well &= is_replayed(one_source, "one_source", "line 5 @ 2, line 5 @ 3");
-  well &= is_replayed(other_lines, "other_lines", "line 5 @ 2");
+  well = well && is_replayed(one_device, "one_device", "line 5 [2] @ 2");
+  well = well && is_replayed(one_source, "one_source", "line 5 @ 2, line 5 @ 3");
+  well = well && is_replayed(other_lines, "other_lines", "line 5 @ 2");
   const char *good_alone = outcome_of("line 5 [is_good] @ 2");
-  well &= holds(strcmp(good_alone, "") == 0, "the other source passes", good_alone);
+  well = well && holds(strcmp(good_alone, "") == 0, "the other source passes", good_alone);
   const char *by_place = outcome_of("line 5 [1] @ 2");
-  well &= holds(strcmp(by_place, "") == 0, "a place is a name", by_place);
+  well = well && holds(strcmp(by_place, "") == 0, "a place is a name", by_place);
   const char *ambiguous = outcome_of("line 5 @ 2");
-  well &= holds(strcmp(ambiguous, unnamed) == 0, "a line of two sources needs a name", ambiguous);
+  well = well && holds(strcmp(ambiguous, unnamed) == 0, "a line of two sources needs a name", ambiguous);
   const char *unknown = outcome_of("line 5 [is_worse] @ 2");
-  well &= holds(strcmp(unknown, "FAILED: an event is chosen that no source has") == 0, "an unknown name", unknown);
+  well = well && holds(strcmp(unknown, "FAILED: an event is chosen that no source has") == 0, "an unknown name", unknown);
   return well ? 0 : 1;
 }

@@ -56,6 +56,9 @@ pthread_t evlsim_pthread_self(void);
 int evlsim_pthread_setschedparam(pthread_t thread, int policy, const struct sched_param *param);
 int evlsim_pthread_setname_np(pthread_t thread, const char *name);
 int evlsim_pthread_mutex_lock(pthread_mutex_t *mutex);
+int evlsim_pthread_mutex_timedlock(pthread_mutex_t *mutex, const struct timespec *date);
+int evlsim_pthread_mutex_trylock(pthread_mutex_t *mutex);
+int evlsim_pthread_mutex_unlock(pthread_mutex_t *mutex);
 
 #include "parts/state.c"
 
@@ -64,11 +67,12 @@ __attribute__((noreturn)) static void finish_task(void *value);
 static void yield_if_due(void);
 static void fire_timer(int number);
 static void at_call(void);
+static void mend_torn(void);
 static void at_idle(void);
 static void see_read(const void *at, size_t size);
 static void see_write(const void *at, size_t size);
 static ssize_t read_timer(int number, void *bytes, size_t count);
-static bool pthread_mutex_is_free(const void *mutex);
+static bool is_lock_free(const void *mutex);
 __attribute__((noreturn)) static void fail_stuck(void);
 static void note_outcome(enum ending ending);
 static irqreturn_t do_works(int irq, void *device);
@@ -83,10 +87,12 @@ static irqreturn_t do_works(int irq, void *device);
 #include "parts/waits.c"
 #include "parts/buffers.c"
 #include "parts/locks.c"
+#include "parts/inband_locks.c"
 #include "parts/clocks.c"
 #include "parts/lines.c"
 #include "parts/footprints.c"
 #include "parts/moments.c"
+#include "parts/copies.c"
 #include "parts/memory.c"
 #include "parts/reports.c"
 #include "parts/runs.c"

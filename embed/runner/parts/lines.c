@@ -54,11 +54,12 @@ void evlsim_arrive(unsigned line) {
 
 /* Stalls a stage, and returns whether it was stalled. What is noted changes with the kernel: at the moment before, the
    stage isn't stalled yet. */
-bool evlsim_stall_stage(bool is_oob) {
+bool evlsim_stall_stage(bool is_oob, const char *file, int line) {
   expect_run("a stall");
   at_call();
-  bool was_stalled = run->is_stalled[is_oob];
-  run->is_stalled[is_oob] = true;
+  bool was_stalled = run->stalls[is_oob].is_on;
+  struct stall stall = {true, in_handler() ? -1 : run->now, file, line};
+  if (!was_stalled) run->stalls[is_oob] = stall;
   (void)do_call(caller(), evlsim_call_stall(is_oob ? EVLSIM_OOB : EVLSIM_INBAND));
   go_on();
   return was_stalled;
@@ -67,12 +68,15 @@ bool evlsim_stall_stage(bool is_oob) {
 void evlsim_unstall_stage(bool is_oob) {
   expect_run("an unstall");
   at_call();
-  run->is_stalled[is_oob] = false;
+  run->stalls[is_oob].is_on = false;
   (void)do_call(caller(), evlsim_call_unstall(is_oob ? EVLSIM_OOB : EVLSIM_INBAND));
   go_on();
 }
 
-bool evlsim_is_stalled(bool is_oob) { return run->is_stalled[is_oob]; }
+bool evlsim_is_stalled(bool is_oob) {
+  expect_run("a look at a stall");
+  return run->stalls[is_oob].is_on;
+}
 
 /* In-band work: a line of the in-band stage, after all that a driver would request, does what is pending. */
 CALLER static irqreturn_t do_works(int irq, void *device) {

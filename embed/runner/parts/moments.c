@@ -6,7 +6,7 @@
 /* Whether another in-band thread may go on in place of the one that runs: not while interrupts are off. */
 static bool can_switch(void) {
   if (tasks[run->now].is_oob || in_handler() || run->now == IDLE) return false;
-  if (run->is_stalled[false] || run->is_stalled[true]) return false;
+  if (run->stalls[false].is_on || run->stalls[true].is_on) return false;
   int next = next_inband(run->now + 1);
   return next != run->now && next != IDLE;
 }
@@ -129,10 +129,18 @@ static bool is_chosen(uint32_t step) {
   return run->choices_made < kept->choice_count && kept->choices[run->choices_made].step == step;
 }
 
+/* An access of the driver's code: of so many bytes, and whether it is a further word of a copy. */
+struct access {
+  const char *address;
+  size_t size;
+  bool is_write, is_further;
+  const void *place;
+};
+
 /* A moment of the code that runs, before an access (with a size) or a call. */
-static void at_moment(const char *address, size_t size, bool is_write, const void *place) {
+static void at_moment(struct access access) {
   while (is_chosen(++run->step)) {
-    struct place noted = {place, run->now, run->entries};
+    struct place noted = {access.place, run->now, run->entries};
     kept->place[run->choices_made] = noted;
     unsigned source = source_of(&kept->choices[run->choices_made++]);
     if (!run->sources_open || (ready_sources() >> source & 1) == 0) {
@@ -142,23 +150,42 @@ static void at_moment(const char *address, size_t size, bool is_write, const voi
   }
   if (run->step > kept->limits.steps) fail("T%d goes on for ever: %u steps", run->now, (unsigned)run->step);
   if (!kept->offers || !run->sources_open || run->choices_made < kept->choice_count) return;
-  offer(run->step, size == 0 || is_relevant(address, size, is_write));
+  bool is_call = access.size == 0;
+  offer(run->step, is_call || is_relevant(access.address, access.size, access.is_write, access.is_further));
+}
+
+/* Gives a struct that was read word by word what belongs there. */
+static void mend_torn(void) {
+  struct torn *torn = run == NULL ? NULL : &kept->torn;
+  if (torn == NULL || torn->place == NULL) return;
+  memcpy(torn->place, torn->own, torn->size);
+  torn->place = NULL;
 }
 
 /* Before a call, and when all tasks wait. An out-of-band handler has no moments: nothing comes while it runs. */
 static void at_call(void) {
-  if (!run->in_oob_handler) at_moment(NULL, 0, false, NULL);
+  static const struct access call = {NULL, 0, false, false, NULL};
+  mend_torn();
+  if (!run->in_oob_handler) at_moment(call);
 }
-static void at_idle(void) { at_moment(NULL, 0, false, NULL); }
+static void at_idle(void) {
+  static const struct access call = {NULL, 0, false, false, NULL};
+  at_moment(call);
+}
+
+static void see(struct access access) {
+  if (run == NULL || !run->is_on || access.size == 0) return;
+  mend_torn();
+  bool is_caused = in_handler() || run->paused > 0;
+  bool is_stable = is_variable(access.address) || is_on_a_stack(access.address);
+  if (is_caused && is_stable && !is_local(access.address)) note_access(access.address, access.size, access.is_write);
+  if (!run->in_oob_handler) at_moment(access);
+}
 
 /* An access of the driver's code. */
 static void see_access(const void *at, size_t size, bool is_write, const void *place) {
-  const char *address = at;
-  if (run == NULL || !run->is_on || size == 0) return;
-  bool is_caused = in_handler() || run->paused > 0;
-  bool is_stable = is_variable(address) || is_on_a_stack(address);
-  if (is_caused && is_stable && !is_local(address)) note_access(address, size, is_write);
-  if (!run->in_oob_handler) at_moment(address, size, is_write, place);
+  struct access access = {at, size, is_write, false, place};
+  see(access);
 }
 
 /* What the runner itself reads and writes for the driver. */

@@ -67,7 +67,7 @@ static void add_wait(unsigned number) {
 static void fail_stuck(void) {
   bool is_late = next_due() != NEVER;
   snprintf(run->why, sizeof run->why, "%s", is_late ? "the last date is reached" : "stuck: all threads wait for good");
-  if (run->is_stalled[1]) {
+  if (run->stalls[true].is_on) {
     snprintf(run->why + strlen(run->why), sizeof run->why - strlen(run->why), "\n  the out-of-band stage is stalled");
   }
   for (unsigned each = BODY; each < run->made.tasks; each++) {

@@ -83,6 +83,7 @@ static void begin_run(void) {
   run->inband = BODY;
   kept->candidates = 0;
   kept->sources = 0;
+  kept->torn.place = NULL;
   drop_output();
   run->is_on = true;
   (void)make_task(be_idle, NULL, "idle");

@@ -16,6 +16,7 @@ enum {
   NAME_BYTES = 32,      /* of a source's name, with its end */
   CHOICES_BYTES = 4096, /* of a list of so many events, as text */
   QUEUE = 1 << 12,
+  MOST_TORN = 4096, /* bytes of a struct of which each word has a moment */
   MOST_GROWTH = 1 << 28, /* bytes by which a process may grow in an exploration */
   CANDIDATES = 1 << 20,
   NODES = 1 << 24,
@@ -64,6 +65,7 @@ struct task {
   int target; /* the element or the task that it waits for */
   unsigned needs;
   unsigned held; /* how many mutexes and staxes it has */
+  unsigned locks; /* how many in-band mutexes it has */
   uint32_t staxes;
   uint16_t group;
   uint8_t policy;
@@ -120,6 +122,14 @@ struct gate {
   unsigned waiting;
 };
 
+/* Who has stalled a stage, and where; a handler's stall is nobody's, since it ends with the handler. */
+struct stall {
+  bool is_on;
+  int by;
+  const char *file;
+  int line;
+};
+
 /* What a source is. */
 enum source_kind { A_LINE, THE_CLOCK, A_TURN };
 struct source {
@@ -146,6 +156,12 @@ struct place {
   const void *code;
   int task;
   unsigned entries;
+};
+/* A struct that is copied behind a step, in which each word is for that long as it was when it was read. */
+struct torn {
+  char *place;
+  size_t size;
+  char own[MOST_TORN]; /* what belongs there */
 };
 struct node {
   uint32_t parent;
@@ -175,7 +191,7 @@ struct run {
   bool is_reported; /* whether a sanitizer has reported something and went on */
   bool in_oob_handler;
   bool is_seen; /* whether the code of the handler that runs calls in */
-  bool is_stalled[2];
+  struct stall stalls[2]; /* of the in-band stage and of the out-of-band one */
   enum ending ending;
   int now;           /* the task that runs */
   int inband;        /* the task that has the in-band stage */
@@ -244,6 +260,7 @@ struct kept {
   uint32_t nodes;
   uint32_t touches;
   uint32_t outcomes;
+  struct torn torn;
   struct place place[CHOICES];
   struct touched touched[TOUCHED];
   struct outcome outcome[OUTCOMES];

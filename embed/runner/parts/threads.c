@@ -236,25 +236,6 @@ int evlsim_pthread_setname_np(pthread_t thread, const char *name) {
   return 0;
 }
 
-/* An in-band lock: nobody else runs between its look and its taking. */
-static bool pthread_mutex_is_free(const void *mutex) {
-  if (pthread_mutex_trylock((pthread_mutex_t *)(uintptr_t)mutex) != 0) return false;
-  pthread_mutex_unlock((pthread_mutex_t *)(uintptr_t)mutex);
-  return true;
-}
-
-int evlsim_pthread_mutex_lock(pthread_mutex_t *mutex) {
-  if (run == NULL || !run->is_on) return pthread_mutex_lock(mutex);
-  go_inband();
-  at_call();
-  while (pthread_mutex_trylock(mutex) != 0) {
-    tasks[run->now].awaits = A_LOCK;
-    tasks[run->now].wanted = mutex;
-    wait_here();
-  }
-  return 0;
-}
-
 CALLER static void *run_simply(void *it) {
   tasks[run->now].simple(it);
   return NULL;
