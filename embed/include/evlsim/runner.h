@@ -36,11 +36,12 @@ typedef struct evlsim_limits {
   uint64_t runs;     /* how many runs are made at most: 1,000,000 */
   uint32_t history;  /* how many entries the kernel's history may have: 10,000 */
   uint32_t steps;    /* how many loads, stores and calls a run has before it is said to go on for ever: 1,000,000 */
-  uint64_t until;    /* the date after which the clock isn't moved any more: none */
+  uint64_t until;    /* the date, from the start, after which the clock isn't moved any more: none */
   bool goes_on;      /* a run that fails is an outcome, and ends nothing; 1 is returned all the same */
   bool whole;        /* each moment is tried, also those that can't make a difference */
   bool forks;        /* each run in a process of its own; with AddressSanitizer it is so always */
   bool quiet;        /* nothing is printed */
+  uint64_t starts;   /* the date that libevl's clocks have at the start, in nanoseconds: 1,999,999,999 */
   bool prints;       /* what driver and test print goes to standard output in each run: else that of the failing run */
 } evlsim_limits;
 
@@ -65,7 +66,7 @@ typedef struct evlsim_explored {
  * place among them, as line 5 [2] @ 31.
  *
  * With EVLSIM_REPLAY=".." in the environment, evlsim_explore replays that, with its limits of a run (history, steps,
- * until). EVLSIM_FOLDER is where the scenario and the picture of a failure go, else the current one.
+ * until, starts). EVLSIM_FOLDER is where the scenario and the picture of a failure go, else the current one.
  */
 #define evlsim_test(body) evlsim_test_as(body, #body)
 #define evlsim_explore(body, limits) evlsim_explore_as(body, #body, limits, NULL)

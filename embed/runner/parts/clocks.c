@@ -6,7 +6,7 @@ int evl_read_clock(int clockfd, struct timespec *date) {
   (void)clockfd;
   expect_run("evl_read_clock");
   at_call();
-  write_date(run->date, date);
+  write_point(run->date, date);
   return 0;
 }
 
@@ -41,7 +41,7 @@ int evl_sleep_until(int clockfd, const struct timespec *date) {
   (void)clockfd;
   expect_run("evl_sleep_until");
   uint64_t until;
-  return read_date(date, &until) ? sleep_oob(until) : -EINVAL;
+  return read_point(date, &until) ? sleep_oob(until) : -EINVAL;
 }
 
 int evl_usleep(unsigned microseconds) {
@@ -101,7 +101,7 @@ int evlsim_clock_nanosleep(clockid_t clock, int flags, const struct timespec *sp
   if (run == NULL || !run->is_on) return clock_nanosleep(clock, flags, span, left);
   uint64_t nanoseconds;
   if (!read_date(span, &nanoseconds)) return EINVAL;
-  sleep_inband((flags & TIMER_ABSTIME) != 0 ? nanoseconds : run->date + nanoseconds);
+  sleep_inband((flags & TIMER_ABSTIME) != 0 ? since_start(nanoseconds) : run->date + nanoseconds);
   return 0;
 }
 
@@ -172,7 +172,7 @@ static int set_timer(int number, uint64_t date, uint64_t interval) {
 }
 
 static void tell_timer(const struct timer *timer, struct itimerspec *value) {
-  write_date(timer->date == NEVER ? 0 : timer->date, &value->it_value);
+  timer->date == NEVER ? write_date(0, &value->it_value) : write_point(timer->date, &value->it_value);
   write_date(timer->interval, &value->it_interval);
 }
 
@@ -194,7 +194,7 @@ int evl_set_timer(int efd, const struct itimerspec *value, struct itimerspec *be
   if (value == NULL || !read_date(&value->it_value, &date)) return -EINVAL;
   if (!read_date(&value->it_interval, &interval)) return -EINVAL;
   if (before != NULL) tell_timer(&run->timers[number], before);
-  return set_timer(number, date, interval);
+  return set_timer(number, date == 0 ? 0 : first_fire(date), interval);
 }
 
 /* Reads how often a timer has fired since the last read, and waits till it does; it waits again where another has read
@@ -238,7 +238,7 @@ void evl_start_timer(struct evl_timer *timer, ktime_t date, ktime_t interval) {
   at_call();
   int number = timer_of(timer->efd);
   if (number < 0 || date < 0 || interval < 0) fail("a timer is started that isn't made, or at a negative date");
-  (void)set_timer(number, date == 0 ? 1 : (uint64_t)date, (uint64_t)interval);
+  (void)set_timer(number, first_fire((uint64_t)date), (uint64_t)interval);
 }
 
 void evl_stop_timer(struct evl_timer *timer) {

@@ -47,7 +47,7 @@ int evlsim_pthread_mutex_lock(pthread_mutex_t *mutex) {
 int evlsim_pthread_mutex_timedlock(pthread_mutex_t *mutex, const struct timespec *date) {
   uint64_t until;
   if (run == NULL || !run->is_on) return pthread_mutex_timedlock(mutex, date);
-  return read_date(date, &until) ? lock_inband(mutex, until) : EINVAL;
+  return read_point(date, &until) ? lock_inband(mutex, until) : EINVAL;
 }
 
 int evlsim_pthread_mutex_trylock(pthread_mutex_t *mutex) {

@@ -223,10 +223,10 @@ static void write_files(void) {
   fprintf(stderr, "picture: %s\n", draw(picture) ? picture : "none, for want of memory or of room");
 }
 
-/* Whether the limits may end a run where those of evlsim_replay don't. */
+/* Whether a run may be another by the limits of evlsim_replay. */
 static bool has_own_limits(void) {
   const evlsim_limits *it = &kept->limits;
-  return it->history != HISTORY || it->steps != STEPS || it->until != NEVER - 1;
+  return it->history != HISTORY || it->steps != STEPS || it->until != NEVER - 1 || it->starts != STARTS;
 }
 
 /* All that there is to say of a run that failed. */

@@ -181,6 +181,7 @@ static void take_limits(const evlsim_limits *limits) {
   if (it->history == 0) it->history = HISTORY;
   if (it->steps == 0) it->steps = STEPS;
   if (it->until == 0) it->until = NEVER - 1;
+  if (it->starts == 0) it->starts = STARTS;
   /* Their own data would lie among the program's variables. */
   bool is_static = is_variable((const char *)(const void *)stdout);
   if (has_sanitizer() || is_static) it->forks = true;

@@ -25,6 +25,7 @@ enum {
   OUTCOME_BYTES = 512,
   HISTORY = 10000,
   STEPS = 1000000,
+  STARTS = 1999999999, /* what is added to it has to be carried, and a time from now is past as a date */
   PROGRAM_BANK = 8,
   IDLE = 0,
   BODY = 1
