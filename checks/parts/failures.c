@@ -259,6 +259,12 @@ static void many_events(void) {
 #define EVENTS(ten) EVENT(ten##1) EVENT(ten##2) EVENT(ten##3) EVENT(ten##4) EVENT(ten##5)
 #define MANY "line 1000 @ 300" EVENTS(30) EVENTS(31) EVENTS(32) EVENT(333)
 
+/* The process has one number in each run. */
+static void process(void) {
+  begin();
+  evlsim_fail("the process is %d", (int)getpid());
+}
+
 /* An exploration within a run. */
 static void nested(void) {
   begin();
@@ -300,6 +306,7 @@ static const struct {
              {"no_source", listed, "clock @ 500"},
              {"many", many_events, MANY},
              {"nested", nested, ""},
+             {"process", process, ""},
              {"undefined", undefined, ""}};
 
 int main(int count, char **words) {

@@ -44,6 +44,7 @@ ssize_t evlsim_read(int fd, void *bytes, size_t count);
 ssize_t evlsim_write(int fd, const void *bytes, size_t count);
 int evlsim_close_fd(int fd);
 int evlsim_usleep(unsigned microseconds);
+pid_t evlsim_getpid(void);
 unsigned evlsim_sleep(unsigned seconds);
 int evlsim_nanosleep(const struct timespec *span, struct timespec *left);
 int evlsim_clock_nanosleep(clockid_t clock, int flags, const struct timespec *span, struct timespec *left);

@@ -27,6 +27,7 @@ enum {
   STEPS = 1000000,
   STARTS = 1999999999, /* what is added to it has to be carried, and a time from now is past as a date */
   PROGRAM_BANK = 8,
+  RUN_PROCESS = 1000,
   IDLE = 0,
   BODY = 1
 };

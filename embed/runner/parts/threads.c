@@ -249,5 +249,8 @@ int evlsim_thread(void (*start)(void *it), void *it, const char *name) {
   return number;
 }
 
+/* Names that have it are then the same in each run, so that reports and outcomes can be compared. */
+pid_t evlsim_getpid(void) { return run != NULL && run->is_on ? RUN_PROCESS : getpid(); }
+
 void evlsim_join(int thread) { (void)evlsim_pthread_join((pthread_t)thread, NULL); }
 int evlsim_self(void) { return run->now; }
