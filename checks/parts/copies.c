@@ -1,7 +1,7 @@
 /*
- * Structs that are copied while an interrupt writes or reads them: a torn copy has to be found, and what is kept whole by
- * a count has to pass. Prints what isn't so. It is compiled with -fsanitize=thread; clang doesn't call in for a struct's
- * copy before its version 15.
+ * Structs that are copied while an interrupt writes or reads them: a torn copy has to be found, and what is kept whole
+ * by a count has to pass. Prints what isn't so. It is compiled with -fsanitize=thread; clang doesn't call in for a
+ * struct's copy before its version 15.
  */
 #include <evl/evl.h>
 #include <evlsim/runner.h>

@@ -1,6 +1,6 @@
 /*
- * Dates: that of a run begins where a time from now, taken for a date, is past, and where a sum of nanoseconds has to be
- * carried; and each call has dates of one clock. Prints what isn't so.
+ * Dates: that of a run begins where a time from now, taken for a date, is past, and where a sum of nanoseconds has to
+ * be carried; and each call has dates of one clock. Prints what isn't so.
  */
 #include <errno.h>
 #include <evl/evl.h>
@@ -84,6 +84,8 @@ static bool passes(void (*body)(void), const char *name, uint64_t date) {
 int main(void) {
   bool well = passes(relative, "a time in place of a date", 0) && passes(not_carried, "a sum that isn't carried", 0);
   static const uint64_t all[] = {0, 1, SECOND, UINT64_C(1) << 60};
-  for (int each = 0; each < 4; each++) well = passes(sleeps, "sleeps", all[each]) && passes(timers, "timers", all[each]) && well;
+  for (int each = 0; each < 4; each++) {
+    well = well && passes(sleeps, "sleeps", all[each]) && passes(timers, "timers", all[each]);
+  }
   return well ? 0 : 1;
 }

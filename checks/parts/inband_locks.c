@@ -1,6 +1,6 @@
 /*
- * pthread_mutex_t of each kind between in-band threads, with a turn at any moment: it keeps the others out, and answers as
- * POSIX has it. Prints what isn't so. It is compiled with -fsanitize=thread.
+ * pthread_mutex_t of each kind between in-band threads, with a turn at any moment: it keeps the others out, and answers
+ * as POSIX has it. Prints what isn't so. It is compiled with -fsanitize=thread.
  */
 #define _GNU_SOURCE
 #include <errno.h>

@@ -353,7 +353,8 @@ DECODES static void print_failures(uint32_t seed) {
   for (uint32_t each = 0;; each++) {
     const char *text = evlsim_outcome(each, NULL, &choices);
     if (text == NULL) return;
-    if (strstr(text, "FAILED") != NULL) printf("program %u: %s, with the events \"%s\"\n", (unsigned)seed, text, choices);
+    if (strstr(text, "FAILED") == NULL) continue;
+    printf("program %u: %s, with the events \"%s\"\n", (unsigned)seed, text, choices);
   }
 }
 

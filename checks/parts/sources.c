@@ -98,6 +98,7 @@ int main(void) {
   const char *ambiguous = outcome_of("line 5 @ 2");
   well = well && holds(strcmp(ambiguous, unnamed) == 0, "a line of two sources needs a name", ambiguous);
   const char *unknown = outcome_of("line 5 [is_worse] @ 2");
-  well = well && holds(strcmp(unknown, "FAILED: an event is chosen that no source has") == 0, "an unknown name", unknown);
+  const char *no_source = "FAILED: an event is chosen that no source has";
+  well = well && holds(strcmp(unknown, no_source) == 0, "an unknown name", unknown);
   return well ? 0 : 1;
 }

@@ -61,9 +61,9 @@ typedef struct evlsim_explored {
 /*
  * Runs the body once, with no event of a source, and reports how it failed if it did: 0 or 1, for main. evlsim_explore
  * runs it again and again, each time with another list of events, fewest first. `limits` may be null.
- * evlsim_replay runs it with one list, as a failure names it: "line 5 @ 31, clock @ 40". Where a line has more than one
- * source, that has the name of its device, as line 5 [frame_is_bad] @ 31, or, if that is none or another has it too, its
- * place among them, as line 5 [2] @ 31.
+ * evlsim_replay runs it with one list, as a failure names it: "line 5 @ 31, clock @ 40". Where a line has more than
+ * one source, that has the name of its device, as line 5 [frame_is_bad] @ 31, or, if that is none or another has it
+ * too, its place among them, as line 5 [2] @ 31.
  *
  * With EVLSIM_REPLAY=".." in the environment, evlsim_explore replays that, with its limits of a run (history, steps,
  * until, starts). EVLSIM_FOLDER is where the scenario and the picture of a failure go, else the current one.

@@ -71,8 +71,8 @@ ssize_t oob_write(int efd, const void *bytes, size_t count) {
   return with_errno(error_of(answer), (ssize_t)count);
 }
 
-/* Before a call in-band: a thread that can't go on waits outside of the core, so it needn't be attached. Another may take
-   what it waited for before it goes on; then it waits again. No moment follows the last look. */
+/* Before a call in-band: a thread that can't go on waits outside of the core, so it needn't be attached. Another may
+   take what it waited for before it goes on; then it waits again. No moment follows the last look. */
 static void wait_inband(enum awaited awaits, int xbuf, size_t needs) {
   struct task *task = &tasks[run->now];
   open_kernel();

@@ -39,8 +39,8 @@ static void *set_words(char *to, int byte, size_t size, const void *place) {
 }
 
 /*
- * Before a compiler's own copy of a struct, which follows at once. What it reads is what each word was at its own moment:
- * that is put in the struct's place, and taken away again before the next step.
+ * Before a compiler's own copy of a struct, which follows at once. What it reads is what each word was at its own
+ * moment: that is put in the struct's place, and taken away again before the next step.
  */
 static void read_words(char *from, size_t size, const void *place) {
   char seen[MOST_TORN];

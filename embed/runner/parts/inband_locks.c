@@ -1,9 +1,14 @@
 /*
- * Part of evlsim_runner.c: pthread_mutex_t between the threads of a run, in glibc's own fields. The system's calls would
- * take all of them for one thread, which may lock a recursive mutex once more.
+ * Part of evlsim_runner.c: pthread_mutex_t between the threads of a run, in glibc's own fields. The system's calls
+ * would take all of them for one thread, which may lock a recursive mutex once more.
  */
 
 enum { FIRST_OWNER = 1 << 24, KINDS = 3, MOST_DEPTH = 1 << 16 }; /* owners are no number of a thread of the system */
+
+static bool is_checked(const pthread_mutex_t *mutex) {
+  int kind = mutex->__data.__kind & KINDS;
+  return kind == PTHREAD_MUTEX_RECURSIVE || kind == PTHREAD_MUTEX_ERRORCHECK;
+}
 
 static bool is_lock_free(const void *mutex) { return ((const pthread_mutex_t *)mutex)->__data.__lock == 0; }
 
@@ -17,7 +22,7 @@ static int take_lock(pthread_mutex_t *mutex) {
     tasks[run->now].locks++;
     return 0;
   }
-  if (mutex->__data.__owner != own || (kind != PTHREAD_MUTEX_RECURSIVE && kind != PTHREAD_MUTEX_ERRORCHECK)) return EBUSY;
+  if (mutex->__data.__owner != own || !is_checked(mutex)) return EBUSY;
   if (kind == PTHREAD_MUTEX_ERRORCHECK) return EDEADLK;
   if (mutex->__data.__count == MOST_DEPTH) return EAGAIN;
   mutex->__data.__count++;
@@ -60,9 +65,8 @@ int evlsim_pthread_mutex_trylock(pthread_mutex_t *mutex) {
 int evlsim_pthread_mutex_unlock(pthread_mutex_t *mutex) {
   if (run == NULL || !run->is_on) return pthread_mutex_unlock(mutex);
   at_call();
-  int kind = mutex->__data.__kind & KINDS, owner = mutex->__data.__owner - FIRST_OWNER;
-  bool is_checked = kind == PTHREAD_MUTEX_RECURSIVE || kind == PTHREAD_MUTEX_ERRORCHECK;
-  if (is_checked && (is_lock_free(mutex) || owner != run->now)) return EPERM;
+  int owner = mutex->__data.__owner - FIRST_OWNER;
+  if (is_checked(mutex) && (is_lock_free(mutex) || owner != run->now)) return EPERM;
   if (is_lock_free(mutex) || --mutex->__data.__count > 0) return 0;
   mutex->__data.__lock = mutex->__data.__owner = 0;
   if (owner >= 0 && owner < TASKS) tasks[owner].locks--;

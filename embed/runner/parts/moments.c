@@ -77,7 +77,8 @@ static uint32_t kind_of(const struct source *source) { return (uint32_t)source->
 /* Which one of its line's sources it is, from 1 on. */
 static unsigned place_of(unsigned number) {
   unsigned place = 0;
-  for (unsigned each = 0; each <= number; each++) place += kind_of(&kept->source[each]) == kind_of(&kept->source[number]);
+  uint32_t kind = kind_of(&kept->source[number]);
+  for (unsigned each = 0; each <= number; each++) place += kind_of(&kept->source[each]) == kind;
   return place;
 }
 
@@ -119,7 +120,8 @@ static unsigned source_of(struct choice *choice) {
   if (count > 1) {
     char name[NAME_BYTES];
     write_name(name, first);
-    fail("line %u has %u sources here: name one, as line %u [%s] @ %u", line, count, line, name, (unsigned)choice->step);
+    unsigned step = choice->step;
+    fail("line %u has %u sources here: name one, as line %u [%s] @ %u", line, count, line, name, step);
   }
   return choice->source = first;
 }

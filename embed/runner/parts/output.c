@@ -1,13 +1,14 @@
 /*
- * Part of evlsim_runner.c: what the driver and its test print in an exploration. It is kept run by run, and only that of
- * the run that fails goes to the program's standard output.
+ * Part of evlsim_runner.c: what the driver and its test print in an exploration. It is kept run by run, and only that
+ * of the run that fails goes to the program's standard output.
  */
 
 /* From here on standard output is a file of our own; where that can't be had all is printed. */
 static void keep_output(void) {
   if (kept->limits.prints) return;
   fflush(stdout);
-  int own = memfd_create("evlsim_output", MFD_CLOEXEC), before = own < 0 ? -1 : fcntl(STDOUT_FILENO, F_DUPFD_CLOEXEC, 0);
+  int own = memfd_create("evlsim_output", MFD_CLOEXEC);
+  int before = own < 0 ? -1 : fcntl(STDOUT_FILENO, F_DUPFD_CLOEXEC, 0);
   if (before >= 0 && dup2(own, STDOUT_FILENO) >= 0) kept->output = before, kept->is_output_kept = true;
   if (own >= 0) close(own);
 }

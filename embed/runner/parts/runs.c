@@ -189,7 +189,7 @@ static void take_limits(const evlsim_limits *limits) {
 
 static void begin(void (*body)(void), const char *name, const evlsim_limits *limits) {
   if (run != NULL && run->is_on) {
-    fail("evlsim_explore, evlsim_test or evlsim_replay of %s is called within a run: call them one after another", name);
+    fail("evlsim_explore, evlsim_test or evlsim_replay of %s is called within a run: call one after the other", name);
   }
   if (kept != NULL) munmap(kept, sizeof *kept);
   bool is_first = run == NULL;
