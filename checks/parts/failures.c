@@ -105,6 +105,70 @@ static void stalled(void) {
   evl_usleep(5);
 }
 
+/* A stall that an error's path leaves. */
+static void stall_until(bool fails) {
+  unsigned long before = hard_local_irq_save();
+  if (!fails) hard_local_irq_restore(before);
+}
+
+static void *end_stalled(void *it) {
+  stall_until(never == 0);
+  return it;
+}
+
+static void stalled_end(void) {
+  pthread_t thread;
+  begin();
+  pthread_create(&thread, NULL, end_stalled, NULL);
+  pthread_join(thread, NULL);
+}
+
+static void stalled_body(void) {
+  begin();
+  local_irq_disable();
+  evlsim_rest();
+}
+
+static irqreturn_t on_stall(int irq, void *device) {
+  (void)irq, (void)device;
+  stall_until(never == 0);
+  return IRQ_HANDLED;
+}
+
+static void stalled_handler(void) {
+  begin();
+  request_irq(5, on_stall, IRQF_OOB, "line", NULL);
+  evlsim_arrive(5);
+}
+
+/* What is allowed: another thread waits meanwhile, a section within a section, and a handler's own. */
+static irqreturn_t on_section(int irq, void *device) {
+  (void)irq, (void)device;
+  stall_until(never == 1);
+  evl_put_sem(&two);
+  return IRQ_HANDLED;
+}
+
+static void *wait_in_section(void *it) {
+  evl_attach_self("waiter");
+  while (evl_get_sem(&two) == 0) stall_until(never == 1);
+  return it;
+}
+
+static void sections(void) {
+  pthread_t thread;
+  begin();
+  request_irq(5, on_section, IRQF_OOB, "line", NULL);
+  pthread_create(&thread, NULL, wait_in_section, NULL);
+  evlsim_settle();
+  unsigned long before = hard_local_irq_save();
+  evlsim_arrive(5);
+  stall_until(never == 1);
+  evl_put_sem(&two);
+  hard_local_irq_restore(before);
+  evlsim_fail("the sections are left");
+}
+
 static void *hold_stax(void *it) {
   evl_lock_stax(&stax);
   for (;;) evlsim_pass(1000);
@@ -195,6 +259,18 @@ static void many_events(void) {
 #define EVENTS(ten) EVENT(ten##1) EVENT(ten##2) EVENT(ten##3) EVENT(ten##4) EVENT(ten##5)
 #define MANY "line 1000 @ 300" EVENTS(30) EVENTS(31) EVENTS(32) EVENT(333)
 
+/* The process has one number in each run. */
+static void process(void) {
+  begin();
+  evlsim_fail("the process is %d", (int)getpid());
+}
+
+/* An exploration within a run. */
+static void nested(void) {
+  begin();
+  (void)evlsim_explore(begin, NULL);
+}
+
 /* What only UndefinedBehaviorSanitizer sees. */
 static void undefined(void) {
   static volatile int most = 0x7fffffff;
@@ -215,6 +291,10 @@ static const struct {
              {"exit", calls_exit, ""},
              {"handler", handler_waits, ""},
              {"stalled", stalled, ""},
+             {"stalled_end", stalled_end, ""},
+             {"stalled_body", stalled_body, ""},
+             {"stalled_handler", stalled_handler, ""},
+             {"sections", sections, ""},
              {"mutex", mutex_kept, ""},
              {"stax", stax_kept, ""},
              {"body_stax", body_keeps_stax, ""},
@@ -225,6 +305,8 @@ static const struct {
              {"turn_not_reached", listed, "turn @ 9000"},
              {"no_source", listed, "clock @ 500"},
              {"many", many_events, MANY},
+             {"nested", nested, ""},
+             {"process", process, ""},
              {"undefined", undefined, ""}};
 
 int main(int count, char **words) {

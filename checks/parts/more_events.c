@@ -1,6 +1,6 @@
 /*
  * For checks/explore: a driver's test whose sources have $MORE events more than it says, in runs of up to $EVENTS
- * events. Link the test with -Wl,--wrap=evlsim_explore_as -Wl,--wrap=evlsim_may_arrive.
+ * events. Link the test with -Wl,--wrap=evlsim_explore_as -Wl,--wrap=evlsim_may_arrive_as.
  */
 #include <evlsim/runner.h>
 #include <inttypes.h>
@@ -8,7 +8,7 @@
 #include <stdlib.h>
 
 int __real_evlsim_explore_as(void (*body)(void), const char *name, const evlsim_limits *limits, evlsim_explored *explored);
-void __real_evlsim_may_arrive(unsigned line, unsigned times, void (*device)(void *it), void *it);
+void __real_evlsim_may_arrive_as(const char *arguments, unsigned line, unsigned times, void (*device)(void *it), void *it);
 
 static unsigned more EVLSIM_KEPT;
 
@@ -26,6 +26,6 @@ int __wrap_evlsim_explore_as(void (*body)(void), const char *name, const evlsim_
   return status;
 }
 
-void __wrap_evlsim_may_arrive(unsigned line, unsigned times, void (*device)(void *it), void *it) {
-  __real_evlsim_may_arrive(line, times + more, device, it);
+void __wrap_evlsim_may_arrive_as(const char *arguments, unsigned line, unsigned times, void (*device)(void *it), void *it) {
+  __real_evlsim_may_arrive_as(arguments, line, times + more, device, it);
 }

@@ -51,7 +51,11 @@ static void sum(int which) { variable[which] += 3; }
 /* A result that tells all that a list has got so far. */
 DECODES static void note(int list, int value) { result[list] = result[list] * 31 + value + 7; }
 
+/* Who waits may not have stalled the stage. */
+DECODES static bool waits(enum act act) { return act == GET || act == SLEEP || act == LOCK; }
+
 DECODES static void act_in_core(int list, struct step step) {
+  if (waits(step.act) && oob_irqs_disabled()) oob_irq_enable();
   switch (step.act) {
     case GET: note(list, evl_get_sem(&sem[step.which % SEMS])); break;
     case GO_OOB: note(list, evl_switch_oob()); break;

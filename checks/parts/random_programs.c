@@ -42,12 +42,15 @@ struct player {
 };
 static struct player player[THREADS];
 
-static struct timespec soon(uint32_t *own) {
+static struct timespec date_in(long nanoseconds) {
   struct timespec date;
   evl_read_clock(EVL_CLOCK_MONOTONIC, &date);
-  date.tv_nsec += (long)roll_of(own, 50);
+  date.tv_nsec += nanoseconds;
+  if (date.tv_nsec >= 1000000000) date.tv_sec++, date.tv_nsec -= 1000000000;
   return date;
 }
+
+static struct timespec soon(uint32_t *own) { return date_in((long)roll_of(own, 50)); }
 
 static void use_sem(uint32_t *own) {
   struct evl_sem *it = &sem[roll_of(own, SEMS)];
@@ -245,7 +248,7 @@ static void random_program(void) {
   int timer = has_work ? -1 : evl_new_timer(EVL_CLOCK_MONOTONIC);
   struct itimerspec dates;
   memset(&dates, 0, sizeof dates);
-  dates.it_value.tv_nsec = 40, dates.it_interval.tv_nsec = 25;
+  dates.it_value = date_in(40), dates.it_interval.tv_nsec = 25;
   if (timer >= 0) (void)evl_set_timer(timer, &dates, NULL);
   int count = 2 + (int)roll_of(&dice, THREADS - 1);
   for (int each = 0; each < count; each++) {

@@ -13,6 +13,7 @@
 #include <evl/stax.h>
 #include <evl/work.h>
 #include <evlsim/runner.h>
+#include <fcntl.h>
 #include <linux/interrupt.h>
 #include <linux/irq_pipeline.h>
 #include <linux/irqstage.h>
@@ -43,6 +44,7 @@ ssize_t evlsim_read(int fd, void *bytes, size_t count);
 ssize_t evlsim_write(int fd, const void *bytes, size_t count);
 int evlsim_close_fd(int fd);
 int evlsim_usleep(unsigned microseconds);
+pid_t evlsim_getpid(void);
 unsigned evlsim_sleep(unsigned seconds);
 int evlsim_nanosleep(const struct timespec *span, struct timespec *left);
 int evlsim_clock_nanosleep(clockid_t clock, int flags, const struct timespec *span, struct timespec *left);
@@ -55,6 +57,9 @@ pthread_t evlsim_pthread_self(void);
 int evlsim_pthread_setschedparam(pthread_t thread, int policy, const struct sched_param *param);
 int evlsim_pthread_setname_np(pthread_t thread, const char *name);
 int evlsim_pthread_mutex_lock(pthread_mutex_t *mutex);
+int evlsim_pthread_mutex_timedlock(pthread_mutex_t *mutex, const struct timespec *date);
+int evlsim_pthread_mutex_trylock(pthread_mutex_t *mutex);
+int evlsim_pthread_mutex_unlock(pthread_mutex_t *mutex);
 
 #include "parts/state.c"
 
@@ -63,15 +68,19 @@ __attribute__((noreturn)) static void finish_task(void *value);
 static void yield_if_due(void);
 static void fire_timer(int number);
 static void at_call(void);
+static void mend_torn(void);
 static void at_idle(void);
 static void see_read(const void *at, size_t size);
 static void see_write(const void *at, size_t size);
 static ssize_t read_timer(int number, void *bytes, size_t count);
-static bool pthread_mutex_is_free(const void *mutex);
+static bool is_lock_free(const void *mutex);
 __attribute__((noreturn)) static void fail_stuck(void);
 static void note_outcome(enum ending ending);
+static irqreturn_t do_works(int irq, void *device);
 
 #include "parts/coroutines.c"
+#include "parts/output.c"
+#include "parts/seen.c"
 #include "parts/machine.c"
 #include "parts/schedule.c"
 #include "parts/errors.c"
@@ -79,10 +88,12 @@ static void note_outcome(enum ending ending);
 #include "parts/waits.c"
 #include "parts/buffers.c"
 #include "parts/locks.c"
+#include "parts/inband_locks.c"
 #include "parts/clocks.c"
 #include "parts/lines.c"
 #include "parts/footprints.c"
 #include "parts/moments.c"
+#include "parts/copies.c"
 #include "parts/memory.c"
 #include "parts/reports.c"
 #include "parts/runs.c"

@@ -11,9 +11,11 @@
  * is told as begun, and what ended it at its finish. A unit of the scenario's date is UNIT here. A claim's owner locks
  * the mutex first, where it hasn't; libevl tells of no next owner, so a release looks who goes on.
  */
+#define _GNU_SOURCE
 #include <errno.h>
 #include <evl/evl.h>
 #include <pthread.h>
+#include <sched.h>
 #include <stdbool.h>
 #include <stdint.h>
 #include <stdio.h>
@@ -111,6 +113,46 @@ static void read_key(struct step *it, const char *key, const char *value) {
     snprintf(it->key[it->keys], TEXT, "%s", key);
     snprintf(it->value[it->keys++], TEXT, "%s", plain);
   }
+}
+
+/* The words of the steps that this program makes. */
+static bool is_known(const char *word) {
+  static const char *const words[] = {"attach",     "detach",     "set_policy", "set_stage", "put",        "try_get",
+                                      "peek",       "begin_get",  "post_flags", "peek_flags", "try_take",  "begin_take",
+                                      "read",       "write",      "begin_read", "begin_write", "claim",    "release",
+                                      "finish",     "tick",       "now"};
+  for (size_t each = 0; each < sizeof words / sizeof *words; each++) {
+    if (strcmp(word, words[each]) == 0) return true;
+  }
+  return false;
+}
+
+static bool refuse(int number, const char *what, const char *value) {
+  fprintf(stderr, "play: step %d: %s: %s\n", number, what, value);
+  return false;
+}
+
+/* Whether the board has the element that a step names by this key, if it does. */
+static bool has_element(const struct step *it, const char *key, int count) {
+  for (int each = 0; each < it->keys; each++) {
+    int number = atoi(it->value[each]);
+    if (strcmp(it->key[each], key) == 0 && (number < 0 || number >= count)) return false;
+  }
+  return true;
+}
+
+/* Whether all steps can be made: nothing is played of a scenario that has another one. */
+static bool can_play(void) {
+  for (int each = 0; each < steps; each++) {
+    const struct step *it = &step[each];
+    if (!is_known(it->word)) return refuse(each + 1, "this program doesn't make the step", it->word);
+    if (it->who < 0 || it->who >= threads) return refuse(each + 1, "the board has no such thread in", it->word);
+    if (!has_element(it, "sem", sems) || !has_element(it, "flags", groups) || !has_element(it, "xbuf", buffers) ||
+        !has_element(it, "mutex", mutexes)) {
+      return refuse(each + 1, "the board has no such element in", it->word);
+    }
+  }
+  return true;
 }
 
 static bool read_scenario(const char *name) {
@@ -279,8 +321,11 @@ static const char *name_of(int error) {
     case EINVAL: return "Invalid";
     case EPERM: return "NotOwner";
     case ETIMEDOUT: return "timed out";
-    default: return "unknown error";
+    default: break;
   }
+  static char text[TEXT];
+  snprintf(text, sizeof text, "errno %d", -error);
+  return text;
 }
 
 /* The answer of a call that has ended. */
@@ -400,30 +445,53 @@ static void play_step(const struct step *it) {
   }
 }
 
+/* What a call that makes something has answered; nothing is played without it. */
+static int made(int answer, const char *what, int number) {
+  if (answer >= 0) return answer;
+  fprintf(stderr, "play: %s %d isn't made: %s (errno %d)\n", what, number, strerror(-answer), -answer);
+  exit(EXIT_FAILURE);
+}
+
 static void make_elements(void) {
   for (int each = 0; each < sems; each++) {
-    evl_create_sem(&sem[each], EVL_CLOCK_MONOTONIC, opening_sem[each], 0, "sem-%d", each);
+    made(evl_create_sem(&sem[each], EVL_CLOCK_MONOTONIC, opening_sem[each], 0, "sem-%d", each), "sem", each);
   }
   for (int each = 0; each < groups; each++) {
-    evl_create_flags(&group[each], EVL_CLOCK_MONOTONIC, opening_flags[each], 0, "flags-%d", each);
+    made(evl_create_flags(&group[each], EVL_CLOCK_MONOTONIC, opening_flags[each], 0, "flags-%d", each), "flags", each);
   }
   for (int each = 0; each < buffers; each++) {
-    buffer[each] = evl_create_xbuf((size_t)ring[each][0], (size_t)ring[each][1], 0, "xbuf-%d", each);
+    int fd = evl_create_xbuf((size_t)ring[each][0], (size_t)ring[each][1], 0, "xbuf-%d", each);
+    buffer[each] = made(fd, "xbuf", each);
   }
   for (int each = 0; each < mutexes; each++) {
     int flags = strcmp(mutex_kind[each], "recursive") == 0 ? EVL_MUTEX_RECURSIVE : EVL_MUTEX_NORMAL;
-    evl_create_mutex(&mutex[each], EVL_CLOCK_MONOTONIC, 0, flags, "mutex-%d", each);
+    made(evl_create_mutex(&mutex[each], EVL_CLOCK_MONOTONIC, 0, flags, "mutex-%d", each), "mutex", each);
     owner[each] = -1;
   }
 }
 
+/* The simulated machine has one processor: all threads stay on the first that this program may use. */
+static void stay_on_one_processor(void) {
+#ifndef OVER_SIMULATOR
+  cpu_set_t may, one;
+  int first = 0;
+  CPU_ZERO(&one);
+  if (sched_getaffinity(0, sizeof may, &may) != 0) made(-errno, "the set of processors of thread", 0);
+  while (first < CPU_SETSIZE - 1 && !CPU_ISSET(first, &may)) first++;
+  CPU_SET(first, &one);
+  if (sched_setaffinity(0, sizeof one, &one) != 0) made(-errno, "the use of processor", first);
+#endif
+}
+
 static void play(void) {
+  stay_on_one_processor();
+  made(evl_init(), "the connection to core", 0);
   make_elements();
   for (int each = 0; each < threads; each++) {
     pthread_t thread;
     player[each].number = each;
-    evl_create_sem(&player[each].go, EVL_CLOCK_MONOTONIC, 0, 0, "go-%d", each);
-    pthread_create(&thread, NULL, play_steps, &player[each]);
+    made(evl_create_sem(&player[each].go, EVL_CLOCK_MONOTONIC, 0, 0, "go-%d", each), "sem of thread", each);
+    made(-pthread_create(&thread, NULL, play_steps, &player[each]), "thread", each);
   }
   printf("board threads=%d sems=%d flags=%d xbufs=%d mutexes=%d groups=0 limit=1000\n", threads, sems, groups, buffers,
          mutexes);
@@ -437,6 +505,7 @@ int main(int count, char **words) {
     fprintf(stderr, "play: no scenario that this program can play\n");
     return EXIT_FAILURE;
   }
+  if (!can_play()) return EXIT_FAILURE;
 #ifdef OVER_SIMULATOR
   return evlsim_test(play);
 #else

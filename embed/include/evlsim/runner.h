@@ -36,11 +36,13 @@ typedef struct evlsim_limits {
   uint64_t runs;     /* how many runs are made at most: 1,000,000 */
   uint32_t history;  /* how many entries the kernel's history may have: 10,000 */
   uint32_t steps;    /* how many loads, stores and calls a run has before it is said to go on for ever: 1,000,000 */
-  uint64_t until;    /* the date after which the clock isn't moved any more: none */
+  uint64_t until;    /* the date, from the start, after which the clock isn't moved any more: none */
   bool goes_on;      /* a run that fails is an outcome, and ends nothing; 1 is returned all the same */
   bool whole;        /* each moment is tried, also those that can't make a difference */
   bool forks;        /* each run in a process of its own; with AddressSanitizer it is so always */
   bool quiet;        /* nothing is printed */
+  uint64_t starts;   /* the date that libevl's clocks have at the start, in nanoseconds: 1,999,999,999 */
+  bool prints;       /* what driver and test print goes to standard output in each run: else that of the failing run */
 } evlsim_limits;
 
 /* What came of an exploration. */
@@ -59,10 +61,12 @@ typedef struct evlsim_explored {
 /*
  * Runs the body once, with no event of a source, and reports how it failed if it did: 0 or 1, for main. evlsim_explore
  * runs it again and again, each time with another list of events, fewest first. `limits` may be null.
- * evlsim_replay runs it with one list, as a failure names it: "line 5 @ 31, clock @ 40".
+ * evlsim_replay runs it with one list, as a failure names it: "line 5 @ 31, clock @ 40". Where a line has more than
+ * one source, that has the name of its device, as line 5 [frame_is_bad] @ 31, or, if that is none or another has it
+ * too, its place among them, as line 5 [2] @ 31.
  *
  * With EVLSIM_REPLAY=".." in the environment, evlsim_explore replays that, with its limits of a run (history, steps,
- * until). EVLSIM_FOLDER is where the scenario and the picture of a failure go, else the current one.
+ * until, starts). EVLSIM_FOLDER is where the scenario and the picture of a failure go, else the current one.
  */
 #define evlsim_test(body) evlsim_test_as(body, #body)
 #define evlsim_explore(body, limits) evlsim_explore_as(body, #body, limits, NULL)
@@ -79,9 +83,12 @@ const char *evlsim_outcome(uint32_t place, uint64_t *lists, const char **choices
 /*
  * Sources of events, which may come at any moment from here on, each up to `times` times in a run: an interrupt on a
  * line, before which `device` is called, if it isn't null, to do what the hardware does; the clock's move to the next
- * due date while threads compute; another in-band thread's turn.
+ * due date while threads compute; another in-band thread's turn, unless interrupts are off. A call with the same line,
+ * device and `it` as one before adds its times to that source. The macro hands on how the device is written.
  */
 void evlsim_may_arrive(unsigned line, unsigned times, void (*device)(void *it), void *it);
+void evlsim_may_arrive_as(const char *arguments, unsigned line, unsigned times, void (*device)(void *it), void *it);
+#define evlsim_may_arrive(line, times, ...) evlsim_may_arrive_as(#__VA_ARGS__, line, times, __VA_ARGS__)
 void evlsim_may_pass(unsigned times);
 void evlsim_may_switch(unsigned times);
 

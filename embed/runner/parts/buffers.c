@@ -36,9 +36,10 @@ static ssize_t read_out_of_band(int xbuf, void *bytes, size_t count) {
   int error = run->blocks[xbuf] ? go_oob() : 0;
   if (error != 0) return with_errno(error, -1);
   uint16_t most = most_of(count);
+  struct transfer to = {NULL, 0, got, most};
   evlsim_answer answer =
       run->blocks[xbuf]
-          ? wait_in_core(evlsim_call_begin_read((uint16_t)xbuf, EVLSIM_IN, most), NEVER, NULL, 0, got, most)
+          ? wait_in_core(evlsim_call_begin_read((uint16_t)xbuf, EVLSIM_IN, most), NEVER, to)
           : call_bytes(evlsim_call_read((uint16_t)xbuf, EVLSIM_IN, most), NULL, 0, got, most);
   ssize_t length = told_bytes(answer);
   if (length > 0) see_write(bytes, (size_t)length), memcpy(bytes, got, (size_t)length);
@@ -62,22 +63,36 @@ ssize_t oob_write(int efd, const void *bytes, size_t count) {
   if (error != 0) return with_errno(error, -1);
   uint8_t copy[256];
   see_read(bytes, count), memcpy(copy, bytes, count);
+  struct transfer from = {copy, count, NULL, 0};
   evlsim_answer answer =
       run->blocks[xbuf] && !in_handler()
-          ? wait_in_core(evlsim_call_begin_write((uint16_t)xbuf, EVLSIM_OUT), NEVER, copy, count, NULL, 0)
+          ? wait_in_core(evlsim_call_begin_write((uint16_t)xbuf, EVLSIM_OUT), NEVER, from)
           : call_bytes(evlsim_call_write((uint16_t)xbuf, EVLSIM_OUT), copy, count, NULL, 0);
   return with_errno(error_of(answer), (ssize_t)count);
 }
 
-/* In-band, a thread that can't go on waits outside of the core: it needn't be attached. */
+/* Before a call in-band: a thread that can't go on waits outside of the core, so it needn't be attached. Another may
+   take what it waited for before it goes on; then it waits again. No moment follows the last look. */
 static void wait_inband(enum awaited awaits, int xbuf, size_t needs) {
   struct task *task = &tasks[run->now];
   open_kernel();
   at_call();
-  task->awaits = awaits;
-  task->target = xbuf;
-  task->needs = (unsigned)needs;
-  wait_here();
+  do {
+    task->awaits = awaits;
+    task->target = xbuf;
+    task->needs = (unsigned)needs;
+    wait_here();
+    at_call();
+  } while (awaits == BYTES ? !has_bytes(xbuf) : !has_room(xbuf, (unsigned)needs));
+}
+
+/* Before a call in-band at a buffer: what it needs is there, if it waits for that. */
+static void begin_inband(enum awaited awaits, int xbuf, size_t needs) {
+  if (run->blocks[xbuf] && needs > 0 && !in_handler()) {
+    wait_inband(awaits, xbuf, needs);
+  } else {
+    at_call();
+  }
 }
 
 ssize_t evlsim_read(int fd, void *bytes, size_t count) {
@@ -85,9 +100,10 @@ ssize_t evlsim_read(int fd, void *bytes, size_t count) {
   if (xbuf < 0) return read(fd, bytes, count);
   go_inband();
   uint8_t got[256];
-  if (run->blocks[xbuf] && count > 0 && !in_handler()) wait_inband(BYTES, xbuf, 1);
-  evlsim_answer answer =
-      call_bytes(evlsim_call_read((uint16_t)xbuf, EVLSIM_OUT, most_of(count)), NULL, 0, got, sizeof got);
+  begin_inband(BYTES, xbuf, count > 0 ? 1 : 0);
+  evlsim_call call = evlsim_call_read((uint16_t)xbuf, EVLSIM_OUT, most_of(count));
+  evlsim_answer answer = do_bytes(caller(), call, NULL, 0, got, sizeof got);
+  go_on();
   ssize_t length = told_bytes(answer);
   if (length > 0) see_write(bytes, (size_t)length), memcpy(bytes, got, (size_t)length);
   return length;
@@ -101,8 +117,9 @@ ssize_t evlsim_write(int fd, const void *bytes, size_t count) {
   if (!fits) return with_errno(-EFBIG, -1);
   uint8_t copy[256];
   see_read(bytes, count), memcpy(copy, bytes, count);
-  if (run->blocks[xbuf] && count > 0 && !in_handler()) wait_inband(ROOM, xbuf, count);
-  evlsim_answer answer = call_bytes(evlsim_call_write((uint16_t)xbuf, EVLSIM_IN), copy, count, NULL, 0);
+  begin_inband(ROOM, xbuf, count);
+  evlsim_answer answer = do_bytes(caller(), evlsim_call_write((uint16_t)xbuf, EVLSIM_IN), copy, count, NULL, 0);
+  go_on();
   return with_errno(error_of(answer), (ssize_t)count);
 }
 

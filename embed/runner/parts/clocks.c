@@ -6,7 +6,7 @@ int evl_read_clock(int clockfd, struct timespec *date) {
   (void)clockfd;
   expect_run("evl_read_clock");
   at_call();
-  write_date(run->date, date);
+  write_point(run->date, date);
   return 0;
 }
 
@@ -41,7 +41,7 @@ int evl_sleep_until(int clockfd, const struct timespec *date) {
   (void)clockfd;
   expect_run("evl_sleep_until");
   uint64_t until;
-  return read_date(date, &until) ? sleep_oob(until) : -EINVAL;
+  return read_point(date, &until) ? sleep_oob(until) : -EINVAL;
 }
 
 int evl_usleep(unsigned microseconds) {
@@ -101,7 +101,7 @@ int evlsim_clock_nanosleep(clockid_t clock, int flags, const struct timespec *sp
   if (run == NULL || !run->is_on) return clock_nanosleep(clock, flags, span, left);
   uint64_t nanoseconds;
   if (!read_date(span, &nanoseconds)) return EINVAL;
-  sleep_inband((flags & TIMER_ABSTIME) != 0 ? nanoseconds : run->date + nanoseconds);
+  sleep_inband((flags & TIMER_ABSTIME) != 0 ? since_start(nanoseconds) : run->date + nanoseconds);
   return 0;
 }
 
@@ -129,10 +129,10 @@ static struct handler *new_handler(void) {
 
 /* Makes a timer in the core, and returns its number or the error. */
 static int make_timer(void) {
+  at_call();
   struct handler *handler = new_handler();
   int callback = take_callback();
   if (handler == NULL || callback < 0) return -EMFILE;
-  at_call();
   evlsim_answer answer = do_call(caller(), evlsim_call_new_timer((uint8_t)callback, 0));
   if (!evlsim_has(answer, EVLSIM_NUMBER)) return error_of(answer);
   struct handler made = {true, true, true, (uint8_t)callback, (uint16_t)answer.number, NULL, NULL};
@@ -158,10 +158,9 @@ static int timer_of(int efd) {
   return number >= 0 && number < ELEMENTS && run->timers[number].is_made ? number : -1;
 }
 
-/* Starts or, with a date of 0, stops a timer. */
+/* Starts or, with a date of 0, stops a timer; the moment is its caller's, before it looks which timer that is. */
 static int set_timer(int number, uint64_t date, uint64_t interval) {
   struct timer *timer = &run->timers[number];
-  at_call();
   timer->date = date == 0 ? NEVER : date;
   timer->interval = interval;
   timer->ticks = 0;
@@ -172,39 +171,47 @@ static int set_timer(int number, uint64_t date, uint64_t interval) {
   return error_of(answer);
 }
 
+static void tell_timer(const struct timer *timer, struct itimerspec *value) {
+  timer->date == NEVER ? write_date(0, &value->it_value) : write_point(timer->date, &value->it_value);
+  write_date(timer->interval, &value->it_interval);
+}
+
 int evl_get_timer(int efd, struct itimerspec *value) {
   expect_run("evl_get_timer");
+  at_call();
   int number = timer_of(efd);
   if (number < 0) return -EBADF;
-  write_date(run->timers[number].date == NEVER ? 0 : run->timers[number].date, &value->it_value);
-  write_date(run->timers[number].interval, &value->it_interval);
+  tell_timer(&run->timers[number], value);
   return 0;
 }
 
 int evl_set_timer(int efd, const struct itimerspec *value, struct itimerspec *before) {
   expect_run("evl_set_timer");
   uint64_t date, interval;
+  at_call();
   int number = timer_of(efd);
   if (number < 0) return -EBADF;
   if (value == NULL || !read_date(&value->it_value, &date)) return -EINVAL;
   if (!read_date(&value->it_interval, &interval)) return -EINVAL;
-  if (before != NULL) (void)evl_get_timer(efd, before);
-  return set_timer(number, date, interval);
+  if (before != NULL) tell_timer(&run->timers[number], before);
+  return set_timer(number, date == 0 ? 0 : first_fire(date), interval);
 }
 
-/* Reads how often a timer has fired since the last read, and waits till it does. */
+/* Reads how often a timer has fired since the last read, and waits till it does; it waits again where another has read
+   that meanwhile. */
 static ssize_t read_timer(int number, void *bytes, size_t count) {
   if (number >= ELEMENTS || !run->timers[number].is_made) return with_errno(-EBADF, -1);
   if (count < sizeof(uint64_t)) return with_errno(-EINVAL, -1);
   struct timer *timer = &run->timers[number];
   int error = go_oob();
-  if (error == 0) {
+  do {
+    if (error != 0) return with_errno(error, -1);
     error = error_of(simple_wait(evlsim_call_begin_take((uint16_t)timer->group, EVLSIM_TAKE_ANY, 0), NEVER));
-  }
-  if (error != 0) return with_errno(error, -1);
-  see_write(bytes, sizeof timer->ticks), memcpy(bytes, &timer->ticks, sizeof timer->ticks);
+  } while (error != 0 || timer->ticks == 0);
+  uint64_t ticks = timer->ticks;
   timer->ticks = 0;
-  return (ssize_t)sizeof timer->ticks;
+  see_write(bytes, sizeof ticks), memcpy(bytes, &ticks, sizeof ticks);
+  return (ssize_t)sizeof ticks;
 }
 
 /* What follows the fire of a timer. */
@@ -228,22 +235,26 @@ void evl_init_timer(struct evl_timer *timer, void (*handler)(struct evl_timer *t
 }
 
 void evl_start_timer(struct evl_timer *timer, ktime_t date, ktime_t interval) {
+  at_call();
   int number = timer_of(timer->efd);
   if (number < 0 || date < 0 || interval < 0) fail("a timer is started that isn't made, or at a negative date");
-  (void)set_timer(number, date == 0 ? 1 : (uint64_t)date, (uint64_t)interval);
+  (void)set_timer(number, first_fire((uint64_t)date), (uint64_t)interval);
 }
 
 void evl_stop_timer(struct evl_timer *timer) {
+  at_call();
   int number = timer_of(timer->efd);
   if (number >= 0) (void)set_timer(number, 0, 0);
 }
 
 void evl_destroy_timer(struct evl_timer *timer) {
+  at_call();
   int number = timer_of(timer->efd);
   if (number < 0) return;
-  (void)call_core(evlsim_call_drop_timer((uint16_t)number));
+  (void)do_call(caller(), evlsim_call_drop_timer((uint16_t)number));
   run->timers[number].is_made = false;
   timer->efd = -1;
+  go_on();
 }
 
 uint64_t evl_get_timer_overruns(struct evl_timer *timer) {

@@ -33,14 +33,32 @@ static bool read_date(const struct timespec *it, uint64_t *date) {
   return true;
 }
 
+/* A date of the driver's clocks as one of the kernel's, which begins at 0: what lies before that is past. */
+static uint64_t since_start(uint64_t date) { return date > kept->limits.starts ? date - kept->limits.starts : 0; }
+
+static bool read_point(const struct timespec *it, uint64_t *date) {
+  if (!read_date(it, date)) return false;
+  *date = since_start(*date);
+  return true;
+}
+
 /* The deadline of a wait: a date of 0 is none, as libevl has it. */
 static bool read_deadline(const struct timespec *it, uint64_t *date) {
   if (!read_date(it, date)) return false;
-  if (*date == 0) *date = NEVER;
+  *date = *date == 0 ? NEVER : since_start(*date);
   return true;
+}
+
+/* The date of a timer's first fire, after 0 in the kernel. */
+static uint64_t first_fire(uint64_t date) {
+  uint64_t since = since_start(date);
+  return since == 0 ? 1 : since;
 }
 
 static void write_date(uint64_t date, struct timespec *it) {
   it->tv_sec = (time_t)(date / 1000000000u);
   it->tv_nsec = (long)(date % 1000000000u);
 }
+
+/* A date of the kernel as the driver's clocks have it. */
+static void write_point(uint64_t date, struct timespec *it) { write_date(date + kept->limits.starts, it); }

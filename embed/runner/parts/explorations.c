@@ -42,7 +42,7 @@ static void conclude(enum ending ending) {
 static void take_choices(uint32_t at) {
   kept->choice_count = kept->node[at].depth;
   for (unsigned each = kept->choice_count; each > 0; each--) {
-    struct choice choice = {kept->node[at].step, kept->node[at].source};
+    struct choice choice = {kept->node[at].step, kept->node[at].source, ""};
     kept->choices[each - 1] = choice;
     at = kept->node[at].parent;
   }
@@ -67,6 +67,7 @@ static void begin_round(void) {
   struct node root = {0, 0, 0, 0};
   kept->node[0] = root;
   kept->nodes = 1;
+  kept->at = 0;
   kept->outcomes = 0;
   kept->has_grown = false;
   kept->explored.lists = 0;
@@ -80,20 +81,50 @@ static bool has_to_begin_again(uint32_t done) {
   return is_level && kept->has_grown && !kept->limits.whole;
 }
 
+/* Runs the next list, and notes those that it leads to. */
+static void explore_next(void) {
+  take_choices(kept->at);
+  kept->explored.lists++;
+  run_whole(conclude);
+  if (!add_nodes(kept->at)) kept->explored.is_cut = true;
+  kept->at++;
+  if (has_to_begin_again(kept->at)) begin_round();
+}
+
+/* Runs one list after another, until all are run or this process's own memory has grown too much. */
+static void explore_part(void) {
+  size_t before = own_memory();
+  for (uint32_t runs = 1; kept->at < kept->nodes && (kept->limits.goes_on || !kept->explored.failed); runs++) {
+    kept->is_large = runs % 16 == 0 && own_memory() > before + MOST_GROWTH;
+    kept->explored.is_cut |= kept->explored.runs >= kept->limits.runs;
+    if (kept->is_large || kept->explored.runs >= kept->limits.runs) return;
+    explore_next();
+  }
+}
+
+/* A part in a process of its own, so that the memory which its runs don't give back goes with it. */
+static void explore_apart(void) {
+  int status = 0;
+  fflush(NULL);
+  kept->is_large = false;
+  pid_t child = fork();
+  if (child == 0) {
+    explore_part();
+    fflush(NULL);
+    _exit(0);
+  }
+  if (child < 0 || waitpid(child, &status, 0) != child) {
+    fprintf(stderr, "evlsim: %s can't go on in another process\n", kept->name);
+    exit(EXIT_FAILURE);
+  }
+  if (WIFSIGNALED(status)) signal(WTERMSIG(status), SIG_DFL), raise(WTERMSIG(status));
+  if (status != 0) exit(EXIT_FAILURE);
+}
+
 static void explore_all(void) {
   begin_round();
-  for (uint32_t at = 0; at < kept->nodes && (kept->limits.goes_on || !kept->explored.failed);) {
-    if (kept->explored.runs >= kept->limits.runs) {
-      kept->explored.is_cut = true;
-      return;
-    }
-    take_choices(at);
-    kept->explored.lists++;
-    run_whole(conclude);
-    if (!add_nodes(at)) kept->explored.is_cut = true;
-    at++;
-    if (has_to_begin_again(at)) begin_round(), at = 0;
-  }
+  explore_part();
+  while (kept->is_large) explore_apart();
 }
 
 static void print_explored(void) {
@@ -109,24 +140,31 @@ static void print_explored(void) {
   fputc('\n', stderr);
 }
 
-/* The lists of events as they are written: "line 5 @ 31, clock @ 40". */
+/* An event as it is written: how long that is, or 0. */
+static size_t read_choice(const char *text, struct choice *choice) {
+  unsigned line = 0, step = 0;
+  int length = 0;
+  char name[NAME_BYTES] = "";
+  uint32_t kind = A_LINE;
+  if (sscanf(text, "line %u [%31[^]]] @ %u%n", &line, name, &step, &length) != 3 || length == 0) {
+    name[0] = 0;
+    if (sscanf(text, "line %u @ %u%n", &line, &step, &length) != 2 || length == 0) kind = THE_CLOCK;
+  }
+  if (kind == THE_CLOCK && (sscanf(text, "clock @ %u%n", &step, &length) != 1 || length == 0)) kind = A_TURN;
+  if (kind == A_TURN && (sscanf(text, "turn @ %u%n", &step, &length) != 1 || length == 0)) return 0;
+  struct choice read = {step, IS_NAMED | kind << 16 | (kind == A_LINE ? line : 0), ""};
+  memcpy(read.name, name, sizeof name);
+  *choice = read;
+  return (size_t)length;
+}
+
+/* The list of events as it is written: "line 5 @ 31, clock @ 40". */
 static bool read_choices(const char *text) {
   kept->choice_count = 0;
   while (*text != 0 && kept->choice_count < CHOICES) {
-    unsigned line = 0, step = 0;
-    int length = 0;
-    uint32_t source = UINT32_MAX;
-    if (sscanf(text, "line %u @ %u%n", &line, &step, &length) == 2 && length > 0) {
-      source = line;
-    } else if (sscanf(text, "clock @ %u%n", &step, &length) == 1 && length > 0) {
-      source = 1u << 16;
-    } else if (sscanf(text, "turn @ %u%n", &step, &length) == 1 && length > 0) {
-      source = 2u << 16;
-    } else {
-      return false;
-    }
-    struct choice choice = {step, source | IS_NAMED};
-    kept->choices[kept->choice_count++] = choice;
+    size_t length = read_choice(text, &kept->choices[kept->choice_count]);
+    if (length == 0) return false;
+    kept->choice_count++;
     text += length;
     text += strspn(text, ", ");
   }
@@ -135,6 +173,7 @@ static bool read_choices(const char *text) {
 
 /* The variables are again as before: what is to outlast a run is EVLSIM_KEPT, or an outcome. */
 static int end_exploring(evlsim_explored *explored) {
+  restore_output();
   restore_variables();
   kept->explored.outcomes = kept->outcomes;
   if (kept->unseen[0] != 0) kept->explored.sees_accesses = false;
@@ -155,6 +194,7 @@ static int replay(void (*body)(void), const char *name, const char *choices, con
   evlsim_limits own;
   memset(&own, 0, sizeof own);
   if (limits != NULL) own.history = limits->history, own.steps = limits->steps, own.until = limits->until;
+  if (limits != NULL) own.starts = limits->starts;
   begin(body, name, &own);
   if (read_choices(choices)) {
     kept->explored.lists = 1;
@@ -162,7 +202,8 @@ static int replay(void (*body)(void), const char *name, const char *choices, con
     if (!kept->explored.failed) fprintf(stderr, "%s passed with %s\n", name, choices);
   } else {
     kept->explored.failed = true;
-    fprintf(stderr, "evlsim: no list of events, as \"line 5 @ 10, clock @ 18, turn @ 19\": %s\n", choices);
+    fprintf(stderr, "evlsim: no list of events, as \"line 5 @ 10, line 5 [name] @ 12, clock @ 18, turn @ 19\": %s\n",
+            choices);
   }
   return end_exploring(explored);
 }
@@ -176,6 +217,7 @@ int evlsim_explore_as(void (*body)(void), const char *name, const evlsim_limits 
   if (replayed != NULL) return replay(body, name, replayed, limits, explored);
   begin(body, name, limits);
   kept->offers = true;
+  keep_output();
   explore_all();
   print_explored();
   return end_exploring(explored);

@@ -71,10 +71,11 @@ static bool meets_noted(const char *address, size_t size, bool is_write) {
   return false;
 }
 
-/* Whether an event before this access may give something else than after it. */
-static bool is_relevant(const char *address, size_t size, bool is_write) {
+/* Whether an event before this access may give something else than after it. Of a copy on the heap, where nothing is
+   noted, only the first word counts: else a copy of many words would have as many moments. */
+static bool is_relevant(const char *address, size_t size, bool is_write, bool is_further) {
   if (kept->limits.whole) return true;
   if (is_constant(address)) return false;
-  if (!is_variable(address) && !is_on_a_stack(address)) return true;
+  if (!is_variable(address) && !is_on_a_stack(address)) return !is_further;
   return meets_noted(address, size, is_write);
 }

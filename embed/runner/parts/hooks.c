@@ -45,26 +45,23 @@ void evlsim_on_init(void) { has_hooks = true; }
 void evlsim_on_entry(void *from) {
   extern const char __start_evlsim_callers[], __stop_evlsim_callers[];
   uintptr_t at = (uintptr_t)from;
+  mend_torn();
   bool is_by_runner = at > (uintptr_t)__start_evlsim_callers && at <= (uintptr_t)__stop_evlsim_callers;
   if (run == NULL || !run->is_on || !is_by_runner) return;
   *(in_handler() ? &run->is_seen : &tasks[run->now].is_seen) = true;
 }
-void evlsim_on_exit(void *from) { (void)from; }
-void evlsim_on_read_range(void *at, size_t size) { see_access(at, size, false, PLACE); }
+void evlsim_on_exit(void *from) {
+  (void)from;
+  mend_torn();
+}
+void evlsim_on_read_range(void *at, size_t size) { read_words(at, size, PLACE); }
 void evlsim_on_write_range(void *at, size_t size) { see_access(at, size, true, PLACE); }
 void evlsim_on_vptr_read(void *at) { see_access(at, sizeof(void *), false, PLACE); }
 void evlsim_on_vptr_update(void *at, void *to) { (void)to, see_access(at, sizeof(void *), true, PLACE); }
 
-/* A copy is a read and a write; what comes between its bytes isn't tried. */
-void *evlsim_memcpy(void *to, const void *from, size_t size) {
-  if (has_hooks) see_access(from, size, false, PLACE), see_access(to, size, true, PLACE);
-  return memmove(to, from, size);
-}
-void *evlsim_memmove(void *to, const void *from, size_t size) { return evlsim_memcpy(to, from, size); }
-void *evlsim_memset(void *to, int byte, size_t size) {
-  if (has_hooks) see_access(to, size, true, PLACE);
-  return memset(to, byte, size);
-}
+void *evlsim_memcpy(void *to, const void *from, size_t size) { return copy_words(to, from, size, PLACE); }
+void *evlsim_memmove(void *to, const void *from, size_t size) { return copy_words(to, from, size, PLACE); }
+void *evlsim_memset(void *to, int byte, size_t size) { return set_words(to, byte, size, PLACE); }
 void *evlsim_on_memcpy(void *to, const void *from, size_t size) { return evlsim_memcpy(to, from, size); }
 void *evlsim_on_memmove(void *to, const void *from, size_t size) { return evlsim_memcpy(to, from, size); }
 void *evlsim_on_memset(void *to, int byte, size_t size) { return evlsim_memset(to, byte, size); }

@@ -2,10 +2,10 @@
  * Part of evlsim_runner.c: interrupt lines with the driver's handlers, stalls, and in-band work.
  */
 
+/* Requests a line; the moment is its caller's, before it takes a callback. */
 static int request(unsigned irq, bool is_oob, int callback, irq_handler_t handle, void *device) {
   struct handler *handler = new_handler();
   if (irq == 0 || irq > UINT16_MAX || handler == NULL || callback < 0) return -EINVAL;
-  at_call();
   evlsim_call call = evlsim_call_request((uint16_t)irq, is_oob ? EVLSIM_OOB : EVLSIM_INBAND, (uint8_t)callback, 0);
   evlsim_answer answer = do_call(caller(), call);
   if (evlsim_is_done(answer)) {
@@ -19,11 +19,13 @@ static int request(unsigned irq, bool is_oob, int callback, irq_handler_t handle
 int request_irq(unsigned irq, irq_handler_t handler, unsigned long flags, const char *name, void *device) {
   (void)name;
   expect_run("request_irq");
+  at_call();
   return request(irq, (flags & IRQF_OOB) != 0, take_callback(), handler, device);
 }
 
 int evlsim_request(unsigned line, bool is_oob, uint8_t callback) {
   expect_run("evlsim_request");
+  at_call();
   return request(line, is_oob, callback, NULL, NULL);
 }
 
@@ -50,34 +52,50 @@ void evlsim_arrive(unsigned line) {
   (void)call_core(evlsim_call_arrive((uint16_t)line));
 }
 
-void evlsim_stall_stage(bool is_oob) {
+/* Stalls a stage, and returns whether it was stalled. What is noted changes with the kernel: at the moment before, the
+   stage isn't stalled yet. */
+bool evlsim_stall_stage(bool is_oob, const char *file, int line) {
   expect_run("a stall");
-  run->is_stalled[is_oob] = true;
-  (void)call_core(evlsim_call_stall(is_oob ? EVLSIM_OOB : EVLSIM_INBAND));
+  at_call();
+  bool was_stalled = run->stalls[is_oob].is_on;
+  struct stall stall = {true, in_handler() ? -1 : run->now, file, line};
+  if (!was_stalled) run->stalls[is_oob] = stall;
+  (void)do_call(caller(), evlsim_call_stall(is_oob ? EVLSIM_OOB : EVLSIM_INBAND));
+  go_on();
+  return was_stalled;
 }
 
 void evlsim_unstall_stage(bool is_oob) {
   expect_run("an unstall");
-  run->is_stalled[is_oob] = false;
-  (void)call_core(evlsim_call_unstall(is_oob ? EVLSIM_OOB : EVLSIM_INBAND));
+  at_call();
+  run->stalls[is_oob].is_on = false;
+  (void)do_call(caller(), evlsim_call_unstall(is_oob ? EVLSIM_OOB : EVLSIM_INBAND));
+  go_on();
 }
 
-bool evlsim_is_stalled(bool is_oob) { return run->is_stalled[is_oob]; }
+bool evlsim_is_stalled(bool is_oob) {
+  expect_run("a look at a stall");
+  return run->stalls[is_oob].is_on;
+}
 
 /* In-band work: a line of the in-band stage, after all that a driver would request, does what is pending. */
-static irqreturn_t do_works(int irq, void *device) {
+CALLER static irqreturn_t do_works(int irq, void *device) {
   (void)irq, (void)device;
   while (run->first_work != NULL) {
     struct evl_work *work = run->first_work;
     run->first_work = work->next;
     work->is_pending = false;
-    (void)work->handler(work);
+    run->is_seen = false;
+    int (*handler)(struct evl_work *) = work->handler;
+    (void)handler(work);
+    if (!run->is_seen) note_unseen("in-band work", -1, &handler);
   }
   return IRQ_HANDLED;
 }
 
 void evl_init_work(struct evl_work *work, int (*handler)(struct evl_work *work)) {
   expect_run("evl_init_work");
+  at_call();
   work->handler = handler;
   work->is_pending = false;
   work->next = NULL;
@@ -88,12 +106,14 @@ void evl_init_work(struct evl_work *work, int (*handler)(struct evl_work *work))
 
 bool evl_call_inband(struct evl_work *work) {
   expect_run("evl_call_inband");
+  at_call();
   if (work->is_pending) return false;
   work->is_pending = true;
   work->next = NULL;
   struct evl_work **last = &run->first_work;
   while (*last != NULL) last = &(*last)->next;
   *last = work;
-  (void)call_core(evlsim_call_post(EVLSIM_INBAND, (uint16_t)run->work_line));
+  (void)do_call(caller(), evlsim_call_post(EVLSIM_INBAND, (uint16_t)run->work_line));
+  go_on();
   return true;
 }

@@ -83,8 +83,7 @@ static int lock_mutex(struct evl_mutex *mutex, uint64_t date) {
   if (word->owner < 0) return take_free(word, number);
   word->is_claimed = true;
   evlsim_call claim = evlsim_call_claim((uint16_t)number, (uint16_t)word->owner);
-  evlsim_answer answer = wait_in_core(claim, date, NULL, 0, NULL, 0);
-  return error_of(answer);
+  return error_of(wait_at_once(claim, date, no_bytes)); /* the claim names the owner, who may not change before it */
 }
 
 int evl_lock_mutex(struct evl_mutex *mutex) { return lock_mutex(mutex, NEVER); }

@@ -116,12 +116,18 @@ static bool in_handler(void) { return run->in_oob_handler || tasks[run->now].in_
 /* Who makes a call: the machine, where a handler does. */
 static int caller(void) { return in_handler() ? IDLE : run->now; }
 
-static void note_unseen(const char *what, int number) {
-  if (has_hooks && kept->unseen[0] == 0) snprintf(kept->unseen, sizeof kept->unseen, "%s%d", what, number);
+/* Who has stalled a stage, a thread or (-1) a handler, has to unstall it first. */
+static void expect_no_stall(int who, const char *what) {
+  for (int stage = 0; stage < 2; stage++) {
+    const struct stall *stall = &run->stalls[stage];
+    if (!stall->is_on || stall->by != who) continue;
+    fail("%s, and has stalled the %s stage: %s:%d", what, stage == 0 ? "in-band" : "out-of-band", stall->file,
+         stall->line);
+  }
 }
 
 CALLER static void call_handler(const struct handler *handler) {
-  char here;
+  char here, what[64];
   const char *before = run->below;
   bool was_seen = run->is_seen;
   int error = errno;
@@ -130,8 +136,12 @@ CALLER static void call_handler(const struct handler *handler) {
   if (handler->is_used && handler->is_timer) fire_timer(handler->element);
   if (handler->is_used && handler->handle != NULL) {
     (void)handler->handle(handler->element, handler->device);
-    if (!run->is_seen) note_unseen("the handler of line ", handler->element);
+    bool is_runners = handler->handle == do_works;
+    if (!run->is_seen && !is_runners) note_unseen("the handler of line ", handler->element, &handler->handle);
   }
+  const char *kind = handler->is_timer ? "timer" : "line";
+  snprintf(what, sizeof what, "the handler of %s %u returns", kind, (unsigned)handler->element);
+  expect_no_stall(-1, what);
   run->is_seen = was_seen;
   run->below = before;
   errno = error;

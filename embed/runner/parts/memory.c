@@ -39,6 +39,16 @@ static void restore_variables(void) {
   copy_bytes(__data_start + to, saved + to, size - to);
 }
 
+/* How many bytes this process has that it shares with no other; what is kept isn't among them. */
+static size_t own_memory(void) {
+  unsigned long all = 0, shared = 0;
+  FILE *file = fopen("/proc/self/statm", "r");
+  if (file == NULL) return 0;
+  bool is_read = fscanf(file, "%*u %lu %lu", &all, &shared) == 2;
+  fclose(file);
+  return is_read ? (all - shared) * (size_t)sysconf(_SC_PAGESIZE) : 0;
+}
+
 static void drop_variables(void) {
   munmap(variables, (size_t)(_end - __data_start));
   variables = NULL;

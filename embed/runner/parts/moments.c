@@ -3,6 +3,14 @@
  * is a load or store of the driver, or one of its calls; all are counted, so a moment has a number.
  */
 
+/* Whether another in-band thread may go on in place of the one that runs: not while interrupts are off. */
+static bool can_switch(void) {
+  if (tasks[run->now].is_oob || in_handler() || run->now == IDLE) return false;
+  if (run->stalls[false].is_on || run->stalls[true].is_on) return false;
+  int next = next_inband(run->now + 1);
+  return next != run->now && next != IDLE;
+}
+
 /* The sources that could have an event now, a bit for each. */
 static uint32_t ready_sources(void) {
   uint32_t ready = 0;
@@ -11,8 +19,7 @@ static uint32_t ready_sources(void) {
     bool is_ready = source->left > 0;
     if (source->kind == THE_CLOCK) is_ready = is_ready && next_due() != NEVER;
     if (source->kind == A_TURN) {
-      is_ready = is_ready && !tasks[run->now].is_oob && !in_handler() && run->now != IDLE &&
-                 next_inband(run->now + 1) != run->now && next_inband(run->now + 1) != IDLE;
+      is_ready = is_ready && can_switch();
     }
     if (is_ready) ready |= 1u << each;
   }
@@ -64,14 +71,59 @@ static void offer(uint32_t step, bool is_relevant_step) {
   kept->candidate[kept->candidates++] = noted;
 }
 
+/* What a source is, as a choice has it that was read. */
+static uint32_t kind_of(const struct source *source) { return (uint32_t)source->kind << 16 | source->line; }
+
+/* Which one of its line's sources it is, from 1 on. */
+static unsigned place_of(unsigned number) {
+  unsigned place = 0;
+  uint32_t kind = kind_of(&kept->source[number]);
+  for (unsigned each = 0; each <= number; each++) place += kind_of(&kept->source[each]) == kind;
+  return place;
+}
+
+/* Whether a source is meant by a name, or by its place in the place of a name; by none each of its line is. */
+static bool is_meant(unsigned number, const char *name) {
+  char *end;
+  unsigned long place = strtoul(name, &end, 10);
+  if (*name == 0) return true;
+  return *end == 0 ? place == place_of(number) : strcmp(name, kept->source[number].name) == 0;
+}
+
+/* The sources that a kind and a name mean: how many, and the first. */
+static unsigned sources_meant(uint32_t kind, const char *name, unsigned *first) {
+  unsigned count = 0;
+  for (unsigned each = kept->sources; each > 0; each--) {
+    if (kind_of(&kept->source[each - 1]) != kind || !is_meant(each - 1, name)) continue;
+    *first = each - 1;
+    count++;
+  }
+  return count;
+}
+
+/* What tells a source from the others of its line: nothing if there are none, its name, or its place. */
+static void write_name(char *name, unsigned number) {
+  const struct source *source = &kept->source[number];
+  unsigned first = 0;
+  bool is_alone = sources_meant(kind_of(source), "", &first) == 1;
+  bool is_known = source->name[0] != 0 && sources_meant(kind_of(source), source->name, &first) == 1;
+  snprintf(name, NAME_BYTES, "%s", is_alone ? "" : source->name);
+  if (!is_alone && !is_known) snprintf(name, NAME_BYTES, "%u", place_of(number));
+}
+
 /* The source of a choice: a number, or, where a list was read, what it is. */
 static unsigned source_of(struct choice *choice) {
+  unsigned first = 0, line = choice->source & 0xffff;
   if ((choice->source & IS_NAMED) == 0) return choice->source;
-  for (unsigned each = 0; each < run->sources; each++) {
-    const struct source *source = &run->source[each];
-    if (((unsigned)source->kind << 16 | source->line) == (choice->source & ~IS_NAMED)) return choice->source = each;
+  unsigned count = sources_meant(choice->source & ~IS_NAMED, choice->name, &first);
+  if (count == 0) fail("an event is chosen that no source has");
+  if (count > 1) {
+    char name[NAME_BYTES];
+    write_name(name, first);
+    unsigned step = choice->step;
+    fail("line %u has %u sources here: name one, as line %u [%s] @ %u", line, count, line, name, step);
   }
-  fail("an event is chosen that no source has");
+  return choice->source = first;
 }
 
 /* The next choice, if it is for this step. */
@@ -79,10 +131,18 @@ static bool is_chosen(uint32_t step) {
   return run->choices_made < kept->choice_count && kept->choices[run->choices_made].step == step;
 }
 
+/* An access of the driver's code: of so many bytes, and whether it is a further word of a copy. */
+struct access {
+  const char *address;
+  size_t size;
+  bool is_write, is_further;
+  const void *place;
+};
+
 /* A moment of the code that runs, before an access (with a size) or a call. */
-static void at_moment(const char *address, size_t size, bool is_write, const void *place) {
+static void at_moment(struct access access) {
   while (is_chosen(++run->step)) {
-    struct place noted = {place, run->now, run->entries};
+    struct place noted = {access.place, run->now, run->entries};
     kept->place[run->choices_made] = noted;
     unsigned source = source_of(&kept->choices[run->choices_made++]);
     if (!run->sources_open || (ready_sources() >> source & 1) == 0) {
@@ -92,23 +152,42 @@ static void at_moment(const char *address, size_t size, bool is_write, const voi
   }
   if (run->step > kept->limits.steps) fail("T%d goes on for ever: %u steps", run->now, (unsigned)run->step);
   if (!kept->offers || !run->sources_open || run->choices_made < kept->choice_count) return;
-  offer(run->step, size == 0 || is_relevant(address, size, is_write));
+  bool is_call = access.size == 0;
+  offer(run->step, is_call || is_relevant(access.address, access.size, access.is_write, access.is_further));
+}
+
+/* Gives a struct that was read word by word what belongs there. */
+static void mend_torn(void) {
+  struct torn *torn = run == NULL ? NULL : &kept->torn;
+  if (torn == NULL || torn->place == NULL) return;
+  memcpy(torn->place, torn->own, torn->size);
+  torn->place = NULL;
 }
 
 /* Before a call, and when all tasks wait. An out-of-band handler has no moments: nothing comes while it runs. */
 static void at_call(void) {
-  if (!run->in_oob_handler) at_moment(NULL, 0, false, NULL);
+  static const struct access call = {NULL, 0, false, false, NULL};
+  mend_torn();
+  if (!run->in_oob_handler) at_moment(call);
 }
-static void at_idle(void) { at_moment(NULL, 0, false, NULL); }
+static void at_idle(void) {
+  static const struct access call = {NULL, 0, false, false, NULL};
+  at_moment(call);
+}
+
+static void see(struct access access) {
+  if (run == NULL || !run->is_on || access.size == 0) return;
+  mend_torn();
+  bool is_caused = in_handler() || run->paused > 0;
+  bool is_stable = is_variable(access.address) || is_on_a_stack(access.address);
+  if (is_caused && is_stable && !is_local(access.address)) note_access(access.address, access.size, access.is_write);
+  if (!run->in_oob_handler) at_moment(access);
+}
 
 /* An access of the driver's code. */
 static void see_access(const void *at, size_t size, bool is_write, const void *place) {
-  const char *address = at;
-  if (run == NULL || !run->is_on || size == 0) return;
-  bool is_caused = in_handler() || run->paused > 0;
-  bool is_stable = is_variable(address) || is_on_a_stack(address);
-  if (is_caused && is_stable && !is_local(address)) note_access(address, size, is_write);
-  if (!run->in_oob_handler) at_moment(address, size, is_write, place);
+  struct access access = {at, size, is_write, false, place};
+  see(access);
 }
 
 /* What the runner itself reads and writes for the driver. */
@@ -119,21 +198,46 @@ static void see_read(const void *at, size_t size) {
   if (has_hooks) see_access(at, size, false, NULL);
 }
 
-/* The bench's side: sources, rest, outcomes. */
-static void add_source(enum source_kind kind, unsigned line, unsigned times, void (*device)(void *it), void *it) {
+/* The bench's side: sources, rest, outcomes. What is a source already has its further events. */
+static void add_source(struct source source) {
+  unsigned each = 0;
   expect_run("a source of events");
-  if (run->sources >= SOURCES) fail("there are more than %d sources", SOURCES);
-  struct source source = {kind, (uint16_t)line, times, device, it};
-  run->source[run->sources] = kept->source[run->sources] = source;
-  run->sources++;
   run->sources_open = true;
+  for (; each < run->sources; each++) {
+    const struct source *known = &run->source[each];
+    if (kind_of(known) == kind_of(&source) && known->device == source.device && known->it == source.it) break;
+  }
+  if (each >= SOURCES) fail("there are more than %d sources", SOURCES);
+  if (each < run->sources) source.left += run->source[each].left;
+  run->source[each] = kept->source[each] = source;
+  if (each == run->sources) kept->sources = ++run->sources;
 }
 
-void evlsim_may_arrive(unsigned line, unsigned times, void (*device)(void *it), void *it) {
-  add_source(A_LINE, line, times, device, it);
+/* Takes the name of a device from the arguments that a test has written; what is no name is left out. */
+static void take_name(struct source *source, const char *arguments) {
+  static const char letters[] = "abcdefghijklmnopqrstuvwxyzABCDEFGHIJKLMNOPQRSTUVWXYZ0123456789_:";
+  const char *name = arguments + strspn(arguments, "& ");
+  size_t length = strspn(name, letters), end = length + strspn(name + length, " ");
+  if (name[end] != ',' || length == 0 || length >= NAME_BYTES || (*name >= '0' && *name <= '9')) return;
+  memcpy(source->name, name, length);
 }
-void evlsim_may_pass(unsigned times) { add_source(THE_CLOCK, 0, times, NULL, NULL); }
-void evlsim_may_switch(unsigned times) { add_source(A_TURN, 0, times, NULL, NULL); }
+
+void evlsim_may_arrive_as(const char *arguments, unsigned line, unsigned times, void (*device)(void *it), void *it) {
+  struct source source = {A_LINE, (uint16_t)line, times, device, it, ""};
+  take_name(&source, arguments);
+  add_source(source);
+}
+void (evlsim_may_arrive)(unsigned line, unsigned times, void (*device)(void *it), void *it) {
+  evlsim_may_arrive_as("", line, times, device, it);
+}
+void evlsim_may_pass(unsigned times) {
+  struct source source = {THE_CLOCK, 0, times, NULL, NULL, ""};
+  add_source(source);
+}
+void evlsim_may_switch(unsigned times) {
+  struct source source = {A_TURN, 0, times, NULL, NULL, ""};
+  add_source(source);
+}
 
 void evlsim_settle(void) {
   expect_run("evlsim_settle");

@@ -67,7 +67,7 @@ static void add_wait(unsigned number) {
 static void fail_stuck(void) {
   bool is_late = next_due() != NEVER;
   snprintf(run->why, sizeof run->why, "%s", is_late ? "the last date is reached" : "stuck: all threads wait for good");
-  if (run->is_stalled[1]) {
+  if (run->stalls[true].is_on) {
     snprintf(run->why + strlen(run->why), sizeof run->why - strlen(run->why), "\n  the out-of-band stage is stalled");
   }
   for (unsigned each = BODY; each < run->made.tasks; each++) {
@@ -76,15 +76,18 @@ static void fail_stuck(void) {
   end_run(FAILED);
 }
 
-/* Of a list that was read, an event that didn't come has no source yet: its name says what it is. */
+/* Of a list that was read, an event that didn't come has no source yet: it is told as it was read. */
 static const char *choice_name(const struct choice *choice, char *text, size_t size) {
-  bool is_named = (choice->source & IS_NAMED) != 0;
-  const struct source *source = is_named ? NULL : &kept->source[choice->source];
-  uint32_t kind = is_named ? (choice->source & ~IS_NAMED) >> 16 : (uint32_t)source->kind;
-  if (kind == A_LINE) {
-    snprintf(text, size, "line %u", is_named ? (unsigned)(choice->source & 0xffff) : (unsigned)source->line);
+  bool is_read = (choice->source & IS_NAMED) != 0;
+  uint32_t kind = is_read ? choice->source & ~IS_NAMED : kind_of(&kept->source[choice->source]);
+  char name[NAME_BYTES];
+  snprintf(name, sizeof name, "%s", choice->name);
+  if (!is_read) write_name(name, choice->source);
+  if (kind >> 16 == A_LINE) {
+    bool has_name = name[0] != 0;
+    snprintf(text, size, "line %u%s%s%s", (unsigned)(kind & 0xffff), has_name ? " [" : "", name, has_name ? "]" : "");
   } else {
-    snprintf(text, size, "%s", kind == THE_CLOCK ? "clock" : "turn");
+    snprintf(text, size, "%s", kind >> 16 == THE_CLOCK ? "clock" : "turn");
   }
   return text;
 }
@@ -94,7 +97,7 @@ static void write_choices(char *text, size_t size) {
   text[0] = 0;
   for (unsigned each = 0; each < kept->choice_count; each++) {
     size_t length = strlen(text);
-    char name[32];
+    char name[2 * NAME_BYTES];
     snprintf(text + length, size - length, "%s%s @ %u", each == 0 ? "" : ", ",
              choice_name(&kept->choices[each], name, sizeof name),
              (unsigned)kept->choices[each].step);
@@ -124,7 +127,7 @@ static void print_place(const void *place) {
 }
 
 static void print_events(void) {
-  char name[32];
+  char name[2 * NAME_BYTES];
   for (unsigned each = 0; each < run->choices_made; each++) {
     const struct place *place = &kept->place[each];
     fprintf(stderr, "  %s after entry %u, in T%d %s", choice_name(&kept->choices[each], name, sizeof name),
@@ -220,16 +223,17 @@ static void write_files(void) {
   fprintf(stderr, "picture: %s\n", draw(picture) ? picture : "none, for want of memory or of room");
 }
 
-/* Whether the limits may end a run where those of evlsim_replay don't. */
+/* Whether a run may be another by the limits of evlsim_replay. */
 static bool has_own_limits(void) {
   const evlsim_limits *it = &kept->limits;
-  return it->history != HISTORY || it->steps != STEPS || it->until != NEVER - 1;
+  return it->history != HISTORY || it->steps != STEPS || it->until != NEVER - 1 || it->starts != STARTS;
 }
 
 /* All that there is to say of a run that failed. */
 static void report_failure(void) {
   char choices[CHOICES_BYTES];
   write_choices(choices, sizeof choices);
+  print_output();
   fprintf(stderr, "%s FAILED: %s\n", kept->name, run->why);
   if (run->choices_made > 0) fprintf(stderr, "events:\n");
   print_events();

@@ -82,6 +82,9 @@ static void begin_run(void) {
   run->sleepers = -1;
   run->inband = BODY;
   kept->candidates = 0;
+  kept->sources = 0;
+  kept->torn.place = NULL;
+  drop_output();
   run->is_on = true;
   (void)make_task(be_idle, NULL, "idle");
   (void)make_task(run_body, NULL, "body");
@@ -115,9 +118,7 @@ static void finish_run(enum ending ending, void (*conclude)(enum ending)) {
     ending = FAILED;
   }
   kept->ending = ending;
-  for (int each = BODY; each < (int)run->made.tasks; each++) {
-    if (tasks[each].has_begun && !tasks[each].is_seen) note_unseen("T", each);
-  }
+  note_unseen_threads();
   if (ending != BEGINS_AGAIN) conclude(ending);
   end_kernel();
 }
@@ -180,12 +181,16 @@ static void take_limits(const evlsim_limits *limits) {
   if (it->history == 0) it->history = HISTORY;
   if (it->steps == 0) it->steps = STEPS;
   if (it->until == 0) it->until = NEVER - 1;
+  if (it->starts == 0) it->starts = STARTS;
   /* Their own data would lie among the program's variables. */
   bool is_static = is_variable((const char *)(const void *)stdout);
   if (has_sanitizer() || is_static) it->forks = true;
 }
 
 static void begin(void (*body)(void), const char *name, const evlsim_limits *limits) {
+  if (run != NULL && run->is_on) {
+    fail("evlsim_explore, evlsim_test or evlsim_replay of %s is called within a run: call one after the other", name);
+  }
   if (kept != NULL) munmap(kept, sizeof *kept);
   bool is_first = run == NULL;
   kept = pages(sizeof *kept, MAP_SHARED);

@@ -22,7 +22,7 @@ static bool can_run(int number) {
     case BYTES: return has_bytes(task->target);
     case ROOM: return has_room(task->target, task->needs);
     case A_GATE: return run->gates[task->target].count == 0 || !run->gates[task->target].is_oob;
-    case A_LOCK: return pthread_mutex_is_free(task->wanted);
+    case A_LOCK: return is_lock_free(task->wanted) || run->date >= task->date;
     case REST: return false;
   }
   return false;
@@ -59,9 +59,16 @@ static void yield_if_due(void) {
   if (tasks[run->now].awaits == NOTHING) change_task(next_task());
 }
 
-/* Waits, as the task's own `awaits` says. */
+static void expect_no_stall_of_task(const char *what) {
+  char text[64];
+  snprintf(text, sizeof text, "T%d %s %s", run->now, tasks[run->now].name, what);
+  expect_no_stall(run->now, text);
+}
+
+/* Waits, as the task's own `awaits` says; only for the bench's rest it may do so with a stage that it has stalled. */
 static void wait_here(void) {
   if (in_handler()) fail("a handler waits");
+  if (tasks[run->now].awaits != REST) expect_no_stall_of_task("begins to wait");
   change_task(next_task());
   tasks[run->now].awaits = NOTHING;
   run_inband_handlers();
@@ -72,7 +79,8 @@ static uint64_t next_due(void) {
   uint64_t due = NEVER;
   for (unsigned each = 1; each < run->made.tasks; each++) {
     const struct task *task = &tasks[each];
-    bool is_dated = (task->awaits == A_DATE || task->awaits == THE_CORE) && !task->has_ended;
+    bool is_wait = task->awaits == A_DATE || task->awaits == THE_CORE || task->awaits == A_LOCK;
+    bool is_dated = is_wait && !task->has_ended;
     if (is_dated && task->date > run->date && task->date < due) due = task->date;
     bool is_without_budget = task->is_oob && task->awaits == NOTHING && task->policy == 2 && !task->has_ended;
     uint64_t second = (run->date / 1000000000u + 1) * 1000000000u;
@@ -152,6 +160,8 @@ static void finish_task(void *value) {
   struct task *task = &tasks[run->now];
   task->value = value;
   if (task->held != 0) fail("T%d %s ends, and has a mutex or a stax", run->now, task->name);
+  if (task->locks != 0) fail("T%d %s ends, and has an in-band mutex", run->now, task->name);
+  expect_no_stall_of_task("ends");
   if (run->now == BODY) end_run(ENDED);
   if (task->is_attached) {
     (void)do_call(run->now, evlsim_call_detach());

@@ -13,8 +13,11 @@ enum {
   STAXES = 16,
   SOURCES = 16,
   CHOICES = 64,
-  CHOICES_BYTES = 2048, /* of a list of so many events, as text */
+  NAME_BYTES = 32,      /* of a source's name, with its end */
+  CHOICES_BYTES = 4096, /* of a list of so many events, as text */
   QUEUE = 1 << 12,
+  MOST_TORN = 4096, /* bytes of a struct of which each word has a moment */
+  MOST_GROWTH = 1 << 28, /* bytes by which a process may grow in an exploration */
   CANDIDATES = 1 << 20,
   NODES = 1 << 24,
   TOUCHED = 1 << 16,
@@ -22,7 +25,9 @@ enum {
   OUTCOME_BYTES = 512,
   HISTORY = 10000,
   STEPS = 1000000,
+  STARTS = 1999999999, /* what is added to it has to be carried, and a time from now is past as a date */
   PROGRAM_BANK = 8,
+  RUN_PROCESS = 1000,
   IDLE = 0,
   BODY = 1
 };
@@ -62,6 +67,7 @@ struct task {
   int target; /* the element or the task that it waits for */
   unsigned needs;
   unsigned held; /* how many mutexes and staxes it has */
+  unsigned locks; /* how many in-band mutexes it has */
   uint32_t staxes;
   uint16_t group;
   uint8_t policy;
@@ -118,6 +124,14 @@ struct gate {
   unsigned waiting;
 };
 
+/* Who has stalled a stage, and where; a handler's stall is nobody's, since it ends with the handler. */
+struct stall {
+  bool is_on;
+  int by;
+  const char *file;
+  int line;
+};
+
 /* What a source is. */
 enum source_kind { A_LINE, THE_CLOCK, A_TURN };
 struct source {
@@ -126,6 +140,7 @@ struct source {
   unsigned left;
   void (*device)(void *);
   void *it;
+  char name[NAME_BYTES]; /* what its test calls the device; empty where that is no name */
 };
 
 /* A moment at which a source's event may come, and which sources could have one. */
@@ -136,12 +151,19 @@ struct candidate {
 struct choice {
   uint32_t step;
   uint32_t source;
+  char name[NAME_BYTES]; /* of its source, where a list was read that has it */
 };
 /* Where a chosen event came. */
 struct place {
   const void *code;
   int task;
   unsigned entries;
+};
+/* A struct that is copied behind a step, in which each word is for that long as it was when it was read. */
+struct torn {
+  char *place;
+  size_t size;
+  char own[MOST_TORN]; /* what belongs there */
 };
 struct node {
   uint32_t parent;
@@ -171,7 +193,7 @@ struct run {
   bool is_reported; /* whether a sanitizer has reported something and went on */
   bool in_oob_handler;
   bool is_seen; /* whether the code of the handler that runs calls in */
-  bool is_stalled[2];
+  struct stall stalls[2]; /* of the in-band stage and of the out-of-band one */
   enum ending ending;
   int now;           /* the task that runs */
   int inband;        /* the task that has the in-band stage */
@@ -227,14 +249,20 @@ struct kept {
   struct choice choices[CHOICES];
   unsigned choice_count;
   struct source source[SOURCES]; /* those of the last run, by which events are named */
+  unsigned sources;
   bool offers; /* whether candidates are noted */
   bool has_grown;
   enum ending ending;
+  uint32_t at;   /* the node that is run next */
+  bool is_large; /* whether this process ended its part of the exploration, since its memory has grown */
+  int output; /* the program's standard output, while that of runs is kept */
+  bool is_output_kept;
   char unseen[64]; /* whose loads and stores aren't seen, though those of other code are */
   uint32_t candidates;
   uint32_t nodes;
   uint32_t touches;
   uint32_t outcomes;
+  struct torn torn;
   struct place place[CHOICES];
   struct touched touched[TOUCHED];
   struct outcome outcome[OUTCOMES];

@@ -119,14 +119,11 @@ static bool read_policy(const struct evl_sched_attrs *from, struct task *to) {
   return true;
 }
 
-int evl_set_schedattr(int efd, const struct evl_sched_attrs *attrs) {
-  expect_run("evl_set_schedattr");
-  int number = number_of(efd, FD_THREAD);
-  if (number < 0 || number >= (int)run->made.tasks) return -EBADF;
+/* Sets a thread's policy in the core; the moment is its caller's, before it looks whether the thread is attached. */
+static int set_policy(int number, const struct evl_sched_attrs *attrs) {
   struct task *task = &tasks[number];
   struct task wanted = *task;
-  if (attrs == NULL || !read_policy(attrs, &wanted)) return -EINVAL;
-  at_call();
+  if (!read_policy(attrs, &wanted)) return -EINVAL;
   evlsim_answer answer = do_call(number, evlsim_call_set_policy(policy_of(&wanted)));
   if (evlsim_is_done(answer)) {
     task->policy = wanted.policy, task->prio = wanted.prio;
@@ -136,11 +133,20 @@ int evl_set_schedattr(int efd, const struct evl_sched_attrs *attrs) {
   return evlsim_refused_as(answer, EVLSIM_REFUSAL_RANGE) ? -EINVAL : error_of(answer);
 }
 
+int evl_set_schedattr(int efd, const struct evl_sched_attrs *attrs) {
+  expect_run("evl_set_schedattr");
+  at_call();
+  int number = number_of(efd, FD_THREAD);
+  if (number < 0 || number >= (int)run->made.tasks) return -EBADF;
+  return attrs == NULL ? -EINVAL : set_policy(number, attrs);
+}
+
 int evl_get_schedattr(int efd, struct evl_sched_attrs *attrs) {
   static const int policies[] = {SCHED_FIFO, SCHED_RR, SCHED_QUOTA, SCHED_WEAK};
   expect_run("evl_get_schedattr");
   int number = number_of(efd, FD_THREAD);
   if (number < 0 || number >= (int)run->made.tasks) return -EBADF;
+  at_call();
   memset(attrs, 0, sizeof *attrs);
   attrs->sched_policy = policies[tasks[number].policy];
   attrs->sched_priority = tasks[number].prio;
@@ -151,9 +157,13 @@ int evl_get_schedattr(int efd, struct evl_sched_attrs *attrs) {
 
 int evl_yield(void) {
   expect_run("evl_yield");
-  if (in_handler() || !tasks[run->now].is_attached) return -EPERM;
-  tasks[run->now].left = tasks[run->now].slice;
-  return error_of(call_core(evlsim_call_set_policy(policy_of(&tasks[run->now]))));
+  struct task *task = &tasks[run->now];
+  if (in_handler() || !task->is_attached) return -EPERM;
+  at_call(); /* another may set this thread's policy there */
+  task->left = task->slice;
+  evlsim_answer answer = do_call(run->now, evlsim_call_set_policy(policy_of(task)));
+  go_on();
+  return error_of(answer);
 }
 
 int evl_printf(const char *format, ...) {
@@ -165,6 +175,22 @@ int evl_printf(const char *format, ...) {
 }
 
 /* pthread's calls; a thread's handle is its number. */
+static int set_param(pthread_t thread, int policy, const struct sched_param *param) {
+  struct evl_sched_attrs attrs;
+  memset(&attrs, 0, sizeof attrs);
+  attrs.sched_policy = policy;
+  attrs.sched_priority = param->sched_priority;
+  attrs.sched_rr_quantum.tv_nsec = 10000000;
+  if (tasks[thread].is_attached) return -set_policy((int)thread, &attrs);
+  return read_policy(&attrs, &tasks[thread]) ? 0 : EINVAL;
+}
+
+int evlsim_pthread_setschedparam(pthread_t thread, int policy, const struct sched_param *param) {
+  expect_run("pthread_setschedparam");
+  at_call();
+  return thread < run->made.tasks ? set_param(thread, policy, param) : ESRCH;
+}
+
 int evlsim_pthread_create(pthread_t *thread, const pthread_attr_t *attr, void *(*start)(void *), void *argument) {
   expect_run("pthread_create");
   go_inband();
@@ -176,7 +202,7 @@ int evlsim_pthread_create(pthread_t *thread, const pthread_attr_t *attr, void *(
   if (attr != NULL && pthread_attr_getinheritsched(attr, &inherits) == 0 && inherits == PTHREAD_EXPLICIT_SCHED) {
     pthread_attr_getschedpolicy(attr, &policy);
     pthread_attr_getschedparam(attr, &param);
-    evlsim_pthread_setschedparam((pthread_t)number, policy, &param);
+    set_param((pthread_t)number, policy, &param);
   }
   *thread = (pthread_t)number;
   return 0;
@@ -203,40 +229,10 @@ void evlsim_pthread_exit(void *value) {
   finish_task(value);
 }
 
-int evlsim_pthread_setschedparam(pthread_t thread, int policy, const struct sched_param *param) {
-  expect_run("pthread_setschedparam");
-  if (thread >= run->made.tasks) return ESRCH;
-  struct evl_sched_attrs attrs;
-  memset(&attrs, 0, sizeof attrs);
-  attrs.sched_policy = policy;
-  attrs.sched_priority = param->sched_priority;
-  attrs.sched_rr_quantum.tv_nsec = 10000000;
-  if (tasks[thread].is_attached) return -evl_set_schedattr(fd_of(FD_THREAD, (int)thread), &attrs);
-  return read_policy(&attrs, &tasks[thread]) ? 0 : EINVAL;
-}
 
 int evlsim_pthread_setname_np(pthread_t thread, const char *name) {
   if (thread >= run->made.tasks) return ESRCH;
   snprintf(tasks[thread].name, sizeof tasks[thread].name, "%s", name);
-  return 0;
-}
-
-/* An in-band lock: nobody else runs between its look and its taking. */
-static bool pthread_mutex_is_free(const void *mutex) {
-  if (pthread_mutex_trylock((pthread_mutex_t *)(uintptr_t)mutex) != 0) return false;
-  pthread_mutex_unlock((pthread_mutex_t *)(uintptr_t)mutex);
-  return true;
-}
-
-int evlsim_pthread_mutex_lock(pthread_mutex_t *mutex) {
-  if (run == NULL || !run->is_on) return pthread_mutex_lock(mutex);
-  go_inband();
-  at_call();
-  while (pthread_mutex_trylock(mutex) != 0) {
-    tasks[run->now].awaits = A_LOCK;
-    tasks[run->now].wanted = mutex;
-    wait_here();
-  }
   return 0;
 }
 
@@ -252,6 +248,9 @@ int evlsim_thread(void (*start)(void *it), void *it, const char *name) {
   tasks[number].simple = start;
   return number;
 }
+
+/* Names that have it are then the same in each run, so that reports and outcomes can be compared. */
+pid_t evlsim_getpid(void) { return run != NULL && run->is_on ? RUN_PROCESS : getpid(); }
 
 void evlsim_join(int thread) { (void)evlsim_pthread_join((pthread_t)thread, NULL); }
 int evlsim_self(void) { return run->now; }

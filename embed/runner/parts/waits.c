@@ -2,13 +2,21 @@
  * Part of evlsim_runner.c: waits in the core, and the elements that end them: semaphores, flag groups, cross-buffers.
  */
 
-/* Waits for what `begin` begins, and returns what ended the wait. */
-static evlsim_answer wait_in_core(evlsim_call begin, uint64_t date, const void *bytes, size_t length, void *out,
-                                  size_t room) {
+/* What a wait writes, and where what it reads goes. */
+struct transfer {
+  const void *bytes;
+  size_t length;
+  void *out;
+  size_t room;
+};
+static const struct transfer no_bytes = {NULL, 0, NULL, 0};
+
+/* Waits for what `begin` begins, and returns what ended the wait. There is no moment before it begins, so what its
+   caller saw since the last one is still so. */
+static evlsim_answer wait_at_once(evlsim_call begin, uint64_t date, struct transfer with) {
   struct task *task = &tasks[run->now];
   if (date != NEVER) begin = evlsim_until(begin, date);
-  at_call();
-  evlsim_answer answer = do_bytes(run->now, begin, bytes, length, NULL, 0);
+  evlsim_answer answer = do_bytes(run->now, begin, with.bytes, with.length, NULL, 0);
   if (!evlsim_is_begun(answer)) {
     go_on();
     return answer;
@@ -19,15 +27,18 @@ static evlsim_answer wait_in_core(evlsim_call begin, uint64_t date, const void *
   wait_here();
   task->date = NEVER;
   at_call();
-  answer = do_bytes(run->now, evlsim_call_finish(task->held != 0 || task->keeps_stage), NULL, 0, out, room);
+  answer = do_bytes(run->now, evlsim_call_finish(task->held != 0 || task->keeps_stage), NULL, 0, with.out, with.room);
   if (task->policy == 3) task->is_oob = evlsim_see_stage(&run->kernel, (uint16_t)run->now) == EVLSIM_OOB;
   go_on();
   return answer;
 }
 
-static evlsim_answer simple_wait(evlsim_call begin, uint64_t date) {
-  return wait_in_core(begin, date, NULL, 0, NULL, 0);
+static evlsim_answer wait_in_core(evlsim_call begin, uint64_t date, struct transfer with) {
+  at_call();
+  return wait_at_once(begin, date, with);
 }
+
+static evlsim_answer simple_wait(evlsim_call begin, uint64_t date) { return wait_in_core(begin, date, no_bytes); }
 
 /* Notes a new element: its place, or the run begins again, since the board lacks it. `is_same` tells of a known one. */
 static int note_element(unsigned *made, unsigned *known, unsigned opened, unsigned most, bool is_same) {

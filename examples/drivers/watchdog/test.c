@@ -6,7 +6,7 @@
 
 #include "watchdog.h"
 
-enum { PERIOD = 1000, EVENT_IRQ = 9 };
+enum { PERIOD = 2000, EVENT_IRQ = 9 };
 static struct evl_sem event;
 static unsigned bites, told;
 void watchdog_bite(void) { bites++; }
@@ -20,10 +20,10 @@ static irqreturn_t on_event(int irq, void *device) {
 /* Is well in each period: in its middle. */
 static void *run_regularly(void *it) {
   evl_attach_self("regular");
+  evl_usleep(PERIOD / 2000);
   for (int period = 0; period < 3; period++) {
-    struct timespec date = {.tv_nsec = period * PERIOD + PERIOD / 2};
-    evl_sleep_until(EVL_CLOCK_MONOTONIC, &date);
     watchdog_tell(0);
+    evl_usleep(PERIOD / 1000);
   }
   return it;
 }

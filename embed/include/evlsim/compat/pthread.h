@@ -14,6 +14,9 @@
 #pragma redefine_extname pthread_setschedparam evlsim_pthread_setschedparam
 #pragma redefine_extname pthread_setname_np evlsim_pthread_setname_np
 #pragma redefine_extname pthread_mutex_lock evlsim_pthread_mutex_lock
+#pragma redefine_extname pthread_mutex_timedlock evlsim_pthread_mutex_timedlock
+#pragma redefine_extname pthread_mutex_trylock evlsim_pthread_mutex_trylock
+#pragma redefine_extname pthread_mutex_unlock evlsim_pthread_mutex_unlock
 #endif
 #include_next <pthread.h>
 #ifndef EVLSIM_RUNNER
@@ -27,6 +30,8 @@ int pthread_cond_wait(pthread_cond_t *__restrict condition, pthread_mutex_t *__r
 EVLSIM_NOT_HERE(EVLSIM_WHY_CONDITION)
 int pthread_cond_timedwait(pthread_cond_t *__restrict condition, pthread_mutex_t *__restrict mutex,
                            const struct timespec *__restrict date);
+EVLSIM_NOT_HERE("the runner has no clocks to choose from: use pthread_mutex_timedlock")
+int pthread_mutex_clocklock(pthread_mutex_t *__restrict mutex, clockid_t clock, const struct timespec *__restrict date);
 EVLSIM_NOT_HERE("the runner has no cancellation: let the thread look at a flag")
 int pthread_cancel(pthread_t thread);
 #ifdef __cplusplus

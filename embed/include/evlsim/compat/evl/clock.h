@@ -1,4 +1,7 @@
-/* libevl's clock services over the simulated date, which moves to the next due one when all threads wait. */
+/*
+ * libevl's clock services over the simulated date, which moves to the next due one when all threads wait. It begins at
+ * 1.999999999 s, or at evlsim_limits.starts.
+ */
 #ifndef EVLSIM_COMPAT_CLOCK_H
 #define EVLSIM_COMPAT_CLOCK_H
 
@@ -18,7 +21,7 @@ int evl_read_clock(int clockfd, struct timespec *date);
 int evl_get_clock_resolution(int clockfd, struct timespec *resolution);
 int evl_sleep_until(int clockfd, const struct timespec *date);
 int evl_usleep(unsigned microseconds);
-EVLSIM_NOT_HERE("the simulated date isn't set: it begins at 0 and moves on")
+EVLSIM_NOT_HERE("the simulated date isn't set: it begins at limits.starts and moves on")
 int evl_set_clock(int clockfd, const struct timespec *date);
 
 #ifdef __cplusplus
