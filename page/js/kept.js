@@ -44,7 +44,8 @@ export function keep_texts() {
     other[id] = there ?? kept.get(key) ?? own[id];
     differs ||= there !== null;
     well = kept.set(key, mine) && well;
-    known.set(key, mine);
+    // (a full store keeps what was there)
+    known.set(key, kept.get(key));
   }
   const changed = $('text').value !== own.text || $('bank').value !== own.bank;
   $('kept').textContent = !well ? 'not saved: this browser stores nothing for this page' : changed ? 'saved' : '';

@@ -102,9 +102,16 @@ const of_orders = [
   ['a deadline in a hole', filled(0, '1\nuntil = 9'), 'bad'],
   ['a question of its own', filled(1, 0).replace('always_ends = true', 'as_picked = true'), 'bad'],
   ['a question that the program warns of', filled(0, 1).replace('do = "finish"\nwho = 2\n\n[[step]]\ndo = "put"', 'do = "put"'), 'bad']];
+/** One with two checks: lines as they were copied from the trace, and a table [ask]. */
+const PUTS_TEXT = `[board]\nthreads = 2\nsems = [0]\n\n${table({ do: 'peek', who: 0, sem: 0 })}\n${HOLE_LINE}\n`;
+export const OF_BOTH = { title: 'Two puts', question: '', text: PUTS_TEXT, solution: '', check: ['lines', 'ask'],
+  lines: ['2 T0 put sem=0 -> done', '  - T0 put sem=0 -> done'], ask: '[ask]\nsometimes = ["sem 0 count = 3"]' };
+const puts = (/** @type {number} */ count) => PUTS_TEXT.replace(HOLE_LINE, tables(0, Array(count).fill(['put', 0])));
+const of_both = [['two', puts(2), 'bad'], ['three', puts(3), 'good'], ['one of three by T1', puts(3).replace(/who = 0(?=\nsem = 0\n$)/, 'who = 1'), 'good'],
+  ['three, two of them by T1', puts(3).replace(/who = 0(?=\nsem = 0\n\n\[\[step\]\]\ndo = "put"\nwho = 0\nsem = 0\n\s*$)/, 'who = 1').replace(/who = 0(?=\nsem = 0\n\s*$)/, 'who = 1'), 'bad']];
 /** @type {[any, any[][]][]} */
 const ALL = [[EXERCISES[0], of_chain], [EXERCISES[1], of_arrivals], [EXERCISES[2], of_locks], [EXERCISES[3], of_stax],
-  [OF_LINES, of_lines], [OF_ORDERS, of_orders]];
+  [OF_LINES, of_lines], [OF_ORDERS, of_orders], [OF_BOTH, of_both]];
 /** Each answer with its exercise, what it is, its text and callbacks, and how it has to be judged. */
 export const ANSWERS = ALL.flatMap(([exercise, answers]) =>
   answers.map(([what, text, wanted, bank = '']) => ({ exercise, what: `${exercise.title}: ${what}`, text, bank, wanted })));
