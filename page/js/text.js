@@ -43,10 +43,10 @@ export function is_lines(text) {
 }
 /** A line of a text of lines with no comment. @param {string} line */
 export const said_of = line => line.replace(/(^|\s)#.*/, '').trim();
-const CALLERS_WORD = new RegExp(`\\bdo\\s*=\\s*["'](${Object.keys(CALLERS_WORDS).join('|')})["']`);
+const CALLERS_WORD = new RegExp(`\\bdo["']?\\s*=\\s*["'](${Object.keys(CALLERS_WORDS).join('|')})["']`);
 /** Whether a text has staxes, or words that a machine's callers alone have: its orders are of atomic steps. @param {string} text */
 export const has_callers = text => text.split('\n').map(line => bare_of(line).trim())
-  .some(line => /^staxes\s*=/.test(line) || CALLERS_WORD.test(line));
+  .some(line => /(^|[{,.]\s*)["']?staxes["']?\s*=/.test(line) || CALLERS_WORD.test(line));
 /** @param {string} text */
 export function kind_of(text) {
   if (is_lines(text)) return text.split('\n').some(line => /^setup\s+[^=]/.test(said_of(line))) ? 'orders' : 'play';
@@ -56,7 +56,8 @@ export function kind_of(text) {
   const scenario = has(/^\[\s*board\s*\]|^\[\[\s*(step|setup)\s*\]\]|^(step|setup|board)\b\s*[=.]/m);
   if (!scenario && has(/^\[\[\s*callback\s*\]\]|^callback\s*=/m)) return 'bank';
   if (has(/^\[\s*ask\s*\]|^ask\s*[=.]|^\[\[\s*setup\s*\]\]|^setup\s*=/m)) return 'orders';
-  return has_callers(whole) ? 'callers' : 'play';
+  if (!has_callers(whole)) return 'play';
+  return has(/^\[\s*what_if\s*\]|(^|[{,]\s*)lasts\s*=/m) ? 'orders' : 'callers';
 }
 
 /** The line of each step of a text of lines: what is set up comes first. @param {string} text */

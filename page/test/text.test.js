@@ -14,7 +14,7 @@ const texts = name => fs.readdirSync(folder(name)).filter(it => it.endsWith('.to
   .map(it => [it, fs.readFileSync(path.join(folder(name), it), 'utf8')]);
 
 test('the kind of each text of the repository is seen', () => {
-  const kinds = { orders: 'orders', scenarios: 'play', 'scenarios/lessons': 'play', banks: 'bank', callers: 'callers' };
+  const kinds = { orders: 'orders', 'orders/steps': 'orders', scenarios: 'play', 'scenarios/lessons': 'play', banks: 'bank', callers: 'callers' };
   for (const [name, kind] of Object.entries(kinds)) {
     assert.ok(texts(name).length > 0, name);
     for (const [file, text] of texts(name)) assert.equal(kind_of(text), kind, file);
@@ -31,6 +31,12 @@ test('comments and quotes do not mislead', () => {
   assert.equal(bare_of('a = "#1" # no'), 'a = "#1" ');
   assert.equal(bare_of('a = "\\"#" # no'), 'a = "\\"#" ');
   assert.equal(kind_of(' \n# nothing\n'), 'empty');
+});
+test('callers are seen in each form of TOML, and orders of atomic steps by what orders alone have', () => {
+  const step = '[[step]]\nwho = 0\n"do" = "take"\n', board = '[board]\nthreads = 1\n';
+  assert.deepEqual([board + step, 'board = { threads = 1, staxes = [1] }\n', 'board.staxes = [1]\n', board + '[[step]]\ndo = "put"\n'].map(kind_of),
+    ['callers', 'callers', 'callers', 'play']);
+  assert.deepEqual([`${board}${step}lasts = true\n`, `${board}${step}[what_if]\nraise = "sets no mark"\n`, `${board}${step}# lasts = true\n`].map(kind_of), ['orders', 'orders', 'callers']);
 });
 test('texts of lines are seen by their first line that says anything', () => {
   const are = ['board threads=1', '\ufeffboard', ' # a\n\nlimit 5\n', 'T0 put sem=0', '3 T1 pick', 'setup T1 x'];
