@@ -6,8 +6,8 @@ import base64, gzip, hashlib, html, json, os, re, shutil, subprocess, sys
 
 HERE = os.path.dirname(os.path.abspath(__file__))
 # Each after those that it imports: the one file has them one after another.
-MODULES = ('now', 'program', 'text', 'reads', 'states', 'asks', 'kept', 'complete', 'parts', 'editor', 'picture', 'steps',
-           'orders', 'console', 'exercise', 'mine', 'qr', 'share', 'page')
+MODULES = ('now', 'program', 'text', 'stays', 'reads', 'states', 'asks', 'kept', 'complete', 'parts', 'editor', 'picture', 'steps',
+           'orders', 'console', 'exercise', 'make', 'mine', 'qr', 'share', 'brought', 'bars', 'page')
 # A line of a trace in a lesson: a click goes to its step.
 STEP = r'<button class="at" data-step="\1">\g<0></button>'
 # The text of the page's first lesson; page/stories.md explains it.
@@ -92,6 +92,18 @@ def texts_with_stories(group, folders, stories):
             yield {'group': group, 'title': plain_title(os.path.basename(file)[:-5]), 'text': read(file)}
 
 
+def with_links(story, titles):
+    """A story with a link to the page's own text where it names a file of orders."""
+    def link(found):
+        title = titles.get(found[1])
+        if not title:
+            sys.exit(f'page: a lesson names {found[1]}.toml, which this page does not have')
+        name = re.sub(r'[^a-z0-9]+', '-', f'orders {title}'.lower()).strip('-')
+        return f'<a href="#lesson={name}">{html.escape(title)}</a>'
+    story = re.sub(r'<code>examples/orders/(?:\w+/)?(\w+)\.toml</code>', link, story)
+    return story.replace('<code>./lab orders</code> prints', 'The tab <b>Orders</b> shows')
+
+
 def lessons_of(top):
     """The lessons with their text of docs/use/LESSONS.md, the exercises, the orders and the callers' texts."""
     folder = os.path.join(folder_of(top, 'scenarios'), 'lessons')
@@ -105,8 +117,12 @@ def lessons_of(top):
     for number, (name, (title, story)) in enumerate(stories.items(), 1):
         text = read(folder, name + '.toml')
         lessons.append({'group': 'Lessons', 'title': f'{number}. {title}', 'text': text, 'story': story})
-    lessons += exercises()
     orders = folder_of(top, 'orders')
+    titles = {os.path.basename(file)[:-5]: plain_title(os.path.basename(file)[:-5]) for file in texts_of(orders)}
+    titles |= {name: title for name, (title, _) in own.items()}
+    for it in lessons:
+        it['story'] = with_links(it['story'], titles)
+    lessons += exercises()
     lessons += texts_with_stories('Orders', (orders, f'{orders}/asked', f'{orders}/steps'), own)
     told = named_stories(read(top, 'docs/use/CALLERS_TEXT.md'), '###')
     lessons += texts_with_stories('Callers', (folder_of(top, 'callers'),), told)

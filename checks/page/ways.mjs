@@ -6,6 +6,7 @@ import os from 'node:os';
 import path from 'node:path';
 import { qr_svg } from '../../page/js/qr.js';
 import { code_of } from '../../page/js/share.js';
+import { ANSWERS, EXERCISES } from '../../page/test/answers.mjs';
 import { sleep } from './browsers.mjs';
 import { dice } from './runs.mjs';
 
@@ -104,6 +105,7 @@ async function walks(page) {
   for (let i = 0; i < 3; i++) await browser.key('ArrowDown');
   await page.step(5);
   await browser.until(`document.getElementById('state').textContent.includes('After step 5')`);
+  assert.match(await page.see('state-says'), /^Step 5: /);
   assert.equal(await browser.evaluate(`document.querySelectorAll('#lines [aria-selected=true]').length`), 2);
   const step = `[...document.querySelectorAll('#under .step')].map(it => it.textContent).join()`;
   assert.match(await browser.evaluate(step), /do = "arrive"/);
@@ -416,12 +418,12 @@ async function orders(page) {
   await page.played(turn);
   assert.equal(await page.see('kind'), 'scenario');
 }
-/** Orders of atomic steps open too, as their steps; what lab check, which does not know them, says of them is not told. */
+/** Orders of atomic steps open too, as their steps; the first of them that contradicts what is asked is marked. */
 async function atomic(page) {
   const { browser } = page, steps = name => fs.readFileSync(path.join(page.top, 'examples/orders/steps', `${name}.toml`), 'utf8');
   await page.lesson('Two locks');
   await page.put(steps('stax_2'));
-  assert.equal(await page.see('verdict'), 'No: outcome 4 contradicts what is asked.');
+  assert.equal(await page.see('verdict'), 'No: outcome 4 is the first that contradicts what is asked.');
   assert.equal(await page.see('faults'), 'no fault');
   const rows = `[...document.querySelectorAll('#outcomes tbody tr:not(.picture)')].map(it => it.innerText.replace(/\\s+/g, ' '))`;
   const told = await browser.evaluate(rows);
@@ -446,7 +448,7 @@ async function moments(page) {
   const { browser } = page, asked = name => fs.readFileSync(path.join(page.top, 'examples/orders/asked', `${name}.toml`), 'utf8');
   await page.lesson('Two locks');
   await page.put(asked('inversion_by_a_semaphore'));
-  assert.match(await page.see('verdict'), /^No: state 1 is against what is asked/);
+  assert.equal(await page.see('verdict'), 'No: state 1 contradicts what is asked.');
   const rows = await browser.evaluate(`[...document.querySelectorAll('#moments tbody tr')].map(it => it.innerText.replace(/\\s+/g, ' '))`);
   assert.match(rows[0], /^1 ✗.* never_state T2 picked and T3 waits for sem 0 at a moment T1 T2 T3 T3$/);
   assert.equal(rows.length, 3);
@@ -455,6 +457,15 @@ async function moments(page) {
   await browser.until(`document.getElementById('viewed-title').textContent.startsWith('State 1 (T2 picked')`);
   await browser.until(`/^step (\\d+) of \\1$/.test(document.getElementById('at').textContent)`);
   await browser.until(`document.getElementById('state').textContent.includes('sem 0')`);
+  const made = [['begin_get', 1, 0], ['begin_get', 1, 1], ['begin_get', 2, 0], ['put', 2, 1]];
+  await page.put(`[board]\nthreads = 3\nsems = [1, 1]\n[ask]\nends_waits = true\n${[1, 2].map(who =>
+    `[[setup]]\ndo = "attach"\nwho = ${who}\npolicy = "fifo 10"\nstage = "oob"\n`).join('')}${made.map(([call, who, sem]) =>
+    `[[step]]\ndo = "${call}"\nwho = ${who}\nsem = ${sem}\n`).join('')}`);
+  const marked = await browser.evaluate(`[...document.querySelectorAll('#outcomes tbody tr:not(.picture)')].map(it => it.className)`);
+  assert.ok(marked.length > 1 && marked.every(it => it === 'bad'), String(marked));
+  await page.put('[board]\nthreads = 2\nsems = [1]\n[ask]\nalways_ends = true\nas_picked = true\n[[setup]]\ndo = "attach"\nwho = 1\n'
+    + 'policy = "fifo 10"\nstage = "oob"\n[[step]]\ndo = "begin_get"\nwho = 1\nsem = 0\n');
+  assert.match(await page.see('verdict'), /^What is asked holds in the one order as threads are picked, but check that it is what you mean: /);
   await page.put(asked('no_finish').replace('ends_waits = true\n', ''));
   assert.match(await page.see('verdict'), /check that it is what you mean: .*no finish after its last wait/);
   await browser.click('#back-to');
@@ -685,6 +696,29 @@ async function exercises(page) {
   await browser.until(`document.getElementById('checked').className === 'good'`);
   await page.shot('exercise');
   assert.ok(await page.turn() > turn);
+  await browser.click('#back-to');
+}
+/** Each stored answer is judged as it has to be, by the page's own button; the caret is at the hole. */
+async function judges(page) {
+  const { browser } = page, wrong = [];
+  for (const it of EXERCISES) {
+    await page.lesson(it.title);
+    const text = await page.value('text'), chosen = await browser.evaluate(`(() => { const it = document.getElementById('text');
+      return it.value.slice(it.selectionStart, it.selectionEnd); })()`);
+    assert.equal(text, it.text);
+    assert.equal(chosen, text.includes('____') ? '____' : text.includes('# your steps here') ? '# your steps here' : chosen);
+    for (const { what, text, bank, wanted } of ANSWERS.filter(answer => answer.exercise === it)) {
+      await page.put(text);
+      if (bank) await page.put(bank, 'bank');
+      await browser.click('#check');
+      await browser.until(`document.getElementById('checked').className !== 'busy'`, 60000);
+      const how = await browser.evaluate(`document.getElementById('checked').className`);
+      if (how !== wanted) wrong.push(`${what}: ${wanted} is wanted, ${how} it is: ${await page.see('checked')}`);
+      if (bank) await page.put('', 'bank');
+    }
+    await browser.click('#back-to');
+  }
+  assert.deepEqual(wrong, []);
 }
 /** An exercise of one's own, with a question, shared as a link and opened as another student does. */
 async function shares(page) {
@@ -835,9 +869,35 @@ async function narrow(page) {
   await page.step(3);
   assert.equal(await browser.evaluate(`document.getElementById('walk').hidden`), false);
 }
+/** A lesson's own text has no line that is wider than its room. */
+async function story_fits(page) {
+  for (const title of ['13. Inversion by', '14. Inversion ended']) {
+    await page.lesson(title, 'story');
+    for (const width of [390, 1280]) {
+      await page.browser.resize(width, 720);
+      await sleep(200);
+      const [is, room] = await page.browser.evaluate(`(() => { const it = document.getElementById('side-story');
+        return [it.scrollWidth, it.clientWidth]; })()`);
+      assert.ok(is <= room, `${title} at ${width}: ${is} in ${room}`);
+    }
+  }
+}
+/** A lesson leads to the page's own text of orders, and back. */
+async function leads(page) {
+  const { browser } = page;
+  for (const [from, to] of [['13. Inversion by', 'Inversion by a semaphore, at each moment'], ['14. Inversion ended', 'Inversion ended by a mutex, at each moment']]) {
+    await page.lesson(from, 'story');
+    assert.doesNotMatch(await page.see('story'), /examples\/|\.\/lab/);
+    const turn = await page.turn();
+    await browser.evaluate(`document.querySelector('#story a[href^="#lesson="]').click()`);
+    await page.played(turn, 60000);
+    assert.equal(await page.see('name'), to);
+  }
+}
 /** Each width has no more than the window across, and shows what it should. */
 async function widths(page) {
   const { browser } = page;
+  await story_fits(page);
   await page.lesson('13. Inversion by a semaphore');
   for (const [width, height] of [[360, 740], [760, 900], [1280, 720], [1920, 1080], [2560, 1300]]) {
     await browser.resize(width, height);
@@ -901,19 +961,74 @@ async function owns(page) {
   await page.open();
   assert.equal(await page.see('name'), 'Two puts');
   assert.match(await page.see('lines'), /2 T1 put sem=0 -> done/);
-  turn = await page.turn();
-  await browser.evaluate(`(() => { const file = new File(['[board]\\nthreads = 1\\n'], 'bare.toml');
-    const held = new DataTransfer(); held.items.add(file);
-    document.body.dispatchEvent(new DragEvent('drop', { dataTransfer: held, bubbles: true })); })()`);
-  await page.played(turn);
+  const drop_file = async text => {
+    const turn = await page.turn();
+    await browser.evaluate(`(() => { const file = new File([${JSON.stringify(text)}], 'bare.toml');
+      const held = new DataTransfer(); held.items.add(file);
+      document.body.dispatchEvent(new DragEvent('drop', { dataTransfer: held, bubbles: true })); })()`);
+    await page.played(turn);
+  };
+  await drop_file('[board]\nthreads = 1\n');
   assert.deepEqual(await mine(), ['bare.toml', 'Two puts', ...before]);
   await show();
   await page.shot('own');
-  await browser.click('#mine [data-drop="0"]');
-  await browser.click('#mine [data-drop="0"]');
+  await drop_file('[board]\n# another\nthreads = 2\n');
+  assert.deepEqual(await mine(), ['bare.toml (2)', 'bare.toml', 'Two puts', ...before]);
+  await show();
+  await browser.click('#mine [data-drop="2"]');
+  assert.deepEqual(await mine(), ['bare.toml (2)', 'bare.toml', ...before]);
+  await browser.click('#undo-drop');
+  assert.deepEqual(await mine(), ['bare.toml (2)', 'bare.toml', 'Two puts', ...before]);
+  turn = await page.turn();
+  await browser.click('#mine [data-n="2"]');
+  await page.played(turn);
+  assert.match(await page.see('lines'), /2 T1 put sem=0 -> done/);
+  await show();
+  for (let i = 0; i < 3; i++) await browser.click('#mine [data-drop="0"]');
   assert.deepEqual(await mine(), before);
   await page.lesson('5. A timer');
 }
+/** No text takes another one's place: two links of one lesson, and what another tab wrote into the same text. */
+async function stays(page) {
+  const { browser } = page, kept = says => browser.evaluate(`Object.keys(localStorage).some(key => localStorage[key].includes('${says}'))`);
+  const link_with = async says => {
+    await page.lesson('13. Inversion by a semaphore');
+    await page.put(await page.value('text') + says);
+    await browser.click('#link');
+    await browser.until(`location.hash.startsWith('#text=')`);
+    const link = await browser.evaluate('location.href');
+    await browser.click('#back-to');
+    return link;
+  };
+  const anna = await link_with('# Anna\n'), bernd = await link_with('# Bernd\n');
+  await page.open(anna);
+  await page.put(await page.value('text') + '# 2 points\n');
+  await page.open(bernd);
+  assert.match(await page.value('text'), /# Bernd\n$/);
+  await browser.click('#back-to');
+  assert.ok(await kept('2 points'));
+  await page.open(anna);
+  assert.match(await page.value('text'), /# Anna\n# 2 points\n$/);
+  await page.open();
+  await page.lesson('5. A timer');
+  const own = await page.value('text'), key = 'evl text Lessons 5. A timer that misses periods';
+  assert.equal(await browser.evaluate(`document.getElementById('name').textContent`), key.slice('evl text Lessons '.length));
+  await browser.evaluate(`localStorage.setItem('${key}', ${JSON.stringify(own + '# their hour\n')})`);
+  await page.put(own + '# my word\n');
+  assert.match(await page.see('status'), /^Another tab has changed this text too: what it wrote is in My texts, as "5\. A timer .* \(from another tab\)"\.$/);
+  assert.ok(await kept('# their hour') && await kept('# my word'));
+  const turn = await page.turn();
+  await browser.evaluate(`localStorage.setItem('${key}', ${JSON.stringify(own + '# their second\n')});
+    window.dispatchEvent(new StorageEvent('storage', { key: '${key}' }))`);
+  await page.played(turn);
+  assert.match(await page.value('text'), /# their second\n$/);
+  assert.equal(await page.see('status'), 'Changed in another tab.');
+  await browser.click('#back-to');
+  while (await browser.evaluate(`Boolean(document.querySelector('#mine [data-drop]'))`)) {
+    if (!await browser.evaluate('document.body.classList.contains("listed")')) await browser.click('#lessons-button');
+    await browser.click('#mine [data-drop]');
+  }
+}
 
 export const WAYS = { opens, walks, goes, marks, tables, edits, completes, expects, seeks, lines, drives, orders, atomic, moments, stops, stops_play, callers, pages,
-  long_texts, handlers, exercises, owns, shares, codes, keyboard, widths, keeps, compares };
+  long_texts, handlers, exercises, judges, owns, stays, leads, shares, codes, keyboard, widths, keeps, compares };

@@ -1,9 +1,10 @@
 // What the page asks of the program, all in one place: each view is a run of its own, of 1 to 10 ms. Nothing else of
 // the page knows the program's words, so this module can be exchanged for one over other forms of its answers.
-import { is_against, read_calls, read_notices, read_orders, read_refused, read_trace, FILE, BANK } from './reads.js';
+import { read_calls, read_found, read_notices, read_refused, read_report, read_trace, why_of, FILE, BANK } from './reads.js';
 import { Runner } from './program.js';
 import { read_states } from './states.js';
-import { first_steps, is_lines, steps_of } from './text.js';
+import { parts_of, step_of_line } from './stays.js';
+import { first_steps, has_callers, is_lines, kind_of, scenario_of, steps_of } from './text.js';
 
 /** @typedef {{ kind: string, text: string, bank: string, turns?: string[] }} Text */
 export const ORDERS_SECONDS = 60;
@@ -11,13 +12,13 @@ export const ORDERS_SECONDS = 60;
 let short;
 /** @type {Runner} One for what is asked beside that: pictures and faults. */
 let side;
-/** @type {Runner | null} One for orders, so that an edit is answered while orders are gone through. */
-let long = null;
+/** @type {Runner[]} Two for orders, so that an edit is answered while orders are gone through: what is found, and warnings. */
+let long = [];
 export function begin_program(/** @type {Uint8Array} */ code) {
   short = new Runner(code);
   side = new Runner(code);
 }
-export const stop_orders = (/** @type {string} */ why) => long?.stop(why);
+export const stop_orders = (/** @type {string} */ why) => long.forEach(it => it.stop(why));
 /** Ends what is played, drawn and checked. */
 export const stop_runs = (/** @type {string} */ why) => { short.stop(why); side.stop(why); };
 /** @param {string[]} words @param {string} text */
@@ -101,14 +102,63 @@ export async function said(machine, lines) {
   return out.split(/^# \.\n/m).slice(1);
 }
 
+/**
+ * What the report of orders warns of, which the JSON does not have. Where it is not known, that is a warning too.
+ * @param {import('./program.js').Answer} report
+ */
+const doubts_of = report => [0, 1, 5].includes(report.status) ? read_report(report.out).doubts
+  : [`its warnings are not known: ${why_of(report.err)}`];
+/** Orders of atomic steps, which have no JSON: the program names the first outcome or state that is against what is asked. */
+function found_in_report(/** @type {import('./program.js').Answer} */ report, /** @type {Text} */ it) {
+  const found = read_report(report.out), [, of, first] = report.err.match(/(outcome|state) (\d+) is against/) || [];
+  const with_verdict = (/** @type {string} */ kind) => (/** @type {any} */ one) => ({ ...one, against: of === kind && one.number === first,
+    turns: [`--${kind}`, one.number], has_order: Boolean(one.order) });
+  return { ...found, whole: report.status !== 5, outcomes_asked: null, first_alone: true,
+    states: found.states.map(with_verdict('state')), outcomes: found.outcomes.map(with_verdict('outcome')), of: it };
+}
+const NOTHING_FOUND = { orders: '', whole: true, outcomes_asked: null, states: [], outcomes: [], doubts: [] };
 /** Every order in which the callers may come. @param {Text} it @param {(text: string) => void} heard */
 export async function gone_through(it, asks, heard) {
-  long ||= new Runner(short.code);
-  const answer = await long.ask(['orders', FILE, ...over(it)], files_of(it), '', ORDERS_SECONDS, heard);
-  const first = answer.err.match(/outcome (\d+) is against/)?.[1], found = read_orders(answer.out);
-  const against = first ? found.outcomes.filter(o => o.number === first || is_against(o, asks)).map(o => o.number) : [];
-  return { ...found, ...answer, asks, against,
-    told: answer.status > 1 ? read_refused(answer.err, it.text) : [] };
+  if (!long.length) long = [new Runner(short.code), new Runner(short.code)];
+  const ask = (/** @type {Runner} */ runner, /** @type {string[]} */ more, /** @type {any} */ hears) =>
+    runner.ask(['orders', ...more, FILE, ...over(it)], files_of(it), '', ORDERS_SECONDS, hears);
+  const asked = ask(long[1], [], heard), answer = await ask(long[0], ['--json'], undefined);
+  const is_answered = [0, 1, 5].includes(answer.status) && answer.out, in_steps = /--json is for orders of whole calls/.test(answer.err);
+  if (!is_answered && !in_steps)
+    return { ...NOTHING_FOUND, ...answer, asks, told: answer.status > 1 ? read_refused(answer.err, it.text) : [] };
+  const report = await asked;
+  if (is_answered) return { ...read_found(answer.out), doubts: doubts_of(report), ...answer, asks, told: [], of: it };
+  return { ...found_in_report(report, it), ...report, asks, told: report.status > 1 ? read_refused(report.err, it.text) : [] };
 }
+/** The scenario of an order of callers, or of the moment before their first step. @param {Text} it @param {any} found */
+export async function scenario_in_order(it, found) {
+  const how = found.order ? ['--order', found.order] : ['--state', found.number];
+  return (await short.ask(['orders', ...how, FILE, ...over(it)], files_of(it))).out;
+}
+/** @type {Promise<ReturnType<typeof read_calls>> | null} */
+let list_of_calls = null;
 /** The list of calls, with their keys, values and answers. */
-export const calls = async () => read_calls((await short.ask(['help', '--json'])).out);
+export const calls = () => list_of_calls ||= short.ask(['help', '--json']).then(({ out }) => read_calls(out));
+/** Which value a key of a call has where it is left out. @returns {Promise<import('./stays.js').Usual>} */
+export async function usual_values() {
+  const list = await calls();
+  return (word, key) => list.calls.get(word)?.keys.get(key)?.usual ?? (key === 'until' ? 'none' : undefined);
+}
+/**
+ * A text's board and steps as the program reads them, those that are set up first, or why it can't be read. Of orders of
+ * atomic steps it prints no steps: those are read here.
+ * @param {string} text @returns {Promise<import('./stays.js').Parts & { why: string }>}
+ */
+export async function parts_read(text, bank = '') {
+  const own = parts_of(text), kind = kind_of(text), refused = { ...own, steps: [] };
+  if (kind === 'orders' && has_callers(text)) return { ...own, why: '' };
+  if (kind === 'callers') {
+    const { status, err, entries } = await played({ kind, text, bank });
+    return status ? { ...refused, why: why_of(err) }
+      : { ...own, steps: entries.filter(it => it.kind === 'entry').map(it => step_of_line(it.line)), why: '' };
+  }
+  const { status, err, out } = await short.ask(['convert', '--lines', FILE], { [FILE]: kind === 'orders' ? scenario_of(text) : text });
+  if (status) return { ...refused, why: why_of(err) };
+  const { board, steps } = parts_of(out), set_up = own.steps.filter(it => it.setup).length;
+  return { board, steps: steps.map((it, n) => ({ ...it, setup: n < set_up })), why: '' };
+}

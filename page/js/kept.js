@@ -16,16 +16,45 @@ export const kept = {
     } catch { return false; }
   },
 };
-/** Keeps both texts of the lesson, where they are not its own. */
+/** What this tab read or wrote last of each text: another tab of the page may have written since. @type {Map<string, string | null>} */
+const known = new Map();
+/** What is kept of a lesson's text or callbacks, or null; from now on this tab knows it. @param {any} lesson @param {string} id */
+export function kept_text(lesson, id) {
+  const key = `${id} ${lesson.key}`, text = kept.get(key);
+  known.set(key, text);
+  return text;
+}
+/** What another tab has written to a key that this tab knew otherwise, or null. @param {string} key @param {string | null} mine */
+function of_other_tab(key, mine) {
+  const there = kept.get(key);
+  return known.has(key) && there !== known.get(key) && there !== mine ? there : null;
+}
+/**
+ * Keeps both texts of the lesson, where they are not its own. Answers what another tab had written there meanwhile, so
+ * that it is not lost, or null.
+ * @returns {{ text: string, bank: string } | null}
+ */
 export function keep_texts() {
-  if (!now.lesson) return;
-  const own = { text: now.lesson.text, bank: now.lesson.bank || '' };
-  const well = Object.entries(own).map(([id, text]) =>
-    kept.set(`${id} ${now.lesson.key}`, $(id).value === text ? null : $(id).value)).every(Boolean);
+  if (!now.lesson) return null;
+  const own = { text: now.lesson.text, bank: now.lesson.bank || '' }, other = { ...own };
+  let well = true, differs = false;
+  for (const id of /** @type {('text' | 'bank')[]} */ (['text', 'bank'])) {
+    const key = `${id} ${now.lesson.key}`, mine = $(id).value === own[id] ? null : $(id).value;
+    const there = of_other_tab(key, mine);
+    other[id] = there ?? kept.get(key) ?? own[id];
+    differs ||= there !== null;
+    well = kept.set(key, mine) && well;
+    // (a full store keeps what was there)
+    known.set(key, kept.get(key));
+  }
   const changed = $('text').value !== own.text || $('bank').value !== own.bank;
   $('kept').textContent = !well ? 'not saved: this browser stores nothing for this page' : changed ? 'saved' : '';
   $('back-to').disabled = !changed;
+  return differs ? other : null;
 }
+/** Of a key of the browser's store that another tab has written: the text or the callbacks of the lesson, or nothing. */
+export const box_of_key = (/** @type {string | null} */ key) =>
+  ['text', 'bank'].find(id => key === `evl ${id} ${now.lesson?.key}`);
 /** So many lines a browser replaces by its own undo in no time; of more it makes seconds. */
 const MOST_UNDONE = 100;
 /** The last text that was put in past the browser's undo: its box, and what was there before and after.
@@ -83,5 +112,11 @@ export async function handed() {
   if (!it) return null;
   const [, kind, name] = it, read = kind === 'lesson' ? { name, text: '' } : JSON.parse(await unpacked(name));
   if (typeof read.text !== 'string') throw new Error('it has no text');
-  return { kind, read, key: name.slice(0, 24) };
+  return { kind, read };
+}
+/** A number of all the bytes of a text (FNV-1a, of 64 bits): two texts that differ anywhere have two. @param {string} text */
+export function hash_of(text) {
+  let hash = 0xcbf29ce484222325n;
+  for (const byte of new TextEncoder().encode(text)) hash = BigInt.asUintN(64, (hash ^ BigInt(byte)) * 0x100000001b3n);
+  return hash.toString(16).padStart(16, '0');
 }

@@ -1,26 +1,38 @@
 // Every order in which the callers may come: a verdict, what was asked, a table of outcomes, each opened by a click.
 import { $, all, now, escaped, text_of } from './now.js';
-import { drawn, gone_through, played, stop_orders, ORDERS_SECONDS } from './asks.js';
+import { drawn, gone_through, played, scenario_in_order, stop_orders, ORDERS_SECONDS } from './asks.js';
 import { why_of } from './reads.js';
-import { ask_of } from './text.js';
+import { ask_of, bare_of } from './text.js';
 
 const MOST_OUTCOMES = 200, MOST_PICTURES = 24;
 let turn = 0;
 /** @type {any} */
 let shown = null;
 
+/** What is against what is asked, in words: outcomes, questions about moments, how many outcomes. @param {any} it */
+function contradiction(it) {
+  const named = (/** @type {string} */ what, /** @type {any[]} */ all) => {
+    const bad = all.filter(one => one.against).map(one => one.number);
+    return bad.length ? [`${what}${bad.length > 1 ? 's' : ''} ${bad.join(', ')}`] : [];
+  };
+  const found = [...named('outcome', it.outcomes), ...named('state', it.states)], count = it.outcomes.length;
+  const verb = found.length > 1 || /^\w+s /.test(found[0] || '') ? 'contradict' : it.first_alone ? 'is the first that contradicts' : 'contradicts';
+  if (found.length) return `${found.join(' and ')} ${verb} what is asked`;
+  return it.whole && it.outcomes_asked !== null && it.outcomes_asked !== count
+    ? `${count_text(it.outcomes_asked, 'outcome')} ${it.outcomes_asked === 1 ? 'is' : 'are'} asked for, and there ${count === 1 ? 'is' : 'are'} ${count}` : why_of(it.err);
+}
+/** Whether the scheduler of one processor picks who makes a step. @param {string} asks */
+const is_picked = asks => asks.split('\n').some(line => /^\s*["']?as_picked["']?\s*=\s*true/.test(bare_of(line)));
 /** How it ended, and in which words. @param {any} it */
 export function verdict_of(it) {
-  const why = why_of(it.err);
+  const why = why_of(it.err), picked = is_picked(it.asks || '') ? ' as threads are picked' : '';
   const doubt = it.asks ? it.doubts[0] : '';
   if (it.status === -2) return ['unknown', `Not answered: ${why}. Fewer callers or fewer steps have fewer orders.`];
-  const several = it.against.length > 1;
-  if (it.against.length) return ['bad', `No: outcome${several ? 's' : ''} ${it.against.join(', ')} contradict${several ? '' : 's'} what is asked.`];
-  if (it.status === 1) return ['bad', `No: ${why}.`];
-  if (it.cut) return ['unknown', `Not answered: cut off; nothing is known about longer orders (${it.orders} ended).`];
+  if (it.status === 1) return ['bad', `No: ${contradiction(it)}.`];
+  if (!it.whole) return ['unknown', `Not answered: cut off; nothing is known about longer orders (${it.orders} ended).`];
   if (it.status) return ['bad', `The orders were not explored: ${why}`];
   if (!it.asks) return ['none', `Nothing is asked. There ${it.orders === '1' ? 'is' : 'are'} ${count_text(it.orders, 'order')}.`];
-  const well = `holds in ${it.orders === '1' ? 'the one order' : `all ${it.orders} orders`}`;
+  const well = `holds in ${it.orders === '1' ? 'the one order' : `all ${it.orders} orders`}${picked}`;
   return doubt ? ['unknown', `What is asked ${well}, but check that it is what you mean: ${doubt}.`]
     : ['good', `Yes: what is asked ${well}.`];
 }
@@ -50,7 +62,7 @@ export async function go_orders(mine, text) {
 }
 /** @param {any} o @param {number} i @param {any} it @param {number} sum */
 function outcome_row(o, i, it, sum) {
-  const bad = it.against.includes(o.number), sign = bad ? ' ✗<span class="heard"> against what is asked</span>' : '';
+  const bad = o.against, sign = bad ? ' ✗<span class="heard"> against what is asked</span>' : '';
   const stuck = o.stuck.map(says => `<b class="refused">stuck: ${escaped(says)}</b>`);
   const ends = [...stuck, ...o.ends.map(escaped)].join('<br>');
   const answers = o.answers.map(a => escaped(a.replace(' -> ', ': ').replace(/ -> /g, ', '))).join('<br>');
@@ -62,12 +74,10 @@ function outcome_row(o, i, it, sum) {
 }
 /** @param {string | number} n @param {string} what */
 const count_text = (n, what) => `${n} ${what}${String(n) === '1' ? '' : 's'}`;
-/** Whether there is an order to show: a scenario, or one of atomic steps. @param {any} it */
-const can_open = it => it.text || it.order;
 /** A question about moments, with what was found. @param {any} s @param {number} i */
 function state_row(s, i) {
   const sign = s.against ? ' ✗<span class="heard"> against what is asked</span>' : '';
-  const opens = can_open(s) ? ` <button data-open="${i}" aria-label="Open state ${s.number}">Open</button>` : '';
+  const opens = s.has_order ? ` <button data-open="${i}" aria-label="Open state ${s.number}">Open</button>` : '';
   return `<tr class="${s.against ? 'bad' : ''}"><th scope="row">${s.number}${sign}${opens}</th><td>${escaped(s.key)}</td>`
     + `<td><code>${escaped(s.asks)}</code></td><td>${escaped(s.found)}</td><td>${escaped(s.order)}</td></tr>`;
 }
@@ -83,7 +93,7 @@ export async function show_pictures() {
   const it = shown;
   $('pictures').hidden = true;
   for (const cell of all('#outcomes [data-picture]').slice(0, MOST_PICTURES)) {
-    const o = all_parts(it)[Number(cell.dataset.picture)], text = text_of(view_of(o));
+    const o = all_parts(it)[Number(cell.dataset.picture)], text = text_of(await view_of(o, it));
     const svg = await drawn(text, text.turns ? played(text) : Promise.resolve({ out: '' }));
     if (it !== shown) return;
     cell.parentElement.hidden = false;
@@ -106,22 +116,29 @@ function show_orders(it) {
   $('pictures').hidden = !rows.length;
   const rest = it.outcomes.length - rows.length, head = heads.map(h => `<th scope="col">${h}</th>`).join('');
   $('outcomes').innerHTML = states_table(it.states) + (!rows.length ? '' : `<table><caption>${count_text(it.orders, 'order')}, ${count_text(it.outcomes.length, 'outcome')}, `
-    + `${(it.ms / 1000).toFixed(2)} s. The first order of each outcome opens as trace and picture.</caption>`
+    + `${(it.ms / 1000).toFixed(2)} s. The first order of each outcome opens as trace and picture.`
+    + `${it.first_alone && it.status === 1 ? ' Of atomic steps the program names the first contradiction alone.' : ''}</caption>`
     + `<thead><tr>${head}</tr></thead><tbody>${rows.join('')}</tbody></table>`
     + (rest > 0 ? `<p>and ${rest} more outcomes</p>` : ''));
 }
 /** What opens as trace and picture: what was found of moments, and outcomes. @param {any} it */
 const all_parts = it => [...it.states, ...it.outcomes];
-/** The last step is looked at: a moment is as was asked there, or the order ends so. @param {any} it */
-const view_of = it => ({ step: Infinity, ...it.text ? { text: it.text }
-  : { text: $('text').value, turns: [it.asks ? '--state' : '--outcome', it.number] }, title: it.asks
-  ? `State ${it.number} (${it.asks}), in the order ${it.order || 'of no step'}`
-  : `Outcome ${it.number} (${count_text(it.count, 'order')}), in the order ${it.order}` });
-/** What is against what is asked, or else the first outcome. @param {any} it */
-export function first_view(it) {
-  const bad = it.outcomes.find((/** @type {any} */ o) => it.against.includes(o.number))
-    || it.states.find((/** @type {any} */ s) => s.against && can_open(s)) || it.outcomes[0];
-  return bad ? view_of(bad) : null;
+/**
+ * What opens of an outcome or a moment: its order as a scenario, of atomic steps the text itself and which of its orders.
+ * The last step is looked at: a moment is as was asked there, or the order ends so.
+ * @param {any} it @param {any} found
+ */
+async function view_of(it, found) {
+  const text = it.turns ? found.of.text : await scenario_in_order(found.of, it);
+  const order = it.order || 'of no step', title = it.asks ? `State ${it.number} (${it.asks}), in the order ${order}`
+    : `Outcome ${it.number} (${count_text(it.count, 'order')}), in the order ${order}`;
+  return { step: Infinity, text, turns: it.turns, title };
+}
+/** What is against what is asked, or else the first outcome. @param {any} found */
+export async function first_view(found) {
+  const against = (/** @type {any} */ it) => it.against && it.has_order;
+  const it = found.outcomes.find(against) || found.states.find(against) || found.outcomes[0];
+  return it ? view_of(it, found) : null;
 }
 /** @param {number} i */
-export const part_shown = i => view_of(all_parts(shown)[i]);
+export const part_shown = i => view_of(all_parts(shown)[i], shown);

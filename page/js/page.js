@@ -5,17 +5,19 @@ import { close_offers, offer_calls, offer_key, take_offer } from './complete.js'
 import { begin_console, console_key, offer_in_line, say, scenario_of_console } from './console.js';
 import { find, go_to, indent, offer_in_bank, offer_in_text, open_side, paint, paint_all } from './editor.js';
 import { put_fix, refit_text, show_faults } from './editor.js';
-import { check_exercise, exercise_asked, exercise_lesson, exercise_made, make_exercise } from './exercise.js';
-import { make_hole, read_exercise, save_exercise, show_task, show_wanted } from './exercise.js';
-import { add_mine, mine_of, rename, show_mine } from './mine.js';
-import { handed, keep_texts, kept, put_text, save_file, undo_key } from './kept.js';
+import { wire_bars } from './bars.js';
+import { lesson_of_file, lesson_of_link, lesson_of_outcome, lesson_of_tab } from './brought.js';
+import { check_exercise, exercise_lesson, show_task } from './exercise.js';
+import { exercise_asked, exercise_made, make_exercise, make_hole, save_exercise, show_wanted } from './make.js';
+import { add_mine, is_listed, mine_of, rename, show_mine } from './mine.js';
+import { box_of_key, keep_texts, kept, kept_text, put_text, save_file, undo_key } from './kept.js';
 import { first_view, go_orders, part_shown, show_pictures } from './orders.js';
 import { draw_all, mark_picture, refit, zoom_by } from './picture.js';
 import { json_of, part_of, RUN_SECONDS } from './program.js';
 import { FILE } from './reads.js';
 import { code_place_changed, copy_code_link, name_of, share, show_code } from './share.js';
 import { draw_again, fill_trace, know_bank, play_text, show_none, show_state, turn_by, walk } from './steps.js';
-import { has_callers, has_words, is_lines, kind_of, steps_of, KINDS } from './text.js';
+import { has_words, is_lines, kind_of, steps_of, KINDS } from './text.js';
 
 const LISTED = 1400, WAIT = 40;
 /** The lessons of the page, in their order. @type {any[]} */
@@ -87,18 +89,36 @@ async function play_orders(mine) {
   show_none('An outcome is shown here after all orders have been explored.');
   const answer = await go_orders(mine, text_now());
   if (mine !== now.turn || !answer) return;
-  // What is explored was read: lab check takes a text of atomic steps for one of whole calls.
-  if ([0, 1, 5].includes(answer.status)) now.told = now.told.filter(it => !it.fault);
-  else if (!now.told.length || has_callers($('text').value)) now.told = answer.told;
-  now.viewed = first_view(answer);
+  if (!now.told.length) now.told = answer.told;
+  const first = await first_view(answer);
+  if (mine !== now.turn) return;
+  now.viewed = first;
   if (!now.viewed) return show_none('There is no outcome to show.');
   await play_text(mine, now.viewed.step);
+}
+/** Keeps what is written; what another tab wrote into the same text meanwhile becomes a text of one's own. */
+function keep() {
+  const other = keep_texts(), found = other && lesson_of_tab(other), is_new = !is_listed(now.lesson);
+  if (found) add_mine(found);
+  if (is_new) add_mine(now.lesson);
+  if (found || is_new) show_mine(choose);
+  $('status').textContent = found ? `Another tab has changed this text too: what it wrote is in My texts, as "${found.title}".` : '';
+}
+/** Another tab has written: the text that is open here too is shown as it is there. @param {StorageEvent} event */
+function follow_tab(event) {
+  const id = box_of_key(event.key);
+  if (event.key === 'evl mine') show_mine(choose);
+  if (!id) return;
+  const own = id === 'text' ? now.lesson.text : now.lesson.bank || '', text = kept_text(now.lesson, id) ?? own;
+  if ($(id).value === text) return;
+  $(id).value = text;
+  changed_text();
+  $('status').textContent = 'Changed in another tab.';
 }
 function changed_text() {
   now.steps = steps_of($('text').value);
   paint();
-  keep_texts();
-  $('status').textContent = '';
+  keep();
   document.body.dataset.waits = 'yes';
   clearTimeout(timer);
   const rests = performance.now() - edited > WAIT;
@@ -117,8 +137,16 @@ function choose(it) {
   open_lesson(it);
   $('name').focus();
 }
-/** @param {any} it @param {boolean} plain  whether its own text is taken, whatever is kept of it */
-async function open_lesson(it, plain = false) {
+/** What was kept of an exercise before its key had a hash, if it is no text of one's own. @param {any} it */
+function move_kept(it) {
+  if (!it.was || it.own || mine_of(it.was) || kept.get('text ' + it.key) !== null) return;
+  for (const id of ['text', 'bank']) {
+    const had = kept.get(`${id} ${it.was}`);
+    if (had !== null && kept.set(`${id} ${it.key}`, had)) kept.set(`${id} ${it.was}`, null);
+  }
+}
+/** @param {any} it */
+async function open_lesson(it) {
   now.lesson = it;
   now.shown = 0;
   add_mine(it);
@@ -133,8 +161,9 @@ async function open_lesson(it, plain = false) {
   }
   $('name').textContent = it.title;
   document.title = `${it.title} - the lab`;
-  $('text').value = (plain ? null : kept.get('text ' + it.key)) ?? it.text;
-  $('bank').value = (plain ? null : kept.get('bank ' + it.key)) ?? (it.bank || '');
+  move_kept(it);
+  $('text').value = kept_text(it, 'text') ?? it.text;
+  $('bank').value = kept_text(it, 'bank') ?? (it.bank || '');
   $('story').innerHTML = (it.story || '') + next_of(it);
   $('find').value = $('found').textContent = '';
   $('story-tab').hidden = !it.story || it.exercise;
@@ -177,32 +206,6 @@ function show_list(open) {
   $('lessons-button').setAttribute('aria-expanded', String(open));
   refit();
 }
-/** A bar between two parts, dragged or moved by arrow keys; its place is kept. @param {() => string} name_of */
-function split(id, name_of, low, high, is_across) {
-  const bar = $(id), put = (/** @type {number} */ part) => {
-    const to = Math.max(low, Math.min(high, part));
-    document.documentElement.style.setProperty(name_of(), to + '%');
-    bar.setAttribute('aria-valuenow', Math.round(to));
-    kept.set(name_of(), String(to));
-    refit();
-  };
-  const drag = (/** @type {any} */ event) => {
-    const box = bar.parentNode.getBoundingClientRect();
-    put(100 * (is_across() ? (event.clientX - box.left) / box.width : (event.clientY - box.top) / box.height));
-  };
-  bar.onpointerdown = (/** @type {any} */ event) => {
-    bar.setPointerCapture(event.pointerId);
-    bar.onpointermove = drag;
-  };
-  bar.onpointerup = () => { bar.onpointermove = null; };
-  bar.onkeydown = (/** @type {any} */ event) => {
-    const by = { ArrowLeft: -2, ArrowUp: -2, ArrowRight: 2, ArrowDown: 2 }[event.key];
-    if (!by) return;
-    event.preventDefault();
-    event.stopPropagation();
-    put(Number(bar.getAttribute('aria-valuenow')) + by);
-  };
-}
 /** Arrow keys on a tab open the next one; else they walk through the steps, but where one types. @param {any} event */
 function keys(event) {
   const by = { ArrowLeft: '-1', ArrowUp: '-1', ArrowRight: '1', ArrowDown: '1', Home: 'first', End: 'last' };
@@ -236,32 +239,10 @@ async function compare() {
   $('compared').textContent = `${same} of ${stored.length} are the same, ${seconds} s`
     + (differ.length ? `; not ${differ.join(', ')}` : '');
 }
-/** What a link brought, as a lesson; a link that can't be read is reported. */
-async function lesson_of_link() {
-  try {
-    const it = await handed();
-    if (!it) return null;
-    if (it.kind === 'lesson') {
-      const found = lessons.find(lesson => name_of(lesson) === it.read.name);
-      if (!found) throw new Error(`this page has no lesson ${it.read.name}`);
-      return found;
-    }
-    if (it.kind === 'exercise') return { ...exercise_lesson(it.read), own: true };
-    const { title = 'From a link', text, bank = '' } = it.read;
-    return { key: 'link ' + it.key, title, text, bank, own: true };
-  } catch (error) {
-    const why = error instanceof Error && /^(this page|it has)/.test(error.message) ? error.message
-      : 'it is damaged or cut off';
-    $('status').textContent = `The link could not be read: ${why}`;
-    return null;
-  }
-}
 /** A text from a file: callbacks go to their own tab; another text or an exercise is a lesson. @param {File} file */
 async function take_file(file) {
-  const text = (await file.text()).replace(/\r\n/g, '\n'), exercise = read_exercise(text);
-  if (exercise) return open_lesson({ ...exercise, own: true }, true);
-  const own = { key: 'file ' + file.name, title: file.name, text, own: true };
-  if (kind_of(text) !== 'bank') return open_lesson(own, true);
+  const text = (await file.text()).replace(/\r\n/g, '\n');
+  if (kind_of(text) !== 'bank') return open_lesson(lesson_of_file(file.name, text));
   open_side('bank');
   put_text($('bank'), text);
   changed_text();
@@ -336,8 +317,12 @@ function wire_views() {
   };
   on('lines', 'click', to_step);
   on('story', 'click', event => {
+    const link = event.target.closest('a[href^="#lesson="]');
     if (event.target.id === 'next') choose(lessons[lessons.indexOf(now.lesson) + 1]);
-    else to_step(event);
+    else if (link) {
+      event.preventDefault();
+      choose(lessons.find(it => name_of(it) === link.hash.slice('#lesson='.length)));
+    } else to_step(event);
     if (event.target.dataset.step && innerWidth <= NARROW) open_tab('walk');
   });
   on('drawing', 'click', to_step);
@@ -353,15 +338,14 @@ function wire_views() {
   });
   on('outcomes', 'click', event => {
     const opens = event.target.closest('[data-open]');
-    if (opens) view(part_shown(Number(opens.dataset.open)));
+    if (opens) part_shown(Number(opens.dataset.open)).then(view);
   });
   on('pictures', 'click', show_pictures);
   on('orders-stop', 'click', () => stop_orders('stopped by you'));
   on('busy-stop', 'click', () => stop_runs('stopped by you'));
   on('viewed-back', 'click', () => open_tab('orders'));
   on('viewed-take', 'click', () => {
-    const it = now.viewed;
-    open_lesson({ key: 'file outcome', title: it.title.split(',')[0], text: it.text, own: true }, true);
+    open_lesson(lesson_of_outcome(now.viewed));
   });
   on('asks', 'submit', event => {
     const line = $('line').value.trim();
@@ -409,7 +393,7 @@ function wire_head() {
   on('check', 'click', check_exercise);
   on('make-button', 'click', make_exercise);
   on('make-done', 'click', exercise_made);
-  on('make-check', 'change', show_wanted);
+  on('make-by', 'change', show_wanted);
   on('make-hole', 'click', make_hole);
   on('make-save', 'click', save_exercise);
   on('make-code', 'click', () => show_code({ kind: 'exercise', it: exercise_asked() }));
@@ -427,14 +411,7 @@ function wire_head() {
     event.preventDefault();
     take_file(file);
   };
-  const bars = ['--left', '--trace', '--top', '--down', '--wide', '--wide-trace', '--wide-down'];
-  for (const name of bars) if (kept.get(name)) document.documentElement.style.setProperty(name, kept.get(name) + '%');
-  const is_wide = () => document.body.classList.contains('wide');
-  split('split-left', () => '--left', 18, 75, () => true);
-  const is_down = () => document.body.classList.contains('down');
-  split('split-state', () => (is_wide() ? '--wide-' : '--') + (is_down() ? 'down' : 'trace'), 20, 85,
-    () => !is_wide() && !is_down());
-  split('split-picture', () => is_wide() ? '--wide' : '--top', 15, 85, is_wide);
+  wire_bars();
 }
 function list_lessons() {
   let group = '', section = $('texts');
@@ -480,12 +457,13 @@ async function start() {
     if (innerWidth > NARROW && tab_now() === 'left') open_tab('walk');
     draw_again();
   };
-  window.onhashchange = async () => { const it = await lesson_of_link(); if (it) open_lesson(it); };
+  window.onhashchange = async () => { const it = await lesson_of_link(lessons); if (it) open_lesson(it); };
+  window.onstorage = follow_tab;
   $('way').value = kept.get('way') || '';
   show_list(innerWidth >= LISTED);
   open_tab(innerWidth <= NARROW ? 'left' : 'walk');
-  const last = lessons.find((/** @type {any} */ it) => it.key === kept.get('last')) || mine_of(kept.get('last'));
-  await open_lesson(await lesson_of_link() || last || lessons[0]);
+  const key = kept.get('last'), last = lessons.find((/** @type {any} */ it) => it.key === key || it.was === key) || mine_of(key);
+  await open_lesson(await lesson_of_link(lessons) || last || lessons[0]);
   offer_calls(await calls());
   document.body.dataset.ready = 'yes';
 }

@@ -76,57 +76,66 @@ function read_part(rest) {
   const scenario = text.slice(0, till < 0 ? undefined : till).join('\n');
   return { notes, by, order: by('order: ')[0] || '', text: scenario.trim() && scenario + '\n' };
 }
-/** Whether what was found at moments is against what is asked of them; of orders that are cut off some is not known. */
-const AGAINST = { never_state: 'at a moment', sometimes: 'at no moment', always: 'not at each moment' };
-/** @param {string} part @param {boolean} cut */
-function read_state(part, cut) {
+/** @param {string} part */
+function read_state(part) {
   const [first, ...rest] = part.trimEnd().split('\n'), it = read_part(rest);
   const [, number, key, asks, found] = first.match(/^# state (\d+): (\w+): (.*): (.*)$/) || [];
-  const is = found === AGAINST[key], open = cut && (key === 'sometimes' ? is : !is && found !== 'at a moment');
-  return { number, key, asks, found: open ? 'not known: cut off' : found, against: is && !open, order: it.order,
-    text: it.text };
+  return { number, key, asks, found, order: it.order, text: it.text };
 }
+/** The lines of an outcome: who is stuck, what each caller is answered, and how all else is at the end. @param {string[]} told */
+const told_parts = told => ({ told, stuck: told.filter(it => it.startsWith('stuck: ')).map(it => it.slice('stuck: '.length)),
+  answers: told.filter(it => /^T\d+ ->/.test(it)), ends: told.filter(it => !/^(T\d+ ->|stuck: )/.test(it)) });
 /** @param {string} part */
 function read_outcome(part) {
   const [first, ...rest] = part.trimEnd().split('\n'), [, number, count] = first.match(/^# outcome (\d+): (\d+)/) || [];
-  const { notes, by, order, text } = read_part(rest), answers = notes.filter(it => /^T\d+ ->/.test(it));
-  return { number, count, answers, stuck: by('stuck: '), order,
-    ends: notes.filter(it => !/^(T\d+ ->|stuck: |order: )/.test(it)), text };
-}
-/**
- * Whether an outcome is against `always_ends`, or has an answer of `never`: the program names the first such outcome alone.
- * @param {{ stuck: string[], answers: string[] }} outcome @param {string} asks
- */
-export function is_against({ stuck, answers }, asks) {
-  const never = [...asks.matchAll(/"\s*(T\d+)\s*->\s*([^"]*?)\s*"/g)].map(it => [it[1], it[2]]);
-  const given = answers.map(line => line.split(' -> '));
-  return /^\s*always_ends\s*=\s*true/m.test(asks) && stuck.length > 0
-    || never.some(([who, answer]) => given.some(it => it[0] === who && it.slice(1).includes(answer)));
+  const { notes, order, text } = read_part(rest);
+  return { number, count, ...told_parts(notes.filter(it => !it.startsWith('order: '))), order, text };
 }
 /**
  * What `lab orders` printed: how many orders, what may not be meant so, what was found of each question about moments,
- * and each outcome with its notes and its scenario.
+ * and each outcome with its notes and its scenario. Nothing here says what is against what is asked.
  * @param {string} out
  */
-export function read_orders(out) {
+export function read_report(out) {
   const [head, ...parts] = out.split(/^(?=# (?:outcome|state) \d+:)/m), found = head.match(/^# (\d+) orders?, \d+ outcomes?/m);
-  const cut = /^# cut off.*$/m.exec(out)?.[0] || '', of = (/** @type {string} */ key) => parts.filter(it => it.startsWith(`# ${key} `));
-  return { orders: found ? found[1] : '', cut, doubts: [...head.matchAll(/^# warning: (.*)$/gm)].map(it => it[1]),
-    states: of('state').map(it => read_state(it, Boolean(cut))), outcomes: of('outcome').map(read_outcome) };
+  const of = (/** @type {string} */ key) => parts.filter(it => it.startsWith(`# ${key} `));
+  return { orders: found ? found[1] : '', doubts: [...head.matchAll(/^# warning: (.*)$/gm)].map(it => it[1]),
+    states: of('state').map(read_state), outcomes: of('outcome').map(read_outcome) };
+}
+/** How a question about moments can be found: where it holds, where it doesn't. @type {Record<string, [string, string]>} */
+const FOUND = { never_state: ['at no moment', 'at a moment'], sometimes: ['at a moment', 'at no moment'],
+  always: ['at each moment', 'not at each moment'] };
+/** @param {any} it @param {number} i */
+function state_found(it, i) {
+  const key = Object.keys(FOUND).find(key => key in it) || '', holds = it.holds;
+  return { number: `${i + 1}`, key, asks: it[key], found: holds === null ? 'not known: cut off' : FOUND[key][holds ? 0 : 1],
+    against: holds === false, order: it.order?.join(' ') || '', has_order: Boolean(it.order) };
+}
+/**
+ * What `lab orders --json` printed: of each outcome and of each question about moments also whether it is against what is
+ * asked. A number that is too great for this language stays a text.
+ * @param {string} out
+ */
+export function read_found(out) {
+  const it = JSON.parse(out.replace(/"orders":(\d{16,})/g, '"orders":"$1"'));
+  return { orders: `${it.orders}`, whole: it.whole, outcomes_asked: it.outcomes_asked, states: it.states.map(state_found),
+    outcomes: it.outcomes.map((/** @type {any} */ o, /** @type {number} */ i) => ({ number: `${i + 1}`, count: `${o.orders}`,
+      against: o.against, ...told_parts(o.told), order: o.order.join(' '), has_order: true })) };
 }
 
-/** @typedef {{ kind: string, most: number | null, must: boolean, values: string[] }} Key */
+/** @typedef {{ kind: string, most: number | null, must: boolean, usual?: string, values: string[] }} Key */
 /** @typedef {{ keys: Map<string, Key>, answers: string[] }} Call */
 /**
- * The calls of `lab help --json`, each with its keys (whether each must be there, and which values a text can have
- * there) and its answers, with a sample in place of a number; and the refusals that any call can be answered.
+ * The calls of `lab help --json`, each with its keys (whether each must be there, or else its usual value, and which values
+ * a text can have there) and its answers, with a sample in place of a number; and the refusals that any call can be answered.
  * @param {string} out @returns {{ calls: Map<string, Call>, refusals: string[] }}
  */
 export function read_calls(out) {
   const calls = new Map(), lines = out.split('\n').filter(Boolean).map(line => JSON.parse(line));
   for (const it of lines.filter(it => it.word)) {
     const keys = new Map(it.keys.map((/** @type {any} */ key) => [key.key,
-      { kind: key.kind, most: key.most, must: key.default === null, values: key.values.map((/** @type {any} */ v) => JSON.stringify(v)) }]));
+      { kind: key.kind, most: key.most, must: key.default === null,
+        ...key.default === null ? {} : { usual: String(key.default) }, values: key.values.map((/** @type {any} */ v) => JSON.stringify(v)) }]));
     const answers = it.answers.map((/** @type {string} */ one) => one.replace(/\bN\b/, '0').replace(/\bHEX\b/, '00'));
     calls.set(it.word, { keys, answers });
   }

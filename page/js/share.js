@@ -32,14 +32,19 @@ export function code_of(link) {
   const code = qr_of(link, 'M');
   return code && code.rows.length <= FEW ? code : qr_of(link, 'L');
 }
+/** Why other devices cannot open a link, or nothing. @param {string} link */
+function closed_text(link) {
+  const why = !/^https?:/.test(link) ? 'not of the web'
+    : /^https?:\/\/(localhost|127\.[\d.]+|\[::1\]|0\.0\.0\.0)(:\d+)?([/#?]|$)/.test(link) ? 'of this device alone' : '';
+  return why && ` This address is ${why}, so other devices cannot open it: write the address where the class has the page. `
+    + 'It is kept in this browser.';
+}
 /** What is reported of a link and its code. @param {string} link @param {import('./qr.js').Code | null} code */
 export function code_report(link, code) {
   const size = new TextEncoder().encode(link).length;
   if (!code) return `No code: the link has ${size} characters, and a QR code has room for ${MOST_BYTES}. `
     + 'The link itself works, and so does Save file.';
-  const here = /^https?:/.test(link) ? '' : ' This address is not of the web, so other devices cannot open it: '
-    + 'write the address where the class has the page. It is kept in this browser.';
-  return `${size} characters, ${code.rows.length} points across.${here}`;
+  return `${size} characters, ${code.rows.length} points across.${closed_text(link)}`;
 }
 /** Makes the code anew, for the address that is written. */
 async function draw_code() {

@@ -2,11 +2,13 @@
 
 /** A rank as a policy writes it: real-time, quota or weak. @param {number} n */
 export const rank_text = n => n >= 512 ? 'f' + (n - 512) : n >= 256 ? 'q' + (n - 256) : 'w' + n;
-/** A rank, with an arrow where it isn't the one that the policy gives. @param {string} policy @param {number} rank */
-function rank_of(policy, rank) {
-  const parts = policy.split(' '), own = parts[0] === 'rr' ? +parts[1] : +parts[parts.length - 1];
-  return rank_text(rank) + (rank % 256 === own ? '' : ' ↑');
+/** The rank that a policy gives. @param {string} policy */
+function own_rank(policy) {
+  const [name, ...numbers] = policy.split(' '), real_time = name === 'fifo' || name === 'rr';
+  return real_time ? 512 + +numbers[0] : name === 'quota' ? 256 + +numbers[1] : +numbers[0];
 }
+/** A rank, with an arrow where it isn't the one that the policy gives. @param {string} policy @param {number} rank */
+const rank_of = (policy, rank) => rank_text(rank) + (rank === own_rank(policy) ? '' : ' ↑');
 /** @typedef {{ for: string, number: number, way?: string, ended: string | null }} Wait */
 /** @typedef {{ thread: number, stage: string, policy: string, rank: number, waits: Wait | null }} Attached */
 /** @typedef {{ name: string, stage: string, policy: string, rank: string, is: string, wait: string }} Thread */
@@ -75,4 +77,21 @@ export function state_table(state, head) {
   for (const it of state.timers) rows.set(`timer ${it.timer}`, timer_text(it));
   rows.set('date', `${state.date} ns`);
   return { threads, rows };
+}
+/** So many changes are read out; of more only how many there are. */
+const MOST_SAID = 8;
+/**
+ * What a step changed in a table, in a few words, for those who hear the page.
+ * @typedef {{ threads: string[][], rows: string[][] }} Table
+ * @param {Table} at @param {Table} before @param {string[]} columns @param {number} step
+ */
+export function changes_text(at, before, columns, step) {
+  const were = new Map(before.threads.map(it => [it[0], it])), had = new Map(before.rows.map(([of, says]) => [of, says]));
+  const threads = at.threads.flatMap(row => row.flatMap((text, i) =>
+    i && were.get(row[0])?.[i] !== text ? [`${row[0]} ${columns[i]} ${text || 'none'}`] : []));
+  const rows = at.rows.filter(([of, says]) => had.get(of) !== says).map(([of, says]) => `${of}: ${says}`);
+  const gone = before.rows.filter(([of]) => !at.rows.some(it => it[0] === of)).map(([of]) => `${of}: none`);
+  const all = [...threads, ...rows, ...gone];
+  if (!step) return 'At the start';
+  return `Step ${step}: ${all.length > MOST_SAID ? `${all.length} changes` : all.join('; ') || 'nothing changed'}`;
 }

@@ -5,7 +5,7 @@ import { paint_step, show_line } from './editor.js';
 import { fit_lanes, mark_picture, read_lanes, show_key, show_picture } from './picture.js';
 import { Parts } from './parts.js';
 import { why_of } from './reads.js';
-import { state_table } from './states.js';
+import { changes_text, state_table } from './states.js';
 import { actions_of, HOLE, passes_at, plays_at } from './text.js';
 
 const MOST_THREADS = 12, MARKS = 2000;
@@ -155,6 +155,7 @@ function show_table(at, before, step) {
   const plays = step ? plays_at(now.entries, step) : [];
   const says = plays.filter(it => actions[it.callback]).map(it => `<li>${it.of}: callback ${it.callback}, `
     + `<code>${escaped(actions[it.callback])}</code></li>`);
+  $('state-says').textContent = changes_text(at, before, COLUMNS.map(it => it[0]), step);
   $('state').innerHTML = parts.filter(Boolean).join('') + (says.length ? `<ul id="plays">${says.join('')}</ul>` : '');
 }
 /** @param {any} it */

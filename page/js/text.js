@@ -42,11 +42,11 @@ export function is_lines(text) {
   return LINES.test(first?.trim() || '');
 }
 /** A line of a text of lines with no comment. @param {string} line */
-const said_of = line => line.replace(/(^|\s)#.*/, '').trim();
-const CALLERS_WORD = new RegExp(`\\bdo\\s*=\\s*["'](${Object.keys(CALLERS_WORDS).join('|')})["']`);
+export const said_of = line => line.replace(/(^|\s)#.*/, '').trim();
+const CALLERS_WORD = new RegExp(`\\bdo["']?\\s*=\\s*["'](${Object.keys(CALLERS_WORDS).join('|')})["']`);
 /** Whether a text has staxes, or words that a machine's callers alone have: its orders are of atomic steps. @param {string} text */
 export const has_callers = text => text.split('\n').map(line => bare_of(line).trim())
-  .some(line => /^staxes\s*=/.test(line) || CALLERS_WORD.test(line));
+  .some(line => /(^|[{,.]\s*)["']?staxes["']?\s*=/.test(line) || CALLERS_WORD.test(line));
 /** @param {string} text */
 export function kind_of(text) {
   if (is_lines(text)) return text.split('\n').some(line => /^setup\s+[^=]/.test(said_of(line))) ? 'orders' : 'play';
@@ -56,7 +56,8 @@ export function kind_of(text) {
   const scenario = has(/^\[\s*board\s*\]|^\[\[\s*(step|setup)\s*\]\]|^(step|setup|board)\b\s*[=.]/m);
   if (!scenario && has(/^\[\[\s*callback\s*\]\]|^callback\s*=/m)) return 'bank';
   if (has(/^\[\s*ask\s*\]|^ask\s*[=.]|^\[\[\s*setup\s*\]\]|^setup\s*=/m)) return 'orders';
-  return has_callers(whole) ? 'callers' : 'play';
+  if (!has_callers(whole)) return 'play';
+  return has(/^\[\s*what_if\s*\]|(^|[{,]\s*)lasts\s*=/m) ? 'orders' : 'callers';
 }
 
 /** The line of each step of a text of lines: what is set up comes first. @param {string} text */
@@ -102,6 +103,14 @@ export function ask_of(text) {
 export function with_ask(text, wanted) {
   const lines = text.split('\n'), asks = asks_in(lines);
   return lines.filter((_, i) => !asks[i]).join('\n').trimEnd() + '\n\n' + wanted + '\n';
+}
+
+/** A text of orders as a scenario: what is set up are its first steps, and nothing is asked. @param {string} text */
+export function scenario_of(text) {
+  const lines = text.split('\n'), asks = asks_in(lines), is_set_up = (/** @type {string} */ line) => /^setup\s+[^=]/.test(said_of(line));
+  const plain = (/** @type {string} */ line) => line.replace(/^\s*setup\s+/, '');
+  if (is_lines(text)) return [...lines.filter(is_set_up).map(plain), ...lines.filter(line => !is_set_up(line))].join('\n');
+  return lines.filter((_, i) => !asks[i]).map(line => line.replace(/^(\s*\[\[\s*)setup(\s*\]\])/, '$1step$2')).join('\n');
 }
 
 /** The value of a key of a trace, as a text writes it. @param {string} key @param {string} value */
@@ -155,23 +164,6 @@ export function has_words(it, asked) {
   return asked.toLowerCase().split(/\s+/).every(word => all.includes(word));
 }
 export const HOLE = '____', HOLE_LINE = '# your steps here';
-/**
- * The first line of an exercise that a text has lost, or null: all but its holes has to be there, in order.
- * @param {string} given @param {string} text
- */
-export function lost_line(given, text) {
-  const plain = (/** @type {string} */ it) => it.split('\n').filter(line => line.trim() !== HOLE_LINE)
-    .map(line => bare_of(line).trim()).filter(Boolean);
-  const lines = plain(text);
-  let at = 0;
-  for (const line of plain(given)) {
-    const parts = line.split(HOLE).map(it => it.replace(/[.*+?^${}()|[\]\\]/g, '\\$&'));
-    const form = new RegExp('^' + parts.join('.*') + '$');
-    while (at < lines.length && !form.test(lines[at])) at++;
-    if (at++ >= lines.length) return line;
-  }
-  return null;
-}
 /** What each callback of a bank says that it does, by its number. @param {string} text */
 export const actions_of = text => text.split('\n').map(line => bare_of(line).trim()).join('\n')
   .split(/^\[\[\s*callback\s*\]\]$/m).slice(1)

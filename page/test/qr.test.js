@@ -99,3 +99,11 @@ test('a small link has a code of level M, a longer one of level L, and one of 3,
   assert.equal(report(of(100)), '100 characters, 41 points across.');
   assert.match(report('file:///home/x/evl.html#text=abc'), /other devices cannot open it/);
 });
+test('an address that other devices cannot open is named as that', () => {
+  const report = (/** @type {string} */ place) => code_report(`${place}#lesson=a`, code_of(`${place}#lesson=a`));
+  for (const place of ['http://127.0.0.1:8000/', 'http://localhost/evl.html', 'https://[::1]:9/'])
+    assert.match(report(place), /This address is of this device alone, so other devices cannot open it/, place);
+  assert.match(report('file:///a/evl.html'), /This address is not of the web/);
+  for (const place of ['https://lab.example/', 'http://192.168.0.7:8000/', 'https://localhost.example/', 'https://127.lab.example/'])
+    assert.doesNotMatch(report(place), /cannot open/, place);
+});

@@ -1,7 +1,7 @@
 // node --test test/: what the program printed, read.
 import assert from 'node:assert/strict';
 import test from 'node:test';
-import { is_against, read_calls, read_notices, read_orders, read_refused, read_trace, why_of } from '../js/reads.js';
+import { read_calls, read_found, read_notices, read_refused, read_report, read_trace, why_of } from '../js/reads.js';
 
 test('a trace has entries, plays and other lines', () => {
   const it = read_trace('board threads=1\n1 T0 put sem=0 -> done\n  line 5 oob count 1 none\n- T0 now -> HistoryFull\n'
@@ -42,34 +42,45 @@ test('why a part refuses a text is one line, without the way to all faults', () 
   assert.equal(why_of(''), '');
 });
 test('outcomes have their notes and their scenario', () => {
-  const it = read_orders('# 2 orders, 1 outcome\n# outcome 1: 2 orders\n# stuck: T1 waits for sem 1\n# T1 -> begun\n'
+  const it = read_report('# 2 orders, 1 outcome\n# outcome 1: 2 orders\n# stuck: T1 waits for sem 1\n# T1 -> begun\n'
     + '# sem 0: -1\n# order: T1\nlimit = 1\n\n[board]\nthreads = 1\n# cut off: there are longer orders\n');
-  assert.deepEqual([it.orders, it.cut], ['2', '# cut off: there are longer orders']);
+  assert.equal(it.orders, '2');
   const [o] = it.outcomes;
   assert.deepEqual([o.number, o.count, o.stuck, o.answers, o.ends, o.order, o.text], ['1', '2', ['T1 waits for sem 1'],
     ['T1 -> begun'], ['sem 0: -1'], 'T1', 'limit = 1\n\n[board]\nthreads = 1\n']);
 });
 test('outcomes of atomic steps have no scenario', () => {
-  const { outcomes } = read_orders('# 18 orders, 5 outcomes, 35 moments\n# outcome 1: 6 orders\n# T0 -> pass -> done\n# T1 -> Again -> NotOwner\n'
+  const { outcomes } = read_report('# 18 orders, 5 outcomes, 35 moments\n# outcome 1: 6 orders\n# T0 -> pass -> done\n# T1 -> Again -> NotOwner\n'
     + '# stax 0: inband, held by 0\n# order: T0 look, T0 exchange, T1 look, T0 leave, T1 refused\n# outcome 2: 12 orders\n# order: T1 look\n');
   assert.deepEqual(outcomes.map(o => [o.number, o.count, o.ends, o.order, o.text]), [
     ['1', '6', ['stax 0: inband, held by 0'], 'T0 look, T0 exchange, T1 look, T0 leave, T1 refused', ''], ['2', '12', [], 'T1 look', '']]);
 });
 test('questions about moments have what was found, and the order that leads there', () => {
-  const scenario = 'limit = 1\n\n[board]\nthreads = 1\n', cut = '# cut off: there are longer orders\n';
+  const scenario = 'limit = 1\n\n[board]\nthreads = 1\n';
   const out = '# 2 orders, 1 outcome, 4 moments\n# warning: T1 has no finish after its last wait\n'
     + `# state 1: never_state: T1 picked and sem 0 count = 2: at a moment\n# order: T1 T2\n${scenario}`
     + '# state 2: sometimes: T1 ready: at no moment\n# state 3: always: not T1 waits: at each moment\n'
     + `# outcome 1: 2 orders\n# T1 -> done\n# order: T1 T2\n${scenario}`;
-  const it = read_orders(out);
+  const it = read_report(out);
   assert.deepEqual(it.doubts, ['T1 has no finish after its last wait']);
-  assert.deepEqual(it.states.map(s => [s.number, s.key, s.asks, s.found, s.against, s.order, s.text]), [
-    ['1', 'never_state', 'T1 picked and sem 0 count = 2', 'at a moment', true, 'T1 T2', scenario],
-    ['2', 'sometimes', 'T1 ready', 'at no moment', true, '', ''],
-    ['3', 'always', 'not T1 waits', 'at each moment', false, '', '']]);
+  assert.deepEqual(it.states.map(s => [s.number, s.key, s.asks, s.found, s.order, s.text]), [
+    ['1', 'never_state', 'T1 picked and sem 0 count = 2', 'at a moment', 'T1 T2', scenario],
+    ['2', 'sometimes', 'T1 ready', 'at no moment', '', ''], ['3', 'always', 'not T1 waits', 'at each moment', '', '']]);
   assert.deepEqual(it.outcomes.map(o => [o.number, o.text]), [['1', scenario]]);
-  assert.deepEqual(read_orders(out + cut).states.map(s => [s.found, s.against]),
-    [['at a moment', true], ['not known: cut off', false], ['not known: cut off', false]]);
+});
+test('JSON says of each outcome and of each question whether it is against what is asked', () => {
+  const outcome = (told, against) => ({ orders: 1, against, told, order: ['T1', 'T2'] });
+  const it = read_found(JSON.stringify({ orders: 3, moments: 4, steps: 2, whole: false, outcomes_asked: 1,
+    states: [{ never_state: 'T1 ready', holds: false, order: [] }, { sometimes: 'T1 ready', holds: null, order: null }, { always: 'T1 ready', holds: true, order: null }],
+    outcomes: [outcome(['stuck: T1 waits for sem 1', 'T1 waits for sem 0', 'T1 -> begun', 'sem 0: -1'], true), outcome([], true), outcome([], false)] })
+    .replace('"orders":3', '"orders":12345678901234567890'));
+  assert.deepEqual([it.orders, it.whole, it.outcomes_asked], ['12345678901234567890', false, 1]);
+  assert.deepEqual(it.outcomes.map(o => [o.number, o.count, o.against]), [['1', '1', true], ['2', '1', true], ['3', '1', false]]);
+  const [o] = it.outcomes;
+  assert.deepEqual([o.stuck, o.answers, o.ends, o.order], [['T1 waits for sem 1'], ['T1 -> begun'], ['T1 waits for sem 0', 'sem 0: -1'], 'T1 T2']);
+  assert.deepEqual(it.states.map(s => [s.number, s.key, s.asks, s.found, s.against, s.has_order]), [
+    ['1', 'never_state', 'T1 ready', 'at a moment', true, true], ['2', 'sometimes', 'T1 ready', 'not known: cut off', false, false],
+    ['3', 'always', 'T1 ready', 'at each moment', false, false]]);
 });
 test('the list of calls has keys, values and answers', () => {
   const key = (key, of) => ({ key, default: null, kind: 'number', most: 65535, values: [], ...of });
@@ -77,14 +88,9 @@ test('the list of calls has keys, values and answers', () => {
     { word: 'finish', keys: [key('keep', { default: false, kind: 'truth', values: [true, false] })], answers: ['done', 'bits N', 'bytes HEX'] },
     { refusals: ['Unknown'] }].map(it => JSON.stringify(it)).join('\n') + '\n');
   assert.deepEqual(calls.get('stall')?.keys.get('stage'), { kind: 'stage', most: 65535, must: true, values: ['"inband"', '"oob"'] });
+  assert.deepEqual([calls.get('finish')?.keys.get('keep')?.usual, calls.get('stall')?.keys.get('stage')?.usual], ['false', undefined]);
   assert.deepEqual(calls.get('finish')?.keys.get('keep')?.values, ['true', 'false']);
   assert.equal(calls.get('finish')?.keys.get('keep')?.must, false);
   assert.deepEqual(calls.get('finish')?.answers, ['done', 'bits 0', 'bytes 00']);
   assert.deepEqual(refusals, ['Unknown']);
-});
-test('each outcome that is against what is asked is found, though the program names the first alone', () => {
-  const stuck = { stuck: ['T1 waits for sem 1'], answers: ['T1 -> begun'] }, late = { stuck: [], answers: ['T0 -> done', 'T1 -> begun -> timed out'] };
-  assert.deepEqual([stuck, late].map(it => is_against(it, '[ask]\nalways_ends = true')), [true, false]);
-  assert.deepEqual([stuck, late].map(it => is_against(it, '[ask]\nnever = ["T0 -> timed out",\n " T1 ->  timed out "]')), [false, true]);
-  assert.deepEqual([stuck, late].map(it => is_against(it, '[ask]\nnever = ["T1 -> timed"]\nnever_state = ["T1 picked"]')), [false, false]);
 });

@@ -1,7 +1,7 @@
 // node --test test/: how a machine is after a step, as `play --states` tells it.
 import assert from 'node:assert/strict';
 import test from 'node:test';
-import { read_states, state_table } from '../js/states.js';
+import { changes_text, read_states, state_table } from '../js/states.js';
 
 const STATE = { file: 'x', entries: 4, date: 7, picked: 1, ready: [1, 4],
   threads: [{ thread: 1, stage: 'oob', policy: 'fifo 10', rank: 532, waits: null },
@@ -30,4 +30,18 @@ test('a state has its threads, attached or not, and a row for each element', () 
 test('a state is a line, and great numbers stay whole', () => {
   const out = '{"file": "x", "entries": 0, "date": 0}\n{"file": "x", "entries": 1, "date": 18446744073709551615}\n';
   assert.deepEqual(read_states(out).map(it => it.date), [0, '18446744073709551615']);
+});
+test('a rank that a mutex lends has an arrow, also where only the class differs', () => {
+  const ranked = (/** @type {string} */ policy, /** @type {number} */ rank) =>
+    state_table({ ...STATE, threads: [{ thread: 1, stage: 'oob', policy, rank, waits: null }] }, 'board threads=2').threads[1].rank;
+  assert.deepEqual([['weak 10', 522], ['quota 0 10', 522], ['fifo 10', 522], ['rr 10 100', 522], ['weak 10', 10], ['quota 1 7', 263], ['fifo 10', 542]]
+    .map(([policy, rank]) => ranked(policy, rank)), ['f10 ↑', 'f10 ↑', 'f10', 'f10', 'w10', 'q7', 'f30 ↑']);
+});
+test('of a step only what it changed is read out, and of much how much', () => {
+  const columns = ['thread', 'stage', 'policy'], before = { threads: [['T0', 'oob', ''], ['T1', 'oob', 'fifo 1']], rows: [['sem 0', '1'], ['ready list', 'T1']] };
+  const after = { threads: [['T0', 'oob', ''], ['T1', 'in-band', 'fifo 1']], rows: [['sem 0', '0, T1 waiting']] };
+  assert.equal(changes_text(after, before, columns, 3), 'Step 3: T1 stage in-band; sem 0: 0, T1 waiting; ready list: none');
+  assert.deepEqual([changes_text(before, before, columns, 4), changes_text(before, before, columns, 0)], ['Step 4: nothing changed', 'At the start']);
+  const rows = [...Array(9).keys()].map(n => [`sem ${n}`, '5']);
+  assert.equal(changes_text({ threads: [], rows }, { threads: [], rows: [] }, columns, 2), 'Step 2: 9 changes');
 });

@@ -5,7 +5,7 @@ import path from 'node:path';
 import test from 'node:test';
 import { read_trace } from '../js/reads.js';
 import { image_of } from '../js/orders.js';
-import { has_words, ask_of, bare_of, first_steps, is_lines, kind_of, lost_line } from '../js/text.js';
+import { has_words, ask_of, bare_of, first_steps, is_lines, kind_of, scenario_of } from '../js/text.js';
 import { actions_of, passes_at, place_of_word, plays_at, steps_of, with_ask } from '../js/text.js';
 
 const top = path.join(import.meta.dirname || path.dirname(new URL(import.meta.url).pathname), '../..');
@@ -14,7 +14,7 @@ const texts = name => fs.readdirSync(folder(name)).filter(it => it.endsWith('.to
   .map(it => [it, fs.readFileSync(path.join(folder(name), it), 'utf8')]);
 
 test('the kind of each text of the repository is seen', () => {
-  const kinds = { orders: 'orders', scenarios: 'play', 'scenarios/lessons': 'play', banks: 'bank', callers: 'callers' };
+  const kinds = { orders: 'orders', 'orders/steps': 'orders', scenarios: 'play', 'scenarios/lessons': 'play', banks: 'bank', callers: 'callers' };
   for (const [name, kind] of Object.entries(kinds)) {
     assert.ok(texts(name).length > 0, name);
     for (const [file, text] of texts(name)) assert.equal(kind_of(text), kind, file);
@@ -31,6 +31,12 @@ test('comments and quotes do not mislead', () => {
   assert.equal(bare_of('a = "#1" # no'), 'a = "#1" ');
   assert.equal(bare_of('a = "\\"#" # no'), 'a = "\\"#" ');
   assert.equal(kind_of(' \n# nothing\n'), 'empty');
+});
+test('callers are seen in each form of TOML, and orders of atomic steps by what orders alone have', () => {
+  const step = '[[step]]\nwho = 0\n"do" = "take"\n', board = '[board]\nthreads = 1\n';
+  assert.deepEqual([board + step, 'board = { threads = 1, staxes = [1] }\n', 'board.staxes = [1]\n', board + '[[step]]\ndo = "put"\n'].map(kind_of),
+    ['callers', 'callers', 'callers', 'play']);
+  assert.deepEqual([`${board}${step}lasts = true\n`, `${board}${step}[what_if]\nraise = "sets no mark"\n`, `${board}${step}# lasts = true\n`].map(kind_of), ['orders', 'orders', 'callers']);
 });
 test('texts of lines are seen by their first line that says anything', () => {
   const are = ['board threads=1', '\ufeffboard', ' # a\n\nlimit 5\n', 'T0 put sem=0', '3 T1 pick', 'setup T1 x'];
@@ -62,10 +68,9 @@ test('[ask] is taken out and put in, line for line', () => {
   assert.equal(ask_of(text), '[ask]\nalways_ends = true');
   assert.equal(with_ask(text, '[ask]\nnever = []'), '[board]\n[[setup]]\ndo = "x"\n\n[ask]\nnever = []\n');
 });
-test('an exercise keeps what was given', () => {
-  assert.equal(lost_line('a = 1\ndo = "____"\n# your steps here\nb = 2', 'a = 1\ndo = "put"\nc = 3\nb = 2'), null);
-  assert.equal(lost_line('a = 1\nb = 2', 'a = 1\nb = 3'), 'b = 2');
-  assert.equal(lost_line('a = [1] # one', 'a = [1]'), null);
+test('a text of orders as a scenario has no setup and no [ask]', () => {
+  assert.equal(scenario_of('[board]\n[ask]\nalways_ends = true\n[[setup]]\ndo = "x"\n[[ step ]]\n'), '[board]\n[[step]]\ndo = "x"\n[[ step ]]\n');
+  assert.equal(scenario_of('board threads=1\nT0 now\nsetup T1 pick # first\n'), 'T1 pick # first\nboard threads=1\nT0 now\n');
 });
 test('a text of callers is cut after a step, with the core given back', () => {
   const text = 'limit = 9\nstep = [\n  { do = "take", who = 0 },\n]\n[board]\nthreads = 2 # two\nstaxes = [1]\n\n'
