@@ -82,6 +82,15 @@ static void by_count(void) {
   evlsim_require(now.first == (long)count / 2 && is_whole(&now));
 }
 
+/* Long copies are a few steps each, so that many of them are no endless loop. */
+static void often(void) {
+  static char from[1 << 16], to[1 << 16];
+  begin();
+  volatile size_t size = sizeof from;
+  for (int each = 0; each < 500; each++) memcpy(to, from, size), memset(from, each, size);
+  evlsim_require(to[0] == to[size - 1]);
+}
+
 static bool ends(void (*body)(void), const char *name, bool fails) {
   evlsim_limits limits = {.quiet = true};
   bool has_failed = evlsim_explore_as(body, name, &limits, NULL) != 0;
@@ -100,5 +109,6 @@ int main(void) {
   well = well && ends(written_by_memcpy, "memcpy into what is read", true);
   well = well && ends(written_by_memset, "memset of what is read", true);
   well = well && ends(by_count, "a copy with a count", false);
+  well = well && ends(often, "many long copies", false);
   return well ? 0 : 1;
 }

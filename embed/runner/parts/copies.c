@@ -12,10 +12,11 @@ static void see_word(const char *word, size_t at, size_t size, bool is_write, co
   see(access);
 }
 
-/* memmove; where both lie over each other it is one step. */
+/* memmove. It is one step where both lie over each other, and where it is so long that a driver that copies often would
+   run into the limit of steps. */
 static void *copy_words(char *to, const char *from, size_t size, const void *place) {
   bool is_apart = to >= from + size || from >= to + size;
-  if (!has_hooks || !is_apart) {
+  if (!has_hooks || !is_apart || size > MOST_TORN) {
     if (has_hooks) see_access(from, size, false, place), see_access(to, size, true, place);
     return memmove(to, from, size);
   }
@@ -30,7 +31,10 @@ static void *copy_words(char *to, const char *from, size_t size, const void *pla
 }
 
 static void *set_words(char *to, int byte, size_t size, const void *place) {
-  if (!has_hooks) return memset(to, byte, size);
+  if (!has_hooks || size > MOST_TORN) {
+    if (has_hooks) see_access(to, size, true, place);
+    return memset(to, byte, size);
+  }
   for (size_t at = 0; at < size; at += WORD) {
     see_word(to, at, size, true, place);
     memset(to + at, byte, length_at(at, size));

@@ -16,7 +16,7 @@ enum {
   NAME_BYTES = 32,      /* of a source's name, with its end */
   CHOICES_BYTES = 4096, /* of a list of so many events, as text */
   QUEUE = 1 << 12,
-  MOST_TORN = 4096, /* bytes of a struct of which each word has a moment */
+  MOST_TORN = 4096, /* bytes of a copy of which each word has a moment */
   MOST_GROWTH = 1 << 28, /* bytes by which a process may grow in an exploration */
   CANDIDATES = 1 << 20,
   NODES = 1 << 24,
