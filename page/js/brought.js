@@ -32,7 +32,10 @@ function read_exercise(text) {
     return typeof it.text === 'string' && it.check ? exercise_lesson(it) : null;
   } catch { return null; }
 }
-/** A file as a lesson: an exercise with the answer that was begun, another text as the file has it. @param {string} name @param {string} text */
+/**
+ * A file as a lesson: an exercise with the answer that was begun, another text as the file has it.
+ * @param {string} name @param {string} text
+ */
 export function lesson_of_file(name, text) {
   const exercise = read_exercise(text);
   return exercise ? own_lesson('exercise', exercise) : own_lesson('file', { title: name, text }, true);

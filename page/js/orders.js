@@ -16,10 +16,12 @@ function contradiction(it) {
     return bad.length ? [`${what}${bad.length > 1 ? 's' : ''} ${bad.join(', ')}`] : [];
   };
   const found = [...named('outcome', it.outcomes), ...named('state', it.states)], count = it.outcomes.length;
-  const verb = found.length > 1 || /^\w+s /.test(found[0] || '') ? 'contradict' : it.first_alone ? 'is the first that contradicts' : 'contradicts';
+  const one = it.first_alone ? 'is the first that contradicts' : 'contradicts';
+  const verb = found.length > 1 || /^\w+s /.test(found[0] || '') ? 'contradict' : one;
   if (found.length) return `${found.join(' and ')} ${verb} what is asked`;
-  return it.whole && it.outcomes_asked !== null && it.outcomes_asked !== count
-    ? `${count_text(it.outcomes_asked, 'outcome')} ${it.outcomes_asked === 1 ? 'is' : 'are'} asked for, and there ${count === 1 ? 'is' : 'are'} ${count}` : why_of(it.err);
+  const asked = it.outcomes_asked, are = (/** @type {number} */ n) => n === 1 ? 'is' : 'are';
+  return it.whole && asked !== null && asked !== count
+    ? `${count_text(asked, 'outcome')} ${are(asked)} asked for, and there ${are(count)} ${count}` : why_of(it.err);
 }
 /** Whether the scheduler of one processor picks who makes a step. @param {string} asks */
 const is_picked = asks => asks.split('\n').some(line => /^\s*["']?as_picked["']?\s*=\s*true/.test(bare_of(line)));

@@ -94,7 +94,8 @@ function sections_of(text) {
     else if (!is_gap) last.text += bare + '\n';
     // Right below a key more keys may come, and before a key of the same table no step.
     else if (in_table) last.text += HOLE + '\n';
-    if (is_gap && !open && !(in_table && /^\s*\w+\s*=/.test(lines[i + 1] || ''))) found.push({ head: 'gap', text: '' }, { head: '', text: '' });
+    const has_more = in_table && /^\s*\w+\s*=/.test(lines[i + 1] || '');
+    if (is_gap && !open && !has_more) found.push({ head: 'gap', text: '' }, { head: '', text: '' });
     if (!head) for (const c of bare.replace(/"[^"]*"|'[^']*'/g, '')) open += +(c === '[') - +(c === ']');
   }
   return found;
@@ -206,6 +207,9 @@ export function rules_trouble({ stays = [], calls = {}, then = [] }, given, read
     ...made.map(list => calls_trouble(list, read.steps, usual)),
     ...then.map(pair => then_trouble(pair, read.steps, usual))].find(Boolean) || '';
 }
-/** What of a whole exercise did not stay, or nothing: only its holes may change. @param {Parts} given @param {Parts} read @param {Usual} usual */
+/**
+ * What of a whole exercise did not stay, or nothing: only its holes may change.
+ * @param {Parts} given @param {Parts} read @param {Usual} usual
+ */
 export const whole_trouble = (given, read, usual) =>
   board_trouble(given.board, read.board) || steps_trouble(given.steps, read.steps, usual);
