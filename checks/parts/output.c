@@ -41,6 +41,18 @@ static void fails(void) {
   come(2);
   evlsim_require(got < 2);
 }
+/* What is told of an exploration whose first list fails, also where its handler has touched something new. */
+static irqreturn_t on_count(int irq, void *device) {
+  (void)irq, (void)device;
+  got++;
+  return IRQ_HANDLED;
+}
+static void fails_at_once(void) {
+  request_irq(5, on_count, IRQF_OOB, "line", NULL);
+  evlsim_may_arrive(5, 1, NULL, NULL);
+  evlsim_arrive(5);
+  evlsim_fail("at once");
+}
 static void crashes(void) {
   come(1);
   if (got == 1) abort();
@@ -54,6 +66,8 @@ int main(int count, char **words) {
   printf("before\n");
   if (strcmp(kind, "test") == 0) {
     (void)evlsim_test(passes);
+  } else if (strcmp(kind, "at_once") == 0) {
+    (void)evlsim_explore(fails_at_once, &limits);
   } else if (strcmp(kind, "crashes") == 0 || strcmp(kind, "lost") == 0) {
     (void)evlsim_explore(crashes, &limits);
   } else {

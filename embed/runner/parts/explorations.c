@@ -88,7 +88,8 @@ static void explore_next(void) {
   run_whole(conclude);
   if (!add_nodes(kept->at)) kept->explored.is_cut = true;
   kept->at++;
-  if (has_to_begin_again(kept->at)) begin_round();
+  bool is_over = kept->explored.failed && !kept->limits.goes_on;
+  if (!is_over && has_to_begin_again(kept->at)) begin_round();
 }
 
 /* Runs one list after another, until all are run or this process's own memory has grown too much. */
