@@ -27,6 +27,7 @@ use crate::arguments::read_words;
 use crate::events::Event;
 use crate::runs::run_hosts;
 use crate::texts::{Failure, Texts};
+use evl_scenario::Unwritten;
 use std::process::ExitCode;
 use std::{env, io};
 
@@ -69,10 +70,19 @@ fn conclude(rt: &HostRuntime, texts: &Texts, told: Told) -> io::Result<ExitCode>
     Ok(ExitCode::SUCCESS)
 }
 
+fn reason(unwritten: Unwritten) -> &'static str {
+    match unwritten {
+        Unwritten::Board => "its board has no keys",
+        Unwritten::Limit => "its history is longer than a limit may be",
+        Unwritten::TooLong => "its text would be too long",
+        Unwritten::Memory => "no memory",
+    }
+}
+
 fn excuse(rt: &HostRuntime, failure: Failure) -> io::Result<ExitCode> {
     match failure {
         Failure::Refused(refusal) => eprintln!(rt; "no run: {refusal}")?,
-        Failure::Unwritten(why) => eprintln!(rt; "no scenario: {why:?}")?,
+        Failure::Unwritten(why) => eprintln!(rt; "no scenario: {}", reason(why))?,
         Failure::Differs(takes) => {
             eprintln!(rt; "at {takes} takes a mutex's word didn't say what is recorded")?
         }
