@@ -1018,8 +1018,8 @@ async function stays(page) {
   assert.match(await page.see('status'), /^Another tab has changed this text too: what it wrote is in My texts, as "5\. A timer .* \(from another tab\)"\.$/);
   assert.ok(await kept('# their hour') && await kept('# my word'));
   const turn = await page.turn();
-  await browser.evaluate(`localStorage.setItem('${key}', ${JSON.stringify(own + '# their second\n')});
-    window.dispatchEvent(new StorageEvent('storage', { key: '${key}' }))`);
+  await browser.evaluate(`(localStorage.setItem('${key}', ${JSON.stringify(own + '# their second\n')}),
+    window.dispatchEvent(new StorageEvent('storage', { key: '${key}' })))`);
   await page.played(turn);
   assert.match(await page.value('text'), /# their second\n$/);
   assert.equal(await page.see('status'), 'Changed in another tab.');
