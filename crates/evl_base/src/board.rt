@@ -43,6 +43,30 @@ impl Board {
             && staxes_fit(self.staxes.as_slice());
         if fits { Ok(()) } else { Err(Refusal::Range) }
     }
+
+    /// The same board once more.
+    pub fn copied(&self) -> Board
+        ensures { result ≡ self.now }
+    {
+        Board {
+            threads: self.threads,
+            sems: copied_list(&self.sems),
+            flags: copied_list(&self.flags),
+            xbufs: copied_list(&self.xbufs),
+            mutexes: copied_list(&self.mutexes),
+            groups: copied_list(&self.groups),
+            staxes: copied_list(&self.staxes),
+        }
+    }
+}
+
+// The same list once more.
+fn copied_list<T: Copy + Default, const N: usize>(list: &ArrayVec<T, N>) -> ArrayVec<T, N>
+    ensures { result.items ≡ list.now.items }
+{
+    let mut other = ArrayVec::new();
+    other.try_extend_from_slice(list.as_slice()).unwrap();
+    other
 }
 
 fn counts_fit(counts: &[u32]) -> bool

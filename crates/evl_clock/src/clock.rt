@@ -4,7 +4,7 @@ ghost use Rattle.std.specs.Vec.{vec_capacity};
 ghost use Rattle.evl_base.specs.declared.refusal.Refusal.{Refusal};
 ghost use Rattle.evl_clock.specs.Clocks.{IsSoundClock, advance_refusal, advanced, dropped, free_place, new_timer_refusal, opening, start, stop, timer_at, timer_refusal, with_deadline, with_new_timer};
 ghost use Rattle.evl_clock.specs.ClockSteps.{FallsDue, Fires, IsBounded, item_of};
-ghost use Rattle.evl_clock.specs.Dues.{IsNextDue, NothingIsDue, deadline, due_count, is_due, next_due, timer};
+ghost use Rattle.evl_clock.specs.Dues.{IsNextDue, NothingIsDue, deadline, due_count, is_due, earliest_date, next_due, timer};
 ghost use Rattle.evl_clock.specs.Limits.{thread_count, timer_count};
 ghost use Rattle.evl_clock.specs.Timers.{timer_kinds};
 
@@ -141,6 +141,16 @@ impl<C, A: Allocator> ClockOf<C, A> {
         ensures due { result ≡ is_due self.now }
     {
         self.due_item().is_some()
+    }
+
+    /// The least date of the timers that run and of the deadlines, due or not; none where there are neither.
+    pub fn earliest_date(&self) -> Option<u64>
+        ensures date { result ≡ earliest_date self.now }
+    {
+        match first(&self.agenda) {
+            Some(next) => Some(next.date),
+            None => None,
+        }
     }
 
     /// Moves the date by so many nanoseconds, and says whether something is due then. `Range` exactly where the date

@@ -8,10 +8,9 @@ use Rattle.evl_base.specs.declared.board.Board.{Board}
 use Rattle.evl_scenario.specs.Tables.{has_only, value_at, list_of}
 use Rattle.evl_scenario.specs.Values.{word_from, half_word_from, byte_from, ring_sizes_from, mutex_kind_from}
 
--- the board's lists, and how many threads it has
-abbrev pub board_with : Members → Option Board
-board_with ms =
-    option_and_then (λ threads.
+-- the board's lists, with so many threads
+abbrev pub board_with : ℕ → Members → Option Board
+board_with threads ms =
     option_and_then (λ sems.
     option_and_then (λ flags.
     option_and_then (λ xbufs.
@@ -29,8 +28,7 @@ board_with ms =
     (list_of mutex_kind_from 32 (get_member (codes "mutexes") ms)))
     (list_of ring_sizes_from 16 (get_member (codes "xbufs") ms)))
     (list_of word_from flags_limit (get_member (codes "flags") ms)))
-    (list_of word_from sem_limit (get_member (codes "sems") ms)))
-    (value_at half_word_from (codes "threads") ms)
+    (list_of word_from sem_limit (get_member (codes "sems") ms))
 
 abbrev pub board_keys : List (List ℕ)
 board_keys = codes "threads" ∷ codes "sems" ∷ codes "flags" ∷ codes "xbufs" ∷ codes "mutexes" ∷ codes "groups" ∷ []
@@ -38,9 +36,13 @@ board_keys = codes "threads" ∷ codes "sems" ∷ codes "flags" ∷ codes "xbufs
 abbrev pub in_range : Board → Option Board
 in_range board = if board_fits board then Some board else None
 
+-- the board that a table's lists stand for, with so many threads
+abbrev pub elements_of : ℕ → Members → Option Board
+elements_of threads ms = option_and_then in_range (board_with threads ms)
+
 -- the board that a table stands for
 abbrev pub board_of : Members → Option Board
-board_of ms = if has_only board_keys ms then option_and_then in_range (board_with ms) else None
+board_of ms = if has_only board_keys ms then option_and_then (λ threads. elements_of threads ms) (value_at half_word_from (codes "threads") ms) else None
 
 -- how many entries a history may be limited to
 abbrev pub is_limit : ℕ → Bool

@@ -2,7 +2,7 @@
 ghost use Rattle.std.specs.Prelude.{◌≡◌, codes};
 ghost use Rattle.toml.specs.Data.{get_member};
 ghost use Rattle.toml.specs.View.{table_view};
-ghost use Rattle.evl_scenario.specs.Boards.{board_of, is_limit, own_limit, limit_of};
+ghost use Rattle.evl_scenario.specs.Boards.{board_of, elements_of, is_limit, own_limit, limit_of};
 
 use crate::tables::{at, field, has_only_keys, list_at};
 use crate::values::FromToml;
@@ -21,8 +21,15 @@ pub fn read_board(table: &Table) -> Option<Board>
     ) {
         return None;
     }
+    read_elements(table, at(table, "threads")?)
+}
+
+/// The board that the lists of a table stand for, with so many threads, where all of its numbers are in their ranges.
+pub fn read_elements(table: &Table, threads: u16) -> Option<Board>
+    ensures { result ≡ elements_of threads (table_view table.now) }
+{
     let board = Board {
-        threads: at(table, "threads")?,
+        threads,
         sems: list_at(table, "sems")?,
         flags: list_at(table, "flags")?,
         xbufs: list_at(table, "xbufs")?,

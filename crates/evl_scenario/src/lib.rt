@@ -23,13 +23,14 @@ mod values;
 mod widths;
 mod writing;
 
+pub use boards::{is_limit_in_range, read_elements};
 pub use faults::Fault;
 pub use lines::{
     BoardLine, ElementCounts, EntryNumber, OwnerCounts, PlayLine, StepAnswer, StepLine, board_line,
 };
 pub use scenarios::{Scenario, read_scenario};
-pub use steps::{Step, step_keys_of};
-pub use tables::{field, has_only_keys};
+pub use steps::{Step, read_step, read_step_table, step_keys_of};
+pub use tables::{at, at_or, at_text, field, has_only_keys, list_at};
 pub use tracing::{trace_history, write_board_line, write_entry, write_history};
-pub use values::number_of_text;
+pub use values::{FromToml, number_of_text};
 pub use writing::{Unwritten, without_staxes, write_opening, write_scenario, write_step};

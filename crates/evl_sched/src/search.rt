@@ -1,6 +1,6 @@
 //! Looking at threads.
 ghost use Rattle.std.specs.Prelude.{◌≡◌, [], None, slice_index_or};
-ghost use Rattle.evl_sched.specs.Groups.{has_budget};
+ghost use Rattle.evl_sched.specs.Groups.{budget_at, has_budget};
 ghost use Rattle.evl_sched.specs.Picks.{may_run};
 ghost use Rattle.evl_sched.specs.Ranks.{rank_of};
 ghost use Rattle.evl_sched.specs.Threads.{base_of, stage_of};
@@ -31,6 +31,16 @@ pub fn has_budget(groups: &[Group], group: Option<u16>) -> bool
             Some(g) => 0 < g.budget,
             None => false,
         },
+    }
+}
+
+/// What is left of a group's budget, if there is such a group.
+pub fn budget_at(groups: &[Group], group: u16) -> Option<u64>
+    ensures budget { result ≡ budget_at groups.now group }
+{
+    match groups.get(group as usize) {
+        Some(g) => Some(g.budget),
+        None => None,
     }
 }
 

@@ -7,6 +7,8 @@ ghost use Rattle.evl_kernel.specs.waiting.Standing.{queue_of};
 ghost use Rattle.evl_kernel.specs.state.States.{date};
 ghost use Rattle.evl_kernel.specs.calls.ThreadCalls.{rank_of};
 ghost use Rattle.evl_kernel.specs.waiting.Waits.{wait_at};
+ghost use Rattle.evl_clock.specs.Dues.{earliest_date};
+ghost use Rattle.evl_sched.specs.Charges.{allowance};
 ghost use Rattle.evl_sched.specs.Picks.{picked};
 ghost use Rattle.evl_sched.specs.Threads.{is_attached, is_ready, seat_at};
 ghost use Rattle.evl_sync.specs.Semaphores as semaphores;
@@ -101,6 +103,23 @@ impl<C, A: Allocator> KernelOf<C, A> {
         ensures legal { IsLegal self.now.history }
     {
         self.records.waiter(on, place)
+    }
+
+    /// The least date of the timers that run and of the deadlines of waits, due or not (Xenomai 4: EVL clocks and timers).
+    pub fn earliest_date(&self) -> Option<u64>
+        ensures date { result ≡ earliest_date self.now.history.state.clock }
+        ensures legal { IsLegal self.now.history }
+    {
+        self.records.earliest_date()
+    }
+
+    /// How long a thread may run on before its slice or its group's budget ends it, in nanoseconds; none where its
+    /// policy has neither, or it isn't attached (Xenomai 4: EVL scheduling policies; this profile).
+    pub fn allowance(&self, thread: ThreadId) -> Option<u64>
+        ensures allowance { result ≡ allowance self.now.history.state.sched thread.0 }
+        ensures legal { IsLegal self.now.history }
+    {
+        self.records.allowance(thread)
     }
 
     /// Adds the threads of the ready list to a list, in their order. `NoMemory` where room was refused; the list is

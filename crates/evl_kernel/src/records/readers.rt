@@ -6,6 +6,8 @@ ghost use Rattle.evl_kernel.specs.waiting.Standing.{queue_of};
 ghost use Rattle.evl_kernel.specs.state.States.{date};
 ghost use Rattle.evl_kernel.specs.calls.ThreadCalls.{rank_of};
 ghost use Rattle.evl_kernel.specs.waiting.Waits.{wait_at};
+ghost use Rattle.evl_clock.specs.Dues.{earliest_date};
+ghost use Rattle.evl_sched.specs.Charges.{allowance};
 ghost use Rattle.evl_sched.specs.Picks.{picked};
 ghost use Rattle.evl_sched.specs.Threads.{is_attached, is_ready, seat_at};
 ghost use Rattle.evl_sync.specs.Semaphores as semaphores;
@@ -88,6 +90,21 @@ impl<C, A: Allocator> Records<C, A> {
         ensures waiter { option_map (λ t. t.0) result ≡ slice_get (queue_of (state_of self.now).elements on) place }
     {
         self.elements.waiter(on, place)
+    }
+
+    /// The least date of the timers that run and of the deadlines of waits, due or not.
+    pub(crate) fn earliest_date(&self) -> Option<u64>
+        ensures date { result ≡ earliest_date (state_of self.now).clock }
+    {
+        self.clock.earliest_date()
+    }
+
+    /// How long a thread may run on before its slice or its group's budget ends it, in nanoseconds; none where its
+    /// policy has neither, or it isn't attached.
+    pub(crate) fn allowance(&self, thread: ThreadId) -> Option<u64>
+        ensures allowance { result ≡ allowance (state_of self.now).sched thread.0 }
+    {
+        self.sched.allowance(thread)
     }
 
     /// Adds the ready threads to a list, in their order. `NoMemory` where room was refused; the list is as before then.

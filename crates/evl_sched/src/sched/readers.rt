@@ -1,11 +1,13 @@
 //! What the scheduler tells of all of its threads at once.
 ghost use Rattle.std.specs.Prelude.{◌≡◌, ◌++◌, true, map, IfErr, OnErr, OnOk};
 ghost use Rattle.evl_base.specs.declared.refusal.Refusal.{Refusal};
+ghost use Rattle.evl_sched.specs.Charges.{allowance};
 
 use super::SchedOf;
 use crate::group::Group;
 use crate::seat::Seat;
-use evl_base::{Refusal, ThreadId};
+use crate::search;
+use evl_base::{Policy, Refusal, ThreadId};
 use std::alloc::Allocator;
 
 impl<A: Allocator> SchedOf<A> {
@@ -19,6 +21,20 @@ impl<A: Allocator> SchedOf<A> {
         match self.order.ready_threads(out) {
             Ok(()) => Ok(()),
             Err(_) => Err(Refusal::NoMemory),
+        }
+    }
+
+    /// How long a thread may run on before its slice or its group's budget ends it, in nanoseconds; none where its
+    /// policy has neither, or it isn't attached (Xenomai 4: EVL scheduling policies; this profile).
+    pub fn allowance(&self, thread: ThreadId) -> Option<u64>
+        ensures allowance { result ≡ allowance self.now.sched thread.0 }
+    {
+        let seat = search::seat_at(&self.seats, thread.0)?;
+        match seat.policy {
+            Policy::Rr { .. } => Some(seat.rest),
+            Policy::Quota { group, .. } => search::budget_at(&self.groups, group),
+            Policy::Fifo(_) => None,
+            Policy::Weak(_) => None,
         }
     }
 
