@@ -71,7 +71,7 @@ module _ {C : Type 0} where
 
   -- of the entries the last one is dated, and no date goes before it
 
-  first_dated : (c : Clock C) (xs : List Entry) (room : ℕ) (e : Entry) → IsKept c xs room → first xs ≡ Some e → slice_index_or (dates_of c) e.place None ≡ Some e.date
+  pub first_dated : (c : Clock C) (xs : List Entry) (room : ℕ) (e : Entry) → IsKept c xs room → first xs ≡ Some e → slice_index_or (dates_of c) e.place None ≡ Some e.date
   first_dated c xs room e h is =
       all-first (λ x. slice_index_or (dates_of c) x.place None ≡ Some x.date) xs e
       (subst (AllByRecursion (λ x. slice_index_or (dates_of c) x.place None ≡ Some x.date)) (sym h.agenda)

@@ -2,7 +2,6 @@
 //! What names no source is this profile's own.
 #![tactic(auto)]
 
-mod boards;
 mod joins;
 mod plays;
 

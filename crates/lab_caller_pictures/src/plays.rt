@@ -3,11 +3,10 @@ ghost use Rattle.std.specs.Prelude.{◌≡◌, IfErr, IfOk, map, string_bytes};
 ghost use Rattle.evl_plans.specs.Told.{handler_of};
 ghost use Rattle.lab_caller_pictures.specs.Runs.{AllMade, EndsFor, IsKnown, IsRunBy, IsRunOf, IsWhyBy, IsWhyOf};
 
-use crate::boards::board_alone;
 use evl_base::{Board, Refusal};
 use evl_kernel::KernelOf;
 use evl_plans::{Planned, copied_bank};
-use evl_scenario::{Fault, Unwritten, write_scenario};
+use evl_scenario::{Fault, Unwritten, without_staxes, write_scenario};
 use lab_callers::{Ending, Kept, Played, StepFault, play_kept};
 use lab_callers_text::{CallersText, read_callers};
 use std::alloc::{AllocError, Global};
@@ -98,7 +97,7 @@ fn play_asked(alloc: Global, bank: &[Planned], asked: CallersText) -> Result<Cal
     let Ok(own) = copied_bank(alloc, bank) else {
         return Err(Unplayed::Memory);
     };
-    let board = board_alone(&asked.board);
+    let board = without_staxes(asked.board.copied());
     let limit = asked.limit;
     match play_kept(alloc, asked, own) {
         Ok(kept) => run_of(alloc, &board, limit, kept),

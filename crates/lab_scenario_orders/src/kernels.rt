@@ -10,36 +10,11 @@ ghost use Rattle.lab_scenario_orders.specs.Moments.{held_in, made_at, trailed};
 
 use crate::banks::BankMaker;
 use crate::callers::Callers;
-use arrayvec::ArrayVec;
-use evl_base::{Board, Call, Refusal, Reply, Spares, Stage, ThreadId};
+use evl_base::{Call, Refusal, Reply, Spares, Stage, ThreadId};
 use evl_kernel::KernelOf;
 use evl_pipeline::Handler;
 use evl_scenario::{Step, StepAnswer};
 use std::alloc::{AllocError, Global};
-
-// The same list once more.
-fn copied<T: Copy + Default, const N: usize>(list: &ArrayVec<T, N>) -> ArrayVec<T, N>
-    ensures { result.items ≡ list.now.items }
-{
-    let mut other = ArrayVec::new();
-    other.try_extend_from_slice(list.as_slice()).unwrap();
-    other
-}
-
-// The same board once more.
-fn copied_board(board: &Board) -> Board
-    ensures { result ≡ board.now }
-{
-    Board {
-        threads: board.threads,
-        sems: copied(&board.sems),
-        flags: copied(&board.flags),
-        xbufs: copied(&board.xbufs),
-        mutexes: copied(&board.mutexes),
-        groups: copied(&board.groups),
-        staxes: copied(&board.staxes),
-    }
-}
 
 // How many boxes the bytes of a call take.
 fn boxes_in(call: &Call) -> usize
@@ -225,7 +200,7 @@ fn opened<B: BankMaker>(
         Ok(made) => made,
         Err(error) => return Err(error),
     };
-    match KernelOf::new(alloc, copied_board(&callers.board), made, callers.limit) {
+    match KernelOf::new(alloc, callers.board.copied(), made, callers.limit) {
         Ok(kernel) => Ok(kernel),
         Err(_) => Err(AllocError),
     }

@@ -9,8 +9,7 @@ ghost use Rattle.lab_step_orders.specs.Visits.{call_made, goes_on, made, set_up,
 
 use crate::crews::Crew;
 use crate::steps::Visit;
-use arrayvec::ArrayVec;
-use evl_base::{Board, Call, Refusal, Reply, Spares, ThreadId};
+use evl_base::{Call, Refusal, Reply, Spares, ThreadId};
 use evl_kernel::KernelOf;
 use evl_pipeline::Handler;
 use evl_plans::Planned;
@@ -39,30 +38,6 @@ impl BankMaker for NoPlans {
 pub(crate) struct Visited {
     pub(crate) who: u16,
     pub(crate) visit: Visit,
-}
-
-// The same list once more.
-fn copied<T: Copy + Default, const N: usize>(list: &ArrayVec<T, N>) -> ArrayVec<T, N>
-    ensures { result.items ≡ list.now.items }
-{
-    let mut other = ArrayVec::new();
-    other.try_extend_from_slice(list.as_slice()).unwrap();
-    other
-}
-
-// The same board once more.
-fn copied_board(board: &Board) -> Board
-    ensures { result ≡ board.now }
-{
-    Board {
-        threads: board.threads,
-        sems: copied(&board.sems),
-        flags: copied(&board.flags),
-        xbufs: copied(&board.xbufs),
-        mutexes: copied(&board.mutexes),
-        groups: copied(&board.groups),
-        staxes: copied(&board.staxes),
-    }
 }
 
 // The same call once more. `AllocError` where there is no memory for its bytes.
@@ -220,7 +195,7 @@ fn opened<B: BankMaker>(
         Ok(made) => made,
         Err(error) => return Err(error),
     };
-    match KernelOf::new(alloc, copied_board(&crew.board), made, crew.limit) {
+    match KernelOf::new(alloc, crew.board.copied(), made, crew.limit) {
         Ok(kernel) => Ok(kernel),
         Err(_) => Err(AllocError),
     }

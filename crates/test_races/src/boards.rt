@@ -1,28 +1,7 @@
-//! Boards and calls once more.
-use arrayvec::ArrayVec;
-use evl_base::{Board, Call, Spares};
+//! Calls once more.
+use evl_base::{Call, Spares};
 use evl_scenario::Step;
 use std::alloc::{AllocError, Global};
-
-// The same list once more.
-fn copied<T: Copy + Default, const N: usize>(list: &ArrayVec<T, N>) -> ArrayVec<T, N> {
-    let mut other = ArrayVec::new();
-    other.try_extend_from_slice(list.as_slice()).unwrap();
-    other
-}
-
-/// The same board once more.
-pub fn copied_board(board: &Board) -> Board {
-    Board {
-        threads: board.threads,
-        sems: copied(&board.sems),
-        flags: copied(&board.flags),
-        xbufs: copied(&board.xbufs),
-        mutexes: copied(&board.mutexes),
-        groups: copied(&board.groups),
-        staxes: copied(&board.staxes),
-    }
-}
 
 /// The same call once more. `AllocError` where there is no memory for its bytes.
 pub fn copied_call(alloc: Global, call: &Call) -> Result<Call, AllocError> {

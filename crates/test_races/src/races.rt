@@ -3,7 +3,7 @@ ghost use Rattle.std.specs.Prelude.{◌≡◌, All, IfOk};
 ghost use denote.Param.Send.{IsSync};
 ghost use Rattle.evl_kernel.specs.state.Callbacks.{AnswersByPlan};
 
-use crate::boards::{copied_board, copied_call};
+use crate::boards::copied_call;
 use crate::hosts::all_work;
 use crate::own::Own;
 use crate::player::Player;
@@ -157,7 +157,7 @@ fn race_over<C: Handler + Send, R: Threads + Wait + Sync>(
 ) -> Result<Vec<Vec<Answer>>, Refusal>
     requires shared { IsSync R.row }
 {
-    match MachineOf::over(alloc, alloc, copied_board(&crew.board), bank, crew.limit) {
+    match MachineOf::over(alloc, alloc, crew.board.copied(), bank, crew.limit) {
         Ok((machine, callers)) => raced_over(rt, alloc, crew, seed, machine, callers),
         Err(refusal) => Err(refusal),
     }

@@ -65,8 +65,7 @@ module _ (n count : ℕ) (few : count ≤ thread_limit) (base : State) where
   rests_by_plays = let k = kept_by_each count few in record {
     lined = λ s q h. (k.lined s q h.0, h.1);
     banked = λ s number home b h. (k.banked s number home b h.0, h.1);
-    clocked = λ s c same h. (k.clocked s c same h.0, h.1);
-    paid = λ s before delta now h. (k.paid s before delta now h.0, h.1);
+    clocked = λ s c same still h. (k.clocked s c same h.0, h.1);
     acted = λ s step asked other h. both (touched s None step).effect (proper_asked count few s h.0 None step asked) (since_on s h.1 (touched s None step).effect (since_touched n count few s h.0 None step asked other));
     expired = λ s thread date is h. (proper_expired count few s h.0 thread, since_after n base s (deadline_left s thread).1 h.1 (since_expired n count few s h.0 thread (h.0.proper.dated thread date is)));
   }

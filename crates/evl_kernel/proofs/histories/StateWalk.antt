@@ -1,34 +1,32 @@
 -- What each call, each play and each run keeps, where each kind of change keeps it.
-use Rattle.std.proofs.Common.{◌≡◌, inl, inr, ℕ, Bool, true≢false, false, not, List, [], ◌∷◌, Option, Some, None, Result, Ok, Err, slice_get, refl, sym, subst}
+use Rattle.std.proofs.Common.{◌≡◌, inl, inr, ℕ, Bool, true≢false, false, List, [], ◌∷◌, Option, None, Result, Ok, Err, refl, sym, subst}
 use Rattle.evl_base.specs.declared.call.Call.{Call}
 use Rattle.evl_base.specs.declared.entry.Entry.{Entry}
 use Rattle.evl_base.specs.declared.play.Play.{Play}
 use Rattle.evl_base.specs.declared.refusal.Refusal.{Refusal}
-use Rattle.evl_base.specs.declared.refusal.Refusal.TheVariants.{Busy}
 use Rattle.evl_base.specs.declared.reply.Reply.{Reply}
 use Rattle.evl_pipeline.specs.Lines as lines
 use Rattle.evl_clock.specs.Clocks.{Clock}
 use Rattle.evl_kernel.specs.declared.waits.Wanted.{Wanted}
 use Rattle.evl_kernel.specs.state.States.{State, Banked, with_lines, with_clock, with_banked}
-use Rattle.evl_kernel.specs.calls.Effects.{Effect, done}
+use Rattle.evl_kernel.specs.calls.Effects.{Effect}
 use Rattle.evl_kernel.specs.calls.Mutexes as mutex
 use Rattle.evl_kernel.specs.calls.Elements.{ElementStep, on_sem, on_flags, on_xbuf, on_mutex, touched}
-use Rattle.evl_kernel.specs.calls.LineCalls as line_call
 use Rattle.evl_kernel.specs.calls.ThreadCalls as thread_call
 use Rattle.evl_kernel.specs.waiting.Beginnings.{beginning}
 use Rattle.evl_kernel.specs.waiting.Endings.{finish}
 use Rattle.evl_sched.specs.Threads.{stage_of}
-use Rattle.evl_kernel.specs.calls.Families.{LineStep, request, free, arrive, post, stall, unstall, line_effect, ThreadStep, thread_effect, Task, on_lines, on_clock, on_threads, on_element, on_staged, begins, ends, performing, task_of, raises}
+use Rattle.evl_kernel.specs.calls.Families.{ThreadStep, thread_effect, Task, on_lines, on_clock, on_threads, on_element, on_staged, begins, ends, performing, task_of, raises}
 use Rattle.evl_kernel.specs.calls.Serving.{general_refusal, answer}
 use Rattle.evl_kernel.specs.settling.Settling.{deadline_left}
 use Rattle.evl_kernel.specs.histories.Histories.{Run, Follows}
 use Rattle.evl_kernel.proofs.calls.QueueLaws.{IsAsked, asks_raise}
 use Rattle.evl_kernel.proofs.calls.AskedSteps.{AsksPlainly, IsCalled, MayRaise, asks, leaves-told}
-use Rattle.evl_kernel.proofs.calls.LeavesLaws.{Leaves, leaves-refused, leaves-unless, leaves-known}
-use Rattle.evl_kernel.proofs.calls.ClockSteps.{leaves-clock}
+use Rattle.evl_kernel.proofs.calls.LeavesLaws.{Leaves, leaves-refused}
+use Rattle.evl_kernel.proofs.calls.ClockSteps.{KeptByClock, leaves-clock}
 use Rattle.evl_kernel.specs.calls.OwnerCalls.{raiser_refusal}
 use Rattle.evl_kernel.specs.histories.MutexRests.{is_of_mutexes}
-use Rattle.evl_kernel.proofs.settling.PlayWalk.{KeptByPlays, holds-home, kept_by_clock, settles_holds}
+use Rattle.evl_kernel.proofs.settling.PlayWalk.{KeptByPlays, holds-home, holds-line, settles_holds}
 
 -- each kind of change keeps this
 pub record KeptByEach (P : State → Type 0) : Type 0 where
@@ -57,26 +55,21 @@ module _ (P : State → Type 0) (k : KeptByEach P) where
   by_plays = record {
     lined = k.lined;
     banked = k.banked;
-    clocked = k.clocked;
-    paid = k.paid;
+    clocked = λ s c same still h. k.clocked s c same h;
     acted = λ s step asked other h. k.asked s None step asked (may_raise s step other) h;
     expired = λ s thread date is h. k.expired s thread h;
   }
 
-  holds-returned : (s : State) (o : Option (lines.Installed ℕ)) → P s → P (line_call.with_callback_back s o)
-  holds-returned s None h = h
-  holds-returned s (Some at) h = holds-home P by_plays s at.callback h
-
-  holds-line : (s : State) (step : LineStep) → P s → Leaves P (line_effect s step)
-  holds-line s (request line stage number tag) h = leaves-known P (slice_get s.bank number) _ (λ b here.
-      leaves-refused P (lines.request_refusal s.lines line stage b.handler.kinds) _ (λ passed. leaves-unless P (not b.home) Busy
-      (done (with_banked (with_lines s (lines.requested s.lines line stage number tag)) false number b)) (k.banked (with_lines s _) number false b (k.lined s _ h))))
-  holds-line s (free line stage) h = leaves-refused P (lines.free_refusal s.lines line stage) _ (λ passed.
-      holds-returned (with_lines s (lines.freed s.lines line stage)) (lines.installed_at s.lines stage line) (k.lined s _ h))
-  holds-line s (arrive line) h = leaves-refused P (lines.post_refusal line) _ (λ passed. k.lined s _ h)
-  holds-line s (post stage line) h = leaves-refused P (lines.post_refusal line) _ (λ passed. k.lined s _ h)
-  holds-line s (stall stage) h = k.lined s _ h
-  holds-line s (unstall stage) h = k.lined s _ h
+  kept_by_clock : KeptByClock P
+  kept_by_clock = record {
+    posted = λ s h. k.lined s _ h;
+    charged = λ s before delta now h. k.paid s before delta now h;
+    advanced = λ s delta h. k.clocked s _ refl h;
+    made = λ s n number tag b h here home allowed free. k.banked (with_clock s _) number false b (k.clocked s _ refl h);
+    started = λ s n date interval h. k.clocked s _ refl h;
+    stopped = λ s n h. k.clocked s _ refl h;
+    dropped = λ s n t h there. holds-home P by_plays (with_clock s _) t.callback (k.clocked s _ refl h);
+  }
 
   holds-called : (s : State) (caller : ℕ) (step : ElementStep) → IsCalled step → P s → Leaves P (touched s (Some caller) step).effect
   holds-called s caller step (inl tells) h = leaves-told P s (Some caller) step tells h
@@ -86,8 +79,8 @@ module _ (P : State → Type 0) (k : KeptByEach P) where
   holds-answer s caller asked own h = leaves-refused P (general_refusal s caller asked) _ (λ passed. by (task_of asked) refl (asks asked) passed)
     where
       by : (task : Task) → task_of asked ≡ task → AsksPlainly task → general_refusal s caller asked ≡ None → Leaves P (performing s caller task).effect
-      by (on_lines step) is plain passed = holds-line s step h
-      by (on_clock step) is plain passed = leaves-clock P (kept_by_clock P by_plays) s step h
+      by (on_lines step) is plain passed = holds-line P by_plays s step h
+      by (on_clock step) is plain passed = leaves-clock P kept_by_clock s step h
       by (on_threads step) is plain passed = own.threads step is passed h
       by (on_element step) is plain passed = holds-called s caller step plain h
       by (on_staged step_from) is plain passed = holds-called s caller (step_from caller (stage_of s.sched caller)) (plain caller (stage_of s.sched caller)) h

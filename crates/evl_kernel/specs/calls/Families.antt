@@ -103,6 +103,11 @@ is_of_waits (begins wanted until) = true
 is_of_waits (ends keep) = true
 is_of_waits _ = false
 
+-- the nanoseconds that a task lets pass
+abbrev pub time_of : Task → ℕ
+time_of (on_clock (tick delta)) = delta
+time_of _ = 0
+
 -- a step on lines, on the clock or on threads reaches no element, nor does the end of a wait, and one of an element is its
 -- caller's
 abbrev pub performing : State → ℕ → Task → Told

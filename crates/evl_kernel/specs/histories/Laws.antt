@@ -1,5 +1,5 @@
 -- Laws over histories.
-use Rattle.std.specs.Prelude.{ℕ, ◌≡◌, ◌≢◌, ◌≤◌, true, false, List, All, map, length, Result}
+use Rattle.std.specs.Prelude.{ℕ, ◌≡◌, ◌≢◌, ◌≤◌, ◌+◌, true, false, List, All, map, length, Result, Ok}
 use Rattle.evl_base.specs.declared.stage.Stage.TheVariants.{Oob}
 use Rattle.evl_base.specs.declared.call.Call.{Call}
 use Rattle.evl_base.specs.declared.play.Play.{Play}
@@ -10,7 +10,7 @@ use Rattle.evl_clock.specs.Dues.{is_due}
 use Rattle.evl_sched.specs.Threads.{stage_of}
 use Rattle.evl_kernel.specs.state.Limits.{play_limit}
 use Rattle.evl_kernel.specs.state.States.{State}
-use Rattle.evl_kernel.specs.calls.Families.{moves_caller, task_of}
+use Rattle.evl_kernel.specs.calls.Families.{moves_caller, task_of, time_of}
 use Rattle.evl_kernel.specs.histories.Histories.{Step, Run, History, IsLegal, opened_kernel}
 use Rattle.evl_kernel.specs.histories.Replays.{step_outcome}
 use Rattle.evl_kernel.specs.histories.Worlds.{outside_inband, played_outside, RequestsNoActions}
@@ -72,3 +72,9 @@ abbrev pub StagesStayWhereNobodyMoves : Type 0
 StagesStayWhereNobodyMoves =
     (old : State) (caller : ℕ) (asked : Call) (reply : Result Reply Refusal) (plays : List Play) (new : State)
     → Step old caller asked reply plays new → moves_caller (task_of asked) ≡ false → (thread : ℕ) → stage_of new.sched thread ≡ stage_of old.sched thread
+
+-- an accepted tick moves the date by its nanoseconds; no other call moves it, and no play
+abbrev pub TicksMoveTheDate : Type 0
+TicksMoveTheDate =
+    (old : State) (caller : ℕ) (asked : Call) (given : Reply) (plays : List Play) (new : State)
+    → Step old caller asked (Ok given) plays new → new.clock.now ≡ old.clock.now + time_of (task_of asked)

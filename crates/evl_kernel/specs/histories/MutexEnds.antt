@@ -1,5 +1,5 @@
 -- A wait for a mutex ends by getting it, or by its deadline.
-use Rattle.std.specs.Prelude.{◌≡◌, ◌⊎◌, ℕ, true, not, ◌||◌, Bool, Option, Some}
+use Rattle.std.specs.Prelude.{◌≡◌, ℕ, true, not, ◌||◌, Bool, Option, Some}
 use Rattle.std.specs.Option.{option_map_or}
 use Rattle.evl_base.specs.Board.{board_fits}
 use Rattle.evl_base.specs.declared.numbers.MutexId.{MutexId}
