@@ -1,5 +1,5 @@
 -- What each call, each play and each run keeps, where each kind of change keeps it.
-use Rattle.std.proofs.Common.{◌≡◌, inl, inr, ℕ, Bool, true≢false, false, List, [], ◌∷◌, Option, None, Result, Ok, Err, refl, sym, subst}
+use Rattle.std.proofs.Common.{◌≡◌, inl, inr, ℕ, Bool, true≢false, false, List, [], ◌∷◌, Option, Some, None, Result, Ok, Err, refl, sym, subst}
 use Rattle.evl_base.specs.declared.call.Call.{Call}
 use Rattle.evl_base.specs.declared.entry.Entry.{Entry}
 use Rattle.evl_base.specs.declared.play.Play.{Play}

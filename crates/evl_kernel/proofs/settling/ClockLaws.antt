@@ -10,7 +10,7 @@ use Rattle.evl_clock.specs.Timers.{made, after_fire, started, stopped}
 use Rattle.evl_clock.specs.Clocks.{Clock, opening, timer_at, with_timer, free_place, timer_refusal, with_new_timer, changed, start, stop, dropped}
 use Rattle.evl_clock.specs.ClockSteps.{fired}
 use Rattle.evl_clock.specs.Limits.{thread_count, timer_count}
-use Rattle.evl_clock.specs.Dues.{all_due, due_from, timer, deadline, timer_date, earliest, next_due, is_due, due_count}
+use Rattle.evl_clock.specs.Dues.{all_due, due_from, earliest_date, least_date, timer, deadline, timer_date, earliest, next_due, is_due, due_count}
 use Rattle.evl_kernel.specs.state.Renamed.{named_timer, renamed_clock}
 use Rattle.evl_kernel.proofs.state.RenamedLaws.{lookup-map}
 
@@ -29,6 +29,10 @@ module _ {X Y : Type 0} (name : X → Y) where
   same_dates : (ts : List (Option (Timer X))) → map timer_date (map (option_map (named_timer name)) ts) ≡ map timer_date ts
   same_dates [] = refl
   same_dates (t ∷ ts) = (λ i. same_date t i ∷ same_dates ts i)
+
+  -- the least date is the same
+  pub earliest-renamed : (c : Clock X) → earliest_date (renamed_clock name c) ≡ earliest_date c
+  earliest-renamed c = ap (λ (dates : List (Option ℕ)). least_date (dates ++ c.deadlines)) (same_dates c.timers)
 
   -- the same items are due
   pub due-renamed : (c : Clock X) → all_due (renamed_clock name c) ≡ all_due c
