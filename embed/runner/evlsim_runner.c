@@ -68,6 +68,8 @@ __attribute__((noreturn)) static void finish_task(void *value);
 static void yield_if_due(void);
 static void fire_timer(int number);
 static void at_call(void);
+static void at_return(void);
+static void arrive_raised(void);
 static void mend_torn(void);
 static void at_idle(void);
 static void see_read(const void *at, size_t size);

@@ -126,6 +126,14 @@ static void expect_no_stall(int who, const char *what) {
   }
 }
 
+/* Whether a handler has code of the driver's. */
+static bool has_code(const struct handler *handler) {
+  if (!handler->is_used) return false;
+  if (!handler->is_timer) return handler->handle != NULL;
+  const struct evl_timer *core = run->timers[handler->element].core;
+  return core != NULL && core->handler != NULL;
+}
+
 CALLER static void call_handler(const struct handler *handler) {
   char here, what[64];
   const char *before = run->below;
@@ -139,6 +147,7 @@ CALLER static void call_handler(const struct handler *handler) {
     bool is_runners = handler->handle == do_works;
     if (!run->is_seen && !is_runners) note_unseen("the handler of line ", handler->element, &handler->handle);
   }
+  if (run->in_oob_handler && has_code(handler)) at_return();
   const char *kind = handler->is_timer ? "timer" : "line";
   snprintf(what, sizeof what, "the handler of %s %u returns", kind, (unsigned)handler->element);
   expect_no_stall(-1, what);
@@ -147,14 +156,17 @@ CALLER static void call_handler(const struct handler *handler) {
   errno = error;
 }
 
-/* Calls the handlers of the out-of-band lines and timers that were played, one after another. */
+/* Calls the handlers of the out-of-band lines and timers that were played, one after another. Interrupts that came while
+   one ran arrive when it has returned. */
 static void run_oob_handlers(void) {
   if (run->in_oob_handler) return;
   struct handler due;
   while (take_due(&run->oob_due, &due)) {
     run->in_oob_handler = true;
+    run->handled = &due;
     call_handler(&due);
     run->in_oob_handler = false;
+    arrive_raised();
   }
 }
 

@@ -130,8 +130,12 @@ static void print_events(void) {
   char name[2 * NAME_BYTES];
   for (unsigned each = 0; each < run->choices_made; each++) {
     const struct place *place = &kept->place[each];
-    fprintf(stderr, "  %s after entry %u, in T%d %s", choice_name(&kept->choices[each], name, sizeof name),
-            place->entries, place->task, tasks[place->task].name);
+    fprintf(stderr, "  %s after entry %u, in ", choice_name(&kept->choices[each], name, sizeof name), place->entries);
+    if (place->in_handler) {
+      fprintf(stderr, "the handler of %s %u", place->is_timer ? "timer" : "line", (unsigned)place->element);
+    } else {
+      fprintf(stderr, "T%d %s", place->task, tasks[place->task].name);
+    }
     print_place(place->code);
     fputc('\n', stderr);
   }
@@ -226,7 +230,8 @@ static void write_files(void) {
 /* Whether a run may be another by the limits of evlsim_replay. */
 static bool has_own_limits(void) {
   const evlsim_limits *it = &kept->limits;
-  return it->history != HISTORY || it->steps != STEPS || it->until != NEVER - 1 || it->starts != STARTS;
+  bool is_longer = it->history != HISTORY || it->steps != STEPS || it->until != NEVER - 1 || it->starts != STARTS;
+  return is_longer || it->in_handlers;
 }
 
 /* All that there is to say of a run that failed. */

@@ -158,6 +158,9 @@ struct place {
   const void *code;
   int task;
   unsigned entries;
+  bool in_handler; /* an out-of-band one, of a line or a timer */
+  bool is_timer;
+  uint16_t element;
 };
 /* A struct that is copied behind a step, in which each word is for that long as it was when it was read. */
 struct torn {
@@ -192,6 +195,9 @@ struct run {
   bool is_on;
   bool is_reported; /* whether a sanitizer has reported something and went on */
   bool in_oob_handler;
+  bool in_device;                /* whether what hardware does runs */
+  const struct handler *handled; /* whose code runs, while an out-of-band handler does */
+  uint32_t raised;               /* the sources whose interrupts came within it, a bit for each */
   bool is_seen; /* whether the code of the handler that runs calls in */
   struct stall stalls[2]; /* of the in-band stage and of the out-of-band one */
   enum ending ending;
@@ -237,6 +243,8 @@ struct touched {
   uint64_t place;
   uint8_t read;
   uint8_t written;
+  uint8_t device_read; /* by hardware alone, for moments within handlers */
+  uint8_t device_written;
 };
 
 /* What is kept from run to run, also where each run has a process of its own. */
@@ -252,6 +260,7 @@ struct kept {
   unsigned sources;
   bool offers; /* whether candidates are noted */
   bool has_grown;
+  bool devices_call; /* whether hardware makes calls: it then differs where it comes before those of a handler */
   enum ending ending;
   uint32_t at;   /* the node that is run next */
   bool is_large; /* whether this process ended its part of the exploration, since its memory has grown */
