@@ -86,6 +86,7 @@ static irqreturn_t do_works(int irq, void *device);
 #include "parts/machine.c"
 #include "parts/schedule.c"
 #include "parts/errors.c"
+#include "parts/inband_calls.c"
 #include "parts/threads.c"
 #include "parts/waits.c"
 #include "parts/buffers.c"

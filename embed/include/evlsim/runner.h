@@ -44,6 +44,7 @@ typedef struct evlsim_limits {
   uint64_t starts;   /* the date that libevl's clocks have at the start, in nanoseconds: 1,999,999,999 */
   bool prints;       /* what driver and test print goes to standard output in each run: else that of the failing run */
   bool in_handlers;  /* hardware works on while an out-of-band handler runs; its interrupts stay pending till that ends */
+  bool stays_oob;    /* an out-of-band call of what may send its thread in-band fails the run: printf, malloc, read .. */
 } evlsim_limits;
 
 /* What came of an exploration. */
@@ -67,7 +68,7 @@ typedef struct evlsim_explored {
  * too, its place among them, as line 5 [2] @ 31.
  *
  * With EVLSIM_REPLAY=".." in the environment, evlsim_explore replays that, with its limits of a run (history, steps,
- * until, starts, in_handlers). EVLSIM_FOLDER is where the scenario and the picture of a failure go, else the current one.
+ * until, starts, in_handlers, stays_oob). EVLSIM_FOLDER is where the scenario and the picture of a failure go, else the current one.
  */
 #define evlsim_test(body) evlsim_test_as(body, #body)
 #define evlsim_explore(body, limits) evlsim_explore_as(body, #body, limits, NULL)

@@ -78,18 +78,21 @@ void evlsim_compute(uint64_t nanoseconds) {
 }
 
 int evlsim_usleep(unsigned microseconds) {
+  expect_stays("usleep", CALLED_FROM);
   if (run == NULL || !run->is_on) return usleep(microseconds);
   sleep_inband(run->date + (uint64_t)microseconds * 1000);
   return 0;
 }
 
 unsigned evlsim_sleep(unsigned seconds) {
+  expect_stays("sleep", CALLED_FROM);
   if (run == NULL || !run->is_on) return sleep(seconds);
   sleep_inband(run->date + (uint64_t)seconds * 1000000000u);
   return 0;
 }
 
 int evlsim_nanosleep(const struct timespec *span, struct timespec *left) {
+  expect_stays("nanosleep", CALLED_FROM);
   if (run == NULL || !run->is_on) return nanosleep(span, left);
   uint64_t nanoseconds;
   if (!read_date(span, &nanoseconds)) return (int)with_errno(-EINVAL, -1);
@@ -98,6 +101,7 @@ int evlsim_nanosleep(const struct timespec *span, struct timespec *left) {
 }
 
 int evlsim_clock_nanosleep(clockid_t clock, int flags, const struct timespec *span, struct timespec *left) {
+  expect_stays("clock_nanosleep", CALLED_FROM);
   if (run == NULL || !run->is_on) return clock_nanosleep(clock, flags, span, left);
   uint64_t nanoseconds;
   if (!read_date(span, &nanoseconds)) return EINVAL;

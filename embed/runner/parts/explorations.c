@@ -194,8 +194,10 @@ static int replay(void (*body)(void), const char *name, const char *choices, con
                   evlsim_explored *explored) {
   evlsim_limits own;
   memset(&own, 0, sizeof own);
-  if (limits != NULL) own.history = limits->history, own.steps = limits->steps, own.until = limits->until;
-  if (limits != NULL) own.starts = limits->starts, own.in_handlers = limits->in_handlers;
+  if (limits != NULL) {
+    own.history = limits->history, own.steps = limits->steps, own.until = limits->until, own.starts = limits->starts;
+    own.in_handlers = limits->in_handlers, own.stays_oob = limits->stays_oob;
+  }
   begin(body, name, &own);
   if (read_choices(choices)) {
     kept->explored.lists = 1;

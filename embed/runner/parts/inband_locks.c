@@ -46,11 +46,13 @@ static int lock_inband(pthread_mutex_t *mutex, uint64_t date) {
 }
 
 int evlsim_pthread_mutex_lock(pthread_mutex_t *mutex) {
+  expect_stays("pthread_mutex_lock", CALLED_FROM);
   return run == NULL || !run->is_on ? pthread_mutex_lock(mutex) : lock_inband(mutex, NEVER);
 }
 
 int evlsim_pthread_mutex_timedlock(pthread_mutex_t *mutex, const struct timespec *date) {
   uint64_t until;
+  expect_stays("pthread_mutex_timedlock", CALLED_FROM);
   if (run == NULL || !run->is_on) return pthread_mutex_timedlock(mutex, date);
   return read_point(date, &until) ? lock_inband(mutex, until) : EINVAL;
 }

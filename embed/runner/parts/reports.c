@@ -109,8 +109,8 @@ static bool is_position_independent(void) {
   return (uintptr_t)__executable_start > 0x10000000u;
 }
 
-/* Where in the driver an event came, by the program addr2line where it is there. */
-static void print_place(const void *place) {
+/* A place in the driver's code, after a word, by the program addr2line where it is there. */
+static void print_place(const char *word, const void *place) {
   extern char __executable_start[] __attribute__((weak));
   char command[512], executable[256], line[256] = "";
   ssize_t length = readlink("/proc/self/exe", executable, sizeof executable - 1);
@@ -122,7 +122,7 @@ static void print_place(const void *place) {
   FILE *answer = popen(command, "r");
   if (answer == NULL) return;
   bool is_known = fgets(line, sizeof line, answer) != NULL && line[0] != '?';
-  if (is_known) fprintf(stderr, ", before %.*s", (int)strcspn(line, " \n"), line);
+  if (is_known) fprintf(stderr, ", %s %.*s", word, (int)strcspn(line, " \n"), line);
   pclose(answer);
 }
 
@@ -136,7 +136,7 @@ static void print_events(void) {
     } else {
       fprintf(stderr, "T%d %s", place->task, tasks[place->task].name);
     }
-    print_place(place->code);
+    print_place("before", place->code);
     fputc('\n', stderr);
   }
 }
@@ -231,7 +231,7 @@ static void write_files(void) {
 static bool has_own_limits(void) {
   const evlsim_limits *it = &kept->limits;
   bool is_longer = it->history != HISTORY || it->steps != STEPS || it->until != NEVER - 1 || it->starts != STARTS;
-  return is_longer || it->in_handlers;
+  return is_longer || it->in_handlers || it->stays_oob;
 }
 
 /* All that there is to say of a run that failed. */
@@ -239,7 +239,9 @@ static void report_failure(void) {
   char choices[CHOICES_BYTES];
   write_choices(choices, sizeof choices);
   print_output();
-  fprintf(stderr, "%s FAILED: %s\n", kept->name, run->why);
+  fprintf(stderr, "%s FAILED: %s", kept->name, run->why);
+  print_place("at", run->blamed);
+  fputc('\n', stderr);
   if (run->choices_made > 0) fprintf(stderr, "events:\n");
   print_events();
   fprintf(stderr, "trace:\n");

@@ -227,6 +227,7 @@ struct run {
   unsigned entries;
   unsigned choices_made;
   char why[512];
+  const void *blamed; /* where the call is made that ends the run, if that is known */
   char said[OUTCOME_BYTES];
   size_t said_length;
 };

@@ -187,12 +187,14 @@ static int set_param(pthread_t thread, int policy, const struct sched_param *par
 
 int evlsim_pthread_setschedparam(pthread_t thread, int policy, const struct sched_param *param) {
   expect_run("pthread_setschedparam");
+  expect_stays("pthread_setschedparam", CALLED_FROM);
   at_call();
   return thread < run->made.tasks ? set_param(thread, policy, param) : ESRCH;
 }
 
 int evlsim_pthread_create(pthread_t *thread, const pthread_attr_t *attr, void *(*start)(void *), void *argument) {
   expect_run("pthread_create");
+  expect_stays("pthread_create", CALLED_FROM);
   go_inband();
   at_call();
   int number = make_task(start, argument, NULL);
@@ -208,8 +210,7 @@ int evlsim_pthread_create(pthread_t *thread, const pthread_attr_t *attr, void *(
   return 0;
 }
 
-int evlsim_pthread_join(pthread_t thread, void **value) {
-  expect_run("pthread_join");
+static int join(pthread_t thread, void **value) {
   go_inband();
   if (thread < BODY || thread >= run->made.tasks) return ESRCH;
   if ((int)thread == run->now) return EDEADLK;
@@ -221,6 +222,12 @@ int evlsim_pthread_join(pthread_t thread, void **value) {
   return 0;
 }
 
+int evlsim_pthread_join(pthread_t thread, void **value) {
+  expect_run("pthread_join");
+  expect_stays("pthread_join", CALLED_FROM);
+  return join(thread, value);
+}
+
 int evlsim_pthread_detach(pthread_t thread) { return thread < run->made.tasks ? 0 : ESRCH; }
 pthread_t evlsim_pthread_self(void) { return run != NULL && run->is_on ? (pthread_t)run->now : pthread_self(); }
 void evlsim_pthread_exit(void *value) {
@@ -229,8 +236,9 @@ void evlsim_pthread_exit(void *value) {
   finish_task(value);
 }
 
-
 int evlsim_pthread_setname_np(pthread_t thread, const char *name) {
+  expect_run("pthread_setname_np");
+  expect_stays("pthread_setname_np", CALLED_FROM);
   if (thread >= run->made.tasks) return ESRCH;
   snprintf(tasks[thread].name, sizeof tasks[thread].name, "%s", name);
   return 0;
@@ -250,7 +258,13 @@ int evlsim_thread(void (*start)(void *it), void *it, const char *name) {
 }
 
 /* Names that have it are then the same in each run, so that reports and outcomes can be compared. */
-pid_t evlsim_getpid(void) { return run != NULL && run->is_on ? RUN_PROCESS : getpid(); }
+pid_t evlsim_getpid(void) {
+  expect_stays("getpid", CALLED_FROM);
+  return run != NULL && run->is_on ? RUN_PROCESS : getpid();
+}
 
-void evlsim_join(int thread) { (void)evlsim_pthread_join((pthread_t)thread, NULL); }
+void evlsim_join(int thread) {
+  expect_run("evlsim_join");
+  (void)join((pthread_t)thread, NULL);
+}
 int evlsim_self(void) { return run->now; }
