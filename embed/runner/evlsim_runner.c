@@ -78,7 +78,7 @@ static ssize_t read_timer(int number, void *bytes, size_t count);
 static bool is_lock_free(const void *mutex);
 __attribute__((noreturn)) static void fail_stuck(void);
 static void note_outcome(enum ending ending);
-static irqreturn_t do_works(int irq, void *device);
+static void *do_works(void *nothing);
 
 #include "parts/coroutines.c"
 #include "parts/output.c"
@@ -94,6 +94,7 @@ static irqreturn_t do_works(int irq, void *device);
 #include "parts/inband_locks.c"
 #include "parts/clocks.c"
 #include "parts/lines.c"
+#include "parts/works.c"
 #include "parts/footprints.c"
 #include "parts/moments.c"
 #include "parts/copies.c"

@@ -1,5 +1,5 @@
 /*
- * Part of evlsim_runner.c: interrupt lines with the driver's handlers, stalls, and in-band work.
+ * Part of evlsim_runner.c: interrupt lines with the driver's handlers, and stalls.
  */
 
 /* Requests a line; the moment is its caller's, before it takes a callback. */
@@ -76,44 +76,4 @@ void evlsim_unstall_stage(bool is_oob) {
 bool evlsim_is_stalled(bool is_oob) {
   expect_run("a look at a stall");
   return run->stalls[is_oob].is_on;
-}
-
-/* In-band work: a line of the in-band stage, after all that a driver would request, does what is pending. */
-CALLER static irqreturn_t do_works(int irq, void *device) {
-  (void)irq, (void)device;
-  while (run->first_work != NULL) {
-    struct evl_work *work = run->first_work;
-    run->first_work = work->next;
-    work->is_pending = false;
-    run->is_seen = false;
-    int (*handler)(struct evl_work *) = work->handler;
-    (void)handler(work);
-    if (!run->is_seen) note_unseen("in-band work", -1, &handler);
-  }
-  return IRQ_HANDLED;
-}
-
-void evl_init_work(struct evl_work *work, int (*handler)(struct evl_work *work)) {
-  expect_run("evl_init_work");
-  at_call();
-  work->handler = handler;
-  work->is_pending = false;
-  work->next = NULL;
-  if (run->work_line != 0) return;
-  run->work_line = 4095;
-  if (request((unsigned)run->work_line, false, take_callback(), do_works, NULL) != 0) fail("line 4095 isn't free");
-}
-
-bool evl_call_inband(struct evl_work *work) {
-  expect_run("evl_call_inband");
-  at_call();
-  if (work->is_pending) return false;
-  work->is_pending = true;
-  work->next = NULL;
-  struct evl_work **last = &run->first_work;
-  while (*last != NULL) last = &(*last)->next;
-  *last = work;
-  (void)do_call(caller(), evlsim_call_post(EVLSIM_INBAND, (uint16_t)run->work_line));
-  go_on();
-  return true;
 }

@@ -144,8 +144,7 @@ CALLER static void call_handler(const struct handler *handler) {
   if (handler->is_used && handler->is_timer) fire_timer(handler->element);
   if (handler->is_used && handler->handle != NULL) {
     (void)handler->handle(handler->element, handler->device);
-    bool is_runners = handler->handle == do_works;
-    if (!run->is_seen && !is_runners) note_unseen("the handler of line ", handler->element, &handler->handle);
+    if (!run->is_seen) note_unseen("the handler of line ", handler->element, &handler->handle);
   }
   if (run->in_oob_handler && has_code(handler)) at_return();
   const char *kind = handler->is_timer ? "timer" : "line";

@@ -13,6 +13,7 @@ static const char *awaited_name(const struct task *task, char *text, size_t size
     case ROOM: snprintf(text, size, "room for %u bytes in xbuf %d", task->needs, task->target); break;
     case A_GATE: snprintf(text, size, "stax %d", task->target); break;
     case A_LOCK: snprintf(text, size, "an in-band mutex"); break;
+    case WORK: snprintf(text, size, "in-band work"); break;
     case REST: snprintf(text, size, "rest"); break;
   }
   return text;

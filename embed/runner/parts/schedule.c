@@ -23,6 +23,7 @@ static bool can_run(int number) {
     case ROOM: return has_room(task->target, task->needs);
     case A_GATE: return run->gates[task->target].count == 0 || !run->gates[task->target].is_oob;
     case A_LOCK: return is_lock_free(task->wanted) || run->date >= task->date;
+    case WORK: return run->first_work != NULL;
     case REST: return false;
   }
   return false;

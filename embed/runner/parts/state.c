@@ -46,6 +46,7 @@ enum awaited {
   ROOM,
   A_GATE,
   A_LOCK,
+  WORK,
   REST
 };
 
@@ -216,7 +217,7 @@ struct run {
   unsigned gates_made;
   bool blocks[XBUFS]; /* whether a cross-buffer's calls wait */
   int sleepers; /* the semaphore that nobody puts, or -1 */
-  int work_line;
+  int worker; /* the thread that does in-band work, or 0 */
   struct evl_work *first_work;
   struct due oob_due;
   struct due inband_due;
