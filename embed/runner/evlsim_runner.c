@@ -79,12 +79,15 @@ static bool is_lock_free(const void *mutex);
 __attribute__((noreturn)) static void fail_stuck(void);
 static void note_outcome(enum ending ending);
 static void *do_works(void *nothing);
+static void look_at_refusal(evlsim_call call, evlsim_answer answer);
+static void look_at_waits(void);
 
 #include "parts/coroutines.c"
 #include "parts/output.c"
 #include "parts/seen.c"
 #include "parts/machine.c"
 #include "parts/schedule.c"
+#include "parts/refusals.c"
 #include "parts/errors.c"
 #include "parts/inband_calls.c"
 #include "parts/threads.c"
@@ -100,6 +103,7 @@ static void *do_works(void *nothing);
 #include "parts/copies.c"
 #include "parts/memory.c"
 #include "parts/reports.c"
+#include "parts/ends.c"
 #include "parts/runs.c"
 #include "parts/explorations.c"
 #include "parts/hooks.c"

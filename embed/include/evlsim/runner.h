@@ -45,6 +45,8 @@ typedef struct evlsim_limits {
   bool prints;       /* what driver and test print goes to standard output in each run: else that of the failing run */
   bool in_handlers;  /* hardware works on while an out-of-band handler runs; its interrupts stay pending till that ends */
   bool stays_oob;    /* an out-of-band call of what may send its thread in-band fails the run: printf, malloc, read .. */
+  bool refusals_fail; /* Deadlock, NotOwner, WrongStage, Invalid, a thread that isn't attached, Busy at a detach */
+  bool nobody_waits; /* a thread that waits when the body ends, and may not by evlsim_may_wait_at_rest, fails the run */
 } evlsim_limits;
 
 /* What came of an exploration. */
@@ -58,6 +60,7 @@ typedef struct evlsim_explored {
   bool failed;
   bool is_cut;       /* limits.runs were made, or more lists noted than there is room for */
   bool sees_accesses; /* whether all loads and stores were seen, or of some handler or thread its calls alone */
+  uint64_t waited;   /* lists at whose end a thread waited, and nothing said that it may */
 } evlsim_explored;
 
 /*
@@ -68,7 +71,7 @@ typedef struct evlsim_explored {
  * too, its place among them, as line 5 [2] @ 31.
  *
  * With EVLSIM_REPLAY=".." in the environment, evlsim_explore replays that, with its limits of a run (history, steps,
- * until, starts, in_handlers, stays_oob). EVLSIM_FOLDER is where the scenario and the picture of a failure go, else the current one.
+ * until, starts, and all that may fail it). EVLSIM_FOLDER is where the scenario and the picture of a failure go, else the current one.
  */
 #define evlsim_test(body) evlsim_test_as(body, #body)
 #define evlsim_explore(body, limits) evlsim_explore_as(body, #body, limits, NULL)
@@ -98,6 +101,14 @@ void evlsim_may_switch(unsigned times);
    closes the sources, and waits until all others wait again. */
 void evlsim_settle(void);
 void evlsim_rest(void);
+
+/* Fails the run unless a thread waits for an element, by the number that libevl gave for it or for a thread, or for
+   anything. Says, too, that it may wait when the body ends; the second call says that alone. */
+#define EVLSIM_ANY_ELEMENT (-1)
+#define evlsim_require_waits(thread, element) evlsim_require_waits_at((int)(thread), element, __FILE__, __LINE__)
+void evlsim_require_waits_at(int thread, int element, const char *file, int line);
+void evlsim_may_wait_at_rest(int thread);
+#define evlsim_may_wait_at_rest(thread) evlsim_may_wait_at_rest((int)(thread))
 
 /* An interrupt on a line, now. */
 void evlsim_arrive(unsigned line);

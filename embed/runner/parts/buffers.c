@@ -5,7 +5,7 @@
 int evl_create_xbuf(size_t in_size, size_t out_size, int flags, const char *format, ...) {
   (void)format;
   expect_run("evl_create_xbuf");
-  if (in_size == 0 || in_size > 256 || out_size == 0 || out_size > 256) return -EINVAL;
+  if (in_size == 0 || in_size > 256 || out_size == 0 || out_size > 256) return invalid();
   unsigned place = run->made.xbufs;
   evlsim_rings rings = {(uint16_t)in_size, (uint16_t)out_size};
   bool is_same = place < run->opened.xbufs && run->opened.rings[place].in_size == rings.in_size &&

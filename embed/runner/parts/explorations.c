@@ -33,6 +33,7 @@ static void note_outcome(enum ending ending) {
 
 static void conclude(enum ending ending) {
   note_outcome(ending);
+  if (run->has_waited) kept->explored.waited++;
   if (ending != FAILED) return;
   kept->explored.failed = true;
   if (!kept->limits.goes_on && !kept->limits.quiet) report_failure();
@@ -72,6 +73,7 @@ static void begin_round(void) {
   kept->has_grown = false;
   kept->explored.lists = 0;
   kept->explored.left_out = 0;
+  kept->explored.waited = 0;
   kept->explored.rounds++;
 }
 
@@ -197,6 +199,7 @@ static int replay(void (*body)(void), const char *name, const char *choices, con
   if (limits != NULL) {
     own.history = limits->history, own.steps = limits->steps, own.until = limits->until, own.starts = limits->starts;
     own.in_handlers = limits->in_handlers, own.stays_oob = limits->stays_oob;
+    own.refusals_fail = limits->refusals_fail, own.nobody_waits = limits->nobody_waits;
   }
   begin(body, name, &own);
   if (read_choices(choices)) {

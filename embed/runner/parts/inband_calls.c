@@ -8,12 +8,12 @@
 /* What the test's hardware and the runner call is nobody's. */
 static void expect_stays(const char *call, const void *from) {
   if (run == NULL || !run->is_on || !kept->limits.stays_oob || run->in_device) return;
+  char text[64];
   const struct task *task = &tasks[run->now];
   if (!run->in_oob_handler && (!task->is_oob || task->in_handler)) return;
   run->blamed = from;
-  if (!run->in_oob_handler) fail("T%d %s calls %s out-of-band, which may send it in-band", run->now, task->name, call);
-  const char *kind = run->handled->is_timer ? "timer" : "line";
-  fail("the handler of %s %u calls %s out-of-band", kind, (unsigned)run->handled->element, call);
+  const char *and = run->in_oob_handler ? "" : ", which may send it in-band";
+  fail("%s calls %s out-of-band%s", name_of_code(text, sizeof text), call, and);
 }
 
 #define INBAND_CALL(type, name, parameters, arguments) \

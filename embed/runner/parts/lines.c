@@ -5,7 +5,7 @@
 /* Requests a line; the moment is its caller's, before it takes a callback. */
 static int request(unsigned irq, bool is_oob, int callback, irq_handler_t handle, void *device) {
   struct handler *handler = new_handler();
-  if (irq == 0 || irq > UINT16_MAX || handler == NULL || callback < 0) return -EINVAL;
+  if (irq == 0 || irq > UINT16_MAX || handler == NULL || callback < 0) return invalid();
   evlsim_call call = evlsim_call_request((uint16_t)irq, is_oob ? EVLSIM_OOB : EVLSIM_INBAND, (uint8_t)callback, 0);
   evlsim_answer answer = do_call(caller(), call);
   if (evlsim_is_done(answer)) {

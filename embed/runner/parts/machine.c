@@ -101,6 +101,7 @@ static evlsim_answer do_bytes(int who, evlsim_call call, const void *bytes, size
   }
   if (evlsim_refused_as(answer, EVLSIM_REFUSAL_NO_MEMORY)) fail("no memory");
   run->entries++;
+  look_at_refusal(call, answer);
   for (size_t each = 0; each < answer.plays; each++) {
     evlsim_event event;
     if (evlsim_ok(evlsim_event_at(&run->kernel, answer.first_play + each, &event))) note_play(&event);
@@ -137,9 +138,11 @@ static bool has_code(const struct handler *handler) {
 CALLER static void call_handler(const struct handler *handler) {
   char here, what[64];
   const char *before = run->below;
+  const struct handler *handled = run->handled;
   bool was_seen = run->is_seen;
   int error = errno;
   run->below = &here;
+  run->handled = handler;
   run->is_seen = false;
   if (handler->is_used && handler->is_timer) fire_timer(handler->element);
   if (handler->is_used && handler->handle != NULL) {
@@ -151,6 +154,7 @@ CALLER static void call_handler(const struct handler *handler) {
   snprintf(what, sizeof what, "the handler of %s %u returns", kind, (unsigned)handler->element);
   expect_no_stall(-1, what);
   run->is_seen = was_seen;
+  run->handled = handled;
   run->below = before;
   errno = error;
 }
@@ -162,7 +166,6 @@ static void run_oob_handlers(void) {
   struct handler due;
   while (take_due(&run->oob_due, &due)) {
     run->in_oob_handler = true;
-    run->handled = &due;
     call_handler(&due);
     run->in_oob_handler = false;
     arrive_raised();

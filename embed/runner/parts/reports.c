@@ -232,7 +232,7 @@ static void write_files(void) {
 static bool has_own_limits(void) {
   const evlsim_limits *it = &kept->limits;
   bool is_longer = it->history != HISTORY || it->steps != STEPS || it->until != NEVER - 1 || it->starts != STARTS;
-  return is_longer || it->in_handlers || it->stays_oob;
+  return is_longer || it->in_handlers || it->stays_oob || it->refusals_fail || it->nobody_waits;
 }
 
 /* All that there is to say of a run that failed. */

@@ -163,7 +163,7 @@ static void finish_task(void *value) {
   if (task->held != 0) fail("T%d %s ends, and has a mutex or a stax", run->now, task->name);
   if (task->locks != 0) fail("T%d %s ends, and has an in-band mutex", run->now, task->name);
   expect_no_stall_of_task("ends");
-  if (run->now == BODY) end_run(ENDED);
+  if (run->now == BODY) look_at_waits(), end_run(ENDED);
   if (task->is_attached) {
     (void)do_call(run->now, evlsim_call_detach());
     task->is_attached = task->is_oob = false;

@@ -79,6 +79,7 @@ struct task {
   bool in_handler;
   bool keeps_stage; /* whether it waits for a stax: then it stays on its stage */
   bool has_begun;
+  bool may_wait; /* at the end of a run, as its test says */
   bool is_seen; /* whether its code calls in, as -fsanitize=thread has it */
   char name[24];
 };
@@ -194,10 +195,11 @@ struct run {
   evlsim_kernel kernel;
   bool is_open;
   bool is_on;
+  bool has_waited; /* whether a thread waits at the end, and nothing says that it may */
   bool is_reported; /* whether a sanitizer has reported something and went on */
   bool in_oob_handler;
   bool in_device;                /* whether what hardware does runs */
-  const struct handler *handled; /* whose code runs, while an out-of-band handler does */
+  const struct handler *handled; /* whose code runs, while a handler does */
   uint32_t raised;               /* the sources whose interrupts came within it, a bit for each */
   bool is_seen; /* whether the code of the handler that runs calls in */
   struct stall stalls[2]; /* of the in-band stage and of the out-of-band one */

@@ -47,8 +47,8 @@ int evl_detach_thread(int flags) {
   (void)flags;
   expect_run("evl_detach_thread");
   struct task *task = &tasks[run->now];
-  if (in_handler() || !task->is_attached) return -EPERM;
-  if (task->held != 0) return -EBUSY;
+  if (in_handler() || !task->is_attached) return not_attached();
+  if (task->held != 0) return refuse("Busy", -EBUSY);
   at_call();
   evlsim_answer answer = do_call(run->now, evlsim_call_detach());
   if (evlsim_is_done(answer)) task->is_attached = task->is_oob = false;
@@ -68,7 +68,7 @@ bool evl_is_inband(void) {
 
 static int change_stage(bool is_oob) {
   struct task *task = &tasks[run->now];
-  if (in_handler() || !task->is_attached) return -EPERM;
+  if (in_handler() || !task->is_attached) return not_attached();
   if (task->is_oob == is_oob) return 0;
   if (task->staxes != 0) return -EBUSY;
   at_call();
@@ -98,7 +98,7 @@ static void go_inband(void) {
 /* One that is in-band and waits for an element goes out-of-band first; who isn't attached can't. */
 static int go_oob(void) {
   if (in_handler()) fail("a handler waits");
-  return tasks[run->now].is_attached ? change_stage(true) : -EPERM;
+  return tasks[run->now].is_attached ? change_stage(true) : not_attached();
 }
 
 static bool read_policy(const struct evl_sched_attrs *from, struct task *to) {
@@ -123,14 +123,14 @@ static bool read_policy(const struct evl_sched_attrs *from, struct task *to) {
 static int set_policy(int number, const struct evl_sched_attrs *attrs) {
   struct task *task = &tasks[number];
   struct task wanted = *task;
-  if (!read_policy(attrs, &wanted)) return -EINVAL;
+  if (!read_policy(attrs, &wanted)) return invalid();
   evlsim_answer answer = do_call(number, evlsim_call_set_policy(policy_of(&wanted)));
   if (evlsim_is_done(answer)) {
     task->policy = wanted.policy, task->prio = wanted.prio;
     task->slice = task->left = wanted.slice, task->group = wanted.group;
   }
   go_on();
-  return evlsim_refused_as(answer, EVLSIM_REFUSAL_RANGE) ? -EINVAL : error_of(answer);
+  return evlsim_refused_as(answer, EVLSIM_REFUSAL_RANGE) ? invalid() : error_of(answer);
 }
 
 int evl_set_schedattr(int efd, const struct evl_sched_attrs *attrs) {
@@ -138,7 +138,7 @@ int evl_set_schedattr(int efd, const struct evl_sched_attrs *attrs) {
   at_call();
   int number = number_of(efd, FD_THREAD);
   if (number < 0 || number >= (int)run->made.tasks) return -EBADF;
-  return attrs == NULL ? -EINVAL : set_policy(number, attrs);
+  return attrs == NULL ? invalid() : set_policy(number, attrs);
 }
 
 int evl_get_schedattr(int efd, struct evl_sched_attrs *attrs) {
@@ -158,7 +158,7 @@ int evl_get_schedattr(int efd, struct evl_sched_attrs *attrs) {
 int evl_yield(void) {
   expect_run("evl_yield");
   struct task *task = &tasks[run->now];
-  if (in_handler() || !task->is_attached) return -EPERM;
+  if (in_handler() || !task->is_attached) return not_attached();
   at_call(); /* another may set this thread's policy there */
   task->left = task->slice;
   evlsim_answer answer = do_call(run->now, evlsim_call_set_policy(policy_of(task)));
