@@ -81,6 +81,8 @@ static void note_outcome(enum ending ending);
 static void *do_works(void *nothing);
 static void look_at_refusal(evlsim_call call, evlsim_answer answer);
 static void look_at_waits(void);
+static uint64_t late_date(uint64_t due);
+__attribute__((noreturn)) static void fail_misplaced(void);
 
 #include "parts/coroutines.c"
 #include "parts/output.c"
@@ -100,6 +102,7 @@ static void look_at_waits(void);
 #include "parts/works.c"
 #include "parts/footprints.c"
 #include "parts/moments.c"
+#include "parts/choices.c"
 #include "parts/copies.c"
 #include "parts/memory.c"
 #include "parts/reports.c"

@@ -97,6 +97,14 @@ void evlsim_may_arrive_as(const char *arguments, unsigned line, unsigned times, 
 void evlsim_may_pass(unsigned times);
 void evlsim_may_switch(unsigned times);
 
+/* A number below `answers` (1 to 256): 0, and in further lists each other one, as an event: "choice 2 @ 9". For hardware
+   that may do one thing or another, and for the test. */
+unsigned evlsim_choose(unsigned answers);
+
+/* From here on what is due when all threads wait, timers, deadlines and sleeps, may come late, by up to so many
+   nanoseconds: at each next due date before that, and just then. As an event: "late 1 @ 9". */
+void evlsim_may_be_late(uint64_t nanoseconds);
+
 /* Waits until all others wait, while events of sources may come; the date stays, so no deadline passes. evlsim_rest then
    closes the sources, and waits until all others wait again. */
 void evlsim_settle(void);

@@ -49,16 +49,31 @@ static void take_choices(uint32_t at) {
   }
 }
 
+static bool add_node(uint32_t parent, uint32_t step, uint32_t source) {
+  if (kept->nodes == NODES) return false;
+  struct node node = {parent, step, source, kept->node[parent].depth + 1};
+  kept->node[kept->nodes++] = node;
+  return true;
+}
+
+/* The nodes of a moment, by its sources or by the answers to its question. */
+static bool add_nodes_of(uint32_t parent, const struct candidate *candidate) {
+  uint32_t kind = candidate->sources & (IS_ANSWER | IS_LATE), answers = candidate->sources & ANSWER_BITS;
+  for (uint32_t each = 1; kind != 0 && each < answers; each++) {
+    if (!add_node(parent, candidate->step, kind | each)) return false;
+  }
+  for (uint32_t each = 0; kind == 0 && each < SOURCES; each++) {
+    bool is_ready = (candidate->sources >> each & 1) != 0;
+    if (is_ready && !add_node(parent, candidate->step, each)) return false;
+  }
+  return true;
+}
+
 /* Adds the nodes that a run led to: one event more, at each of its moments. */
 static bool add_nodes(uint32_t parent) {
-  unsigned depth = kept->node[parent].depth + 1u;
-  for (uint32_t each = 0; depth <= kept->limits.arrivals && each < kept->candidates * SOURCES; each++) {
-    const struct candidate *candidate = &kept->candidate[each / SOURCES];
-    unsigned source = each % SOURCES;
-    if ((candidate->sources >> source & 1) == 0) continue;
-    if (kept->nodes == NODES) return false;
-    struct node node = {parent, candidate->step, (uint16_t)source, (uint16_t)depth};
-    kept->node[kept->nodes++] = node;
+  if (kept->node[parent].depth >= kept->limits.arrivals) return true;
+  for (uint32_t each = 0; each < kept->candidates; each++) {
+    if (!add_nodes_of(parent, &kept->candidate[each])) return false;
   }
   return true;
 }
@@ -149,6 +164,12 @@ static size_t read_choice(const char *text, struct choice *choice) {
   int length = 0;
   char name[NAME_BYTES] = "";
   uint32_t kind = A_LINE;
+  bool is_late = sscanf(text, "late %u @ %u%n", &line, &step, &length) == 2 && length > 0;
+  if (is_late || (sscanf(text, "choice %u @ %u%n", &line, &step, &length) == 2 && length > 0)) {
+    struct choice answer = {step, IS_ANSWER | (is_late ? IS_LATE : 0) | (line & ANSWER_BITS), ""};
+    *choice = answer;
+    return (size_t)length;
+  }
   if (sscanf(text, "line %u [%31[^]]] @ %u%n", &line, name, &step, &length) != 3 || length == 0) {
     name[0] = 0;
     if (sscanf(text, "line %u @ %u%n", &line, &step, &length) != 2 || length == 0) kind = THE_CLOCK;

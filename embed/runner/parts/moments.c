@@ -165,8 +165,9 @@ struct access {
 };
 
 static struct place place_here(const void *code) {
-  struct place here = {code, run->now, run->entries, run->in_oob_handler, false, 0};
-  if (run->in_oob_handler) here.is_timer = run->handled->is_timer, here.element = run->handled->element;
+  bool is_handlers = run->in_oob_handler && !run->in_device;
+  struct place here = {code, run->now, run->entries, run->in_device, is_handlers, false, 0};
+  if (is_handlers) here.is_timer = run->handled->is_timer, here.element = run->handled->element;
   return here;
 }
 
@@ -179,9 +180,10 @@ static bool has_moments(void) {
 static void at_moment(struct access access, bool is_call_relevant) {
   while (is_chosen(++run->step)) {
     kept->place[run->choices_made] = place_here(access.place);
+    if ((kept->choices[run->choices_made].source & IS_ANSWER) != 0) fail_misplaced();
     unsigned source = source_of(&kept->choices[run->choices_made++]);
     if (!run->sources_open || (ready_sources() >> source & 1) == 0) {
-      fail("the chosen event can't come there: a list of another build, or a body that isn't the same in each run?");
+      fail_misplaced();
     }
     bring(&run->source[source]);
   }

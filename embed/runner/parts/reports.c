@@ -79,6 +79,11 @@ static void fail_stuck(void) {
 
 /* Of a list that was read, an event that didn't come has no source yet: it is told as it was read. */
 static const char *choice_name(const struct choice *choice, char *text, size_t size) {
+  if ((choice->source & IS_ANSWER) != 0) {
+    const char *what = (choice->source & IS_LATE) != 0 ? "late" : "choice";
+    snprintf(text, size, "%s %u", what, (unsigned)(choice->source & ANSWER_BITS));
+    return text;
+  }
   bool is_read = (choice->source & IS_NAMED) != 0;
   uint32_t kind = is_read ? choice->source & ~IS_NAMED : kind_of(&kept->source[choice->source]);
   char name[NAME_BYTES];
@@ -132,7 +137,9 @@ static void print_events(void) {
   for (unsigned each = 0; each < run->choices_made; each++) {
     const struct place *place = &kept->place[each];
     fprintf(stderr, "  %s after entry %u, in ", choice_name(&kept->choices[each], name, sizeof name), place->entries);
-    if (place->in_handler) {
+    if (place->in_device) {
+      fprintf(stderr, "the hardware");
+    } else if (place->in_handler) {
       fprintf(stderr, "the handler of %s %u", place->is_timer ? "timer" : "line", (unsigned)place->element);
     } else {
       fprintf(stderr, "T%d %s", place->task, tasks[place->task].name);

@@ -13,6 +13,7 @@ enum {
   STAXES = 16,
   SOURCES = 16,
   CHOICES = 64,
+  ANSWERS = 256,
   NAME_BYTES = 32,      /* of a source's name, with its end */
   CHOICES_BYTES = 4096, /* of a list of so many events, as text */
   QUEUE = 1 << 12,
@@ -35,6 +36,9 @@ enum {
 #define FIRST_FD 0x4000
 #define CALLER __attribute__((noinline, section("evlsim_callers"))) /* what calls handlers and threads */
 #define IS_NAMED (1u << 31) /* a choice whose source is told by what it is */
+#define IS_ANSWER (1u << 30) /* a choice that is an answer, to the test's question or, */
+#define IS_LATE (1u << 29)   /* to that how late the clock comes */
+#define ANSWER_BITS 0xffffu
 
 /* Why a task can't go on. */
 enum awaited {
@@ -145,7 +149,8 @@ struct source {
   char name[NAME_BYTES]; /* what its test calls the device; empty where that is no name */
 };
 
-/* A moment at which a source's event may come, and which sources could have one. */
+/* A moment at which a source's event may come, and which sources could have one; or a question, and how many answers it
+   has. */
 struct candidate {
   uint32_t step;
   uint32_t sources;
@@ -160,6 +165,7 @@ struct place {
   const void *code;
   int task;
   unsigned entries;
+  bool in_device;
   bool in_handler; /* an out-of-band one, of a line or a timer */
   bool is_timer;
   uint16_t element;
@@ -173,8 +179,8 @@ struct torn {
 struct node {
   uint32_t parent;
   uint32_t step;
-  uint16_t source;
-  uint16_t depth;
+  uint32_t source; /* as a choice has it */
+  uint32_t depth;
 };
 
 /* How a run ended. */
@@ -210,6 +216,7 @@ struct run {
   unsigned paused;   /* how many tasks are interrupted by an event that was chosen */
   const char *below; /* the locals of a handler lie below this place of its task's stack */
   uint64_t date;
+  uint64_t lateness; /* how late the clock may come */
   struct elements made;
   struct elements opened;
   struct handler handlers[HANDLERS];
