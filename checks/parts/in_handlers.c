@@ -172,6 +172,16 @@ static bool is_found(void (*body)(void), const char *what) {
   return holds(well && !fails(body, within) && !fails(body, whole), what);
 }
 
+/* Moments within handlers are counted where they aren't tried. */
+static bool counts_moments(void) {
+  evlsim_explored between, inside;
+  evlsim_limits limits = {.quiet = true};
+  (void)evlsim_explore_as(drains, "drains", &limits, &between);
+  (void)evlsim_explore_as(drains, "drains", &within, &inside);
+  bool well = between.not_tried > 0 && inside.not_tried == 0 && inside.lists > between.lists;
+  return holds(well, "moments that are not tried are counted");
+}
+
 static bool replays(void) {
   const char *list = "";
   evlsim_limits limits = within;
@@ -204,5 +214,6 @@ int main(int count, char **words) {
   well = holds(has_outcome("55") && has_outcome("556"), "pending lines arrive, the lowest first") && well;
   (void)fails(calling, within);
   well = holds(has_outcome("first device second "), "calls of hardware between those of a handler") && well;
+  well = counts_moments() && well;
   return replays() && well ? EXIT_SUCCESS : EXIT_FAILURE;
 }

@@ -60,6 +60,7 @@ typedef struct evlsim_explored {
   bool failed;
   bool is_cut;       /* limits.runs were made, or more lists noted than there is room for */
   bool sees_accesses; /* whether all loads and stores were seen, or of some handler or thread its calls alone */
+  uint64_t not_tried; /* moments within out-of-band handlers, which only limits.in_handlers tries */
   uint64_t waited;   /* lists at whose end a thread waited, and nothing said that it may */
 } evlsim_explored;
 

@@ -89,6 +89,7 @@ static void begin_round(void) {
   kept->explored.lists = 0;
   kept->explored.left_out = 0;
   kept->explored.waited = 0;
+  kept->explored.not_tried = 0;
   kept->explored.rounds++;
 }
 
@@ -152,6 +153,9 @@ static void print_explored(void) {
           kept->name, it->failed ? "failed in" : "passed in", (unsigned long long)it->lists,
           (unsigned)kept->limits.arrivals, (unsigned long long)it->runs, (unsigned long long)it->left_out,
           (unsigned)kept->outcomes, it->is_cut ? "; CUT OFF, not all were tried" : "");
+  if (it->not_tried != 0) {
+    fprintf(stderr, "; %llu moments within handlers not tried", (unsigned long long)it->not_tried);
+  }
   if (!has_hooks || kept->unseen[0] != 0) {
     fprintf(stderr, "; moments at calls alone%s%s, without -fsanitize=thread", has_hooks ? " in " : "", kept->unseen);
   }

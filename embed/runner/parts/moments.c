@@ -202,6 +202,12 @@ static void mend_torn(void) {
   torn->place = NULL;
 }
 
+/* Counts a moment within an out-of-band handler that only its limit tries. */
+static void pass_over(void) {
+  bool is_next = kept->offers && run->sources_open && run->choices_made >= kept->choice_count;
+  if (is_next && !run->in_device && ready_sources() != 0) kept->explored.not_tried++;
+}
+
 /* Hardware makes a call. */
 static void note_device_call(void) {
   if (!run->in_device || kept->devices_call) return;
@@ -214,11 +220,12 @@ static const struct access a_call = {NULL, 0, false, false, NULL};
 static void at_call(void) {
   mend_torn();
   note_device_call();
-  if (has_moments()) at_moment(a_call, !run->in_oob_handler || kept->devices_call || kept->limits.whole);
+  bool counts = !run->in_oob_handler || kept->devices_call || kept->limits.whole;
+  has_moments() ? at_moment(a_call, counts) : pass_over();
 }
 static void at_return(void) {
   mend_torn();
-  if (has_moments()) at_moment(a_call, true);
+  has_moments() ? at_moment(a_call, true) : pass_over();
 }
 static void at_idle(void) { at_moment(a_call, true); }
 
@@ -228,7 +235,7 @@ static void see(struct access access) {
   bool is_caused = in_handler() || run->paused > 0;
   bool is_stable = is_variable(access.address) || is_on_a_stack(access.address);
   if (is_caused && is_stable && !is_local(access.address)) note_access(access.address, access.size, access.is_write);
-  if (has_moments()) at_moment(access, false);
+  has_moments() ? at_moment(access, false) : pass_over();
 }
 
 /* An access of the driver's code. */
