@@ -6,6 +6,7 @@
 #include <evl/evl.h>
 #include <evlsim/runner.h>
 #include <linux/interrupt.h>
+#include <linux/irqstage.h>
 #include <pthread.h>
 #include <stdio.h>
 #include <stdlib.h>
@@ -92,11 +93,21 @@ static void in_handler(void) {
   evlsim_arrive(5);
 }
 
+static void stalls_inband(void) {
+  begin();
+  evl_attach_self("main");
+  unsigned long before;
+  local_irq_save(before);
+  local_irq_restore(before);
+}
+
 /* Answers that a right driver meets. */
 static void answered(void) {
   begin();
   evl_attach_self("main");
   evlsim_require(evl_tryget_sem(&sem) == -EAGAIN && evl_detach_self() == 0 && evl_get_self() == -EPERM);
+  local_irq_disable();
+  local_irq_enable();
   evlsim_require(oob_write(-1, "x", 1) == -1 && evl_new_mutex(&third, "third") >= 0);
 }
 
@@ -187,6 +198,7 @@ static const struct {
                 {unmade_sem, "unmade_sem", "T1 body is refused: Invalid"},
                 {no_deadline, "no_deadline", "T1 main is refused: Invalid"},
                 {in_handler, "in_handler", "the handler of line 5 is refused: Invalid"},
+                {stalls_inband, "stalls_inband", "T1 main is refused: WrongStage, the in-band stage is stalled"},
                 {answered, "answered", NULL}};
 
 static const struct {

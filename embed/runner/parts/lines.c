@@ -52,10 +52,16 @@ void evlsim_arrive(unsigned line) {
   (void)call_core(evlsim_call_arrive((uint16_t)line));
 }
 
+/* Out-of-band nothing is kept out by a stall of the in-band stage. */
+static void expect_inband_stage(bool is_oob) {
+  if (!is_oob && !evl_is_inband()) (void)refuse("WrongStage, the in-band stage is stalled or unstalled out-of-band", 0);
+}
+
 /* Stalls a stage, and returns whether it was stalled. What is noted changes with the kernel: at the moment before, the
    stage isn't stalled yet. */
 bool evlsim_stall_stage(bool is_oob, const char *file, int line) {
   expect_run("a stall");
+  expect_inband_stage(is_oob);
   at_call();
   bool was_stalled = run->stalls[is_oob].is_on;
   struct stall stall = {true, in_handler() ? -1 : run->now, file, line};
@@ -67,6 +73,7 @@ bool evlsim_stall_stage(bool is_oob, const char *file, int line) {
 
 void evlsim_unstall_stage(bool is_oob) {
   expect_run("an unstall");
+  expect_inband_stage(is_oob);
   at_call();
   run->stalls[is_oob].is_on = false;
   (void)do_call(caller(), evlsim_call_unstall(is_oob ? EVLSIM_OOB : EVLSIM_INBAND));

@@ -35,7 +35,7 @@ __attribute__((format(printf, 2, 3))) int evlsim_fprintf(FILE *file, const char 
 int evlsim_fputs(const char *text, FILE *file);
 #define printf(...) evlsim_printf(__VA_ARGS__)
 #define fprintf(...) evlsim_fprintf(__VA_ARGS__)
-#define fputs(text, file) evlsim_fputs(text, file)
+#define fputs(...) evlsim_fputs(__VA_ARGS__)
 #endif
 #else
 #include_next <stdio.h>
