@@ -82,7 +82,7 @@ static void sleeps(void) {
   evlsim_say("%u", (unsigned)(nanoseconds() - before));
 }
 
-/* What is no question, or has no such answer. */
+/* Too many answers. */
 static void no_answers(void) {
   evlsim_may_switch(0);
   (void)evlsim_choose(257);

@@ -4,7 +4,7 @@
  * Each third one is so explored once more, with hardware that works within handlers.
  *
  * A driver has two handlers and two or three threads, each a short list of loads, stores, sums, tests and calls, and the
- * hardware of a line another one. What each load got is part of the outcome.
+ * hardware of a line another one. Each result of a load is part of the outcome.
  */
 #include <evl/evl.h>
 #include <evlsim/runner.h>

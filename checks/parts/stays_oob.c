@@ -92,7 +92,7 @@ static void handler_calls(void) {
   evlsim_arrive(5);
 }
 
-/* What is allowed: calls of in-band threads and of hardware, and those that stay. */
+/* Allowed are calls of in-band threads and of hardware, and those that stay. */
 static void *stay(void *it) {
   struct timespec date;
   evl_attach_self("stays");

@@ -111,7 +111,7 @@ static void answered(void) {
   evlsim_require(oob_write(-1, "x", 1) == -1 && evl_new_mutex(&third, "third") >= 0);
 }
 
-/* Who waits for what. */
+/* A thread that waits at the end, for each kind of element. */
 static void *wait_for_sem(void *it) {
   evl_attach_self("waiter");
   while (evl_get_sem(&sem) == 0) continue;

@@ -7,7 +7,7 @@ static bool is_waiting(int number) {
   return task->has_begun && !task->has_ended && !can_run(number);
 }
 
-/* What a thread does at rest, as text. */
+/* A thread's wait, or why it has none, as text. */
 static void write_wait(int number, char *text, size_t size) {
   const struct task *task = &tasks[number];
   char name[96];
@@ -69,7 +69,7 @@ void (evlsim_may_wait_at_rest)(int thread) {
   task_of(thread)->may_wait = true;
 }
 
-/* At the end of the body: whoever waits, and the test doesn't say that it may. */
+/* At the end of the body: threads that wait, where the test doesn't say that they may. */
 static void look_at_waits(void) {
   char text[128];
   for (int each = BODY + 1; each < (int)run->made.tasks; each++) {

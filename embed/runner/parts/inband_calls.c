@@ -5,7 +5,7 @@
 
 #define CALLED_FROM __builtin_return_address(0)
 
-/* What the test's hardware and the runner call is nobody's. */
+/* Calls of the test's hardware and of the runner are allowed. */
 static void expect_stays(const char *call, const void *from) {
   if (run == NULL || !run->is_on || !kept->limits.stays_oob || run->in_device) return;
   char text[64];

@@ -76,7 +76,7 @@ int evlsim_pthread_mutex_unlock(pthread_mutex_t *mutex) {
   return 0;
 }
 
-/* What C++'s own headers name; a C source that does isn't compiled. */
+/* Names of C++'s own headers; a C source that has one isn't compiled. */
 #define NOT_HERE(name, parameters, why)             \
   int evlsim_##name parameters;                     \
   int evlsim_##name parameters {                    \

@@ -214,8 +214,8 @@ static void note_device_call(void) {
   kept->devices_call = kept->has_grown = true;
 }
 
-/* Before a call, before an out-of-band handler returns, and when all tasks wait. What hardware does before the call of
-   such a handler is the same after it, unless that makes calls. */
+/* Before a call, before an out-of-band handler returns, and when all tasks wait. An act of hardware before the call of
+   such a handler is the same after it, unless hardware makes calls. */
 static const struct access a_call = {NULL, 0, false, false, NULL};
 static void at_call(void) {
   mend_torn();

@@ -2,7 +2,7 @@
  * Part of evlsim_runner.c: refusals that a right driver never meets. By limits.refusals_fail each fails the run.
  */
 
-/* Whose code runs: a thread or a handler. */
+/* The thread or the handler whose code runs. */
 static const char *name_of_code(char *text, size_t size) {
   if (in_handler() && run->handled != NULL) {
     const char *kind = run->handled->is_timer ? "timer" : "line";
