@@ -1,9 +1,10 @@
 /*
  * Random small drivers, each explored twice: with each moment tried, and with those left out that can't make a
  * difference. The outcomes have to be the same: random_drivers COUNT FIRST_SEED. It is compiled with -fsanitize=thread.
+ * Each third one is so explored once more, with hardware that works within handlers.
  *
- * A driver has two handlers and two or three threads, each a short list of loads, stores, sums, tests and calls. What
- * each load got is part of the outcome.
+ * A driver has two handlers and two or three threads, each a short list of loads, stores, sums, tests and calls, and the
+ * hardware of a line another one. Each result of a load is part of the outcome.
  */
 #include <evl/evl.h>
 #include <evlsim/runner.h>
@@ -16,7 +17,7 @@
 
 #define DECODES __attribute__((no_sanitize("thread")))
 
-enum { VARIABLES = 6, SEMS = 2, MOST = 8, LISTS = 5, HANDLERS = 2, OUTCOMES = 4096 };
+enum { VARIABLES = 6, SEMS = 2, MOST = 8, LISTS = 6, HANDLERS = 2, DEVICE = 5, OUTCOMES = 4096 };
 enum act { LOAD, STORE, SUM, SKIP_IF, PUT, TRY, GET, GO_OOB, GO_INBAND, STALL, UNSTALL, SLEEP, LOCK, UNLOCK, ACTS };
 struct step {
   enum act act;
@@ -29,6 +30,7 @@ struct driver {
   int prio[LISTS];
   bool is_core[LISTS];
   int lines, clocks, turns;
+  bool has_device;
 };
 
 static struct driver driver;
@@ -91,6 +93,11 @@ DECODES static irqreturn_t on_line(int irq, void *device) {
   return IRQ_HANDLED;
 }
 
+DECODES static void work(void *it) {
+  (void)it;
+  run_list(DEVICE);
+}
+
 DECODES static void *run_thread(void *it) {
   int list = (int)(intptr_t)it;
   if (driver.is_core[list]) evl_attach_self("thread %d", list);
@@ -117,7 +124,7 @@ DECODES static void random_driver(void) {
   for (int each = 0; each < SEMS; each++) evl_new_sem(&sem[each], "sem %d", each);
   evl_new_mutex(&mutex, "mutex");
   for (int each = 0; each < HANDLERS; each++) request_irq(5u + (unsigned)each, on_line, IRQF_OOB, "line", NULL);
-  if (driver.lines > 0) evlsim_may_arrive(5, (unsigned)driver.lines, NULL, NULL);
+  if (driver.lines > 0) evlsim_may_arrive(5, (unsigned)driver.lines, driver.has_device ? work : NULL, NULL);
   if (driver.lines > 1) evlsim_may_arrive(6, 1, NULL, NULL);
   if (driver.clocks > 0) evlsim_may_pass((unsigned)driver.clocks);
   if (driver.turns > 0) evlsim_may_switch((unsigned)driver.turns);
@@ -155,6 +162,8 @@ DECODES static void make_driver(uint32_t seed) {
   driver.lines = 1 + (int)roll(2);
   driver.clocks = (int)roll(2);
   driver.turns = (int)roll(2);
+  driver.has_device = seed % 3 == 0;
+  if (driver.has_device) make_list(DEVICE, true, false);
 }
 
 static char *outcomes[2][OUTCOMES];
@@ -171,11 +180,12 @@ DECODES static void free_outcomes(void) {
 }
 
 /* Explores the driver, and keeps the texts of its outcomes in order. */
-DECODES static evlsim_explored explore(int which, uint32_t arrivals) {
+DECODES static evlsim_explored explore(int which, uint32_t arrivals, bool in_handlers) {
   evlsim_limits limits;
   evlsim_explored told;
   memset(&limits, 0, sizeof limits);
   limits.arrivals = arrivals, limits.goes_on = limits.quiet = true, limits.whole = which == 0;
+  limits.in_handlers = in_handlers;
   (void)evlsim_explore_as(random_driver, "random_driver", &limits, &told);
   counts[which] = told.outcomes;
   for (uint32_t each = 0; each < told.outcomes; each++) {
@@ -191,23 +201,33 @@ DECODES static bool is_same(uint32_t seed) {
     is_same = strcmp(outcomes[0][each], outcomes[1][each]) == 0;
   }
   if (!is_same) printf("driver %u: %u outcomes of all moments, and %u\n", seed, counts[0], counts[1]);
+  free_outcomes();
   return is_same;
+}
+
+struct told {
+  uint64_t lists[2], all, differ;
+};
+
+/* Explores a driver with all moments and without those left out, and compares. */
+DECODES static void explore_both(uint32_t seed, bool in_handlers, struct told *told) {
+  uint32_t arrivals = 1 + seed % 2;
+  told->lists[0] += explore(0, arrivals, in_handlers).lists;
+  told->lists[1] += explore(1, arrivals, in_handlers).lists;
+  told->all += counts[0];
+  if (!is_same(seed)) told->differ++;
 }
 
 DECODES int main(int count, char **words) {
   uint32_t drivers = count > 1 ? (uint32_t)atoi(words[1]) : 200, first = count > 2 ? (uint32_t)atoi(words[2]) : 1;
-  uint64_t lists[2] = {0, 0}, all = 0, differ = 0;
+  struct told told = {{0, 0}, 0, 0};
   for (uint32_t seed = first; seed < first + drivers; seed++) {
     make_driver(seed);
-    uint32_t arrivals = 1 + seed % 2;
-    lists[0] += explore(0, arrivals).lists;
-    lists[1] += explore(1, arrivals).lists;
-    all += counts[0];
-    if (!is_same(seed)) differ++;
-    free_outcomes();
+    explore_both(seed, false, &told);
+    if (driver.has_device) explore_both(seed, true, &told);
   }
   printf("%u drivers, %llu outcomes; %llu lists of all moments, %llu without those left out; %llu drivers differ\n",
-         drivers, (unsigned long long)all, (unsigned long long)lists[0], (unsigned long long)lists[1],
-         (unsigned long long)differ);
-  return differ == 0 ? EXIT_SUCCESS : EXIT_FAILURE;
+         drivers, (unsigned long long)told.all, (unsigned long long)told.lists[0], (unsigned long long)told.lists[1],
+         (unsigned long long)told.differ);
+  return told.differ == 0 ? EXIT_SUCCESS : EXIT_FAILURE;
 }

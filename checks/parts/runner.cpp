@@ -1,10 +1,15 @@
-// The runner from C++: bodies that capture, outcomes, exceptions, threads, a replay.
+// The runner from C++: bodies that capture, outcomes, exceptions, threads, a replay, and headers of the library that
+// name what the runner hasn't.
 #include <evl/evl.h>
 #include <evlsim/runner.hpp>
 #include <linux/interrupt.h>
 
 #include <cstdio>
 #include <cstdlib>
+#include <iostream>
+#include <memory>
+#include <mutex>
+#include <pthread.h>
 #include <stdexcept>
 
 namespace {
@@ -45,6 +50,18 @@ bool replays(const char *choices) {
          told.all[0].text == "FAILED: the history is full: 3 entries" && told.all[0].choices == choices;
 }
 
+// A call that the runner hasn't, and one by its limit.
+void waits_for_condition() {
+  pthread_mutex_t mutex = PTHREAD_MUTEX_INITIALIZER;
+  pthread_cond_t condition = PTHREAD_COND_INITIALIZER;
+  evlsim::thread printer([] {
+    evl_attach_self("printer");
+    std::printf("%.*s", static_cast<int>(came), "x");
+  });
+  printer.join();
+  pthread_cond_wait(&condition, &mutex);
+}
+
 bool holds(bool it, const char *what) {
   if (!it) std::printf("not so: %s\n", what);
   return it;
@@ -64,6 +81,13 @@ int main() {
   well = holds(evlsim::replay("good", [] { wait_for_events(2); }, good.all[2].choices.c_str()), "a replay") && well;
   well = holds(replays(good.all[2].choices.c_str()), "a replay by the environment") && well;
   well = holds(int{good} == 0 && int{bad} == 1, "the status for main") && well;
+  evlsim::explored refused = evlsim::explore("refused", waits_for_condition, limits);
+  std::string wanted = "FAILED: the runner has no pthread_cond_wait: use a semaphore or a flag group";
+  well = holds(refused.failed && refused.all[0].text == wanted, "no conditions") && well;
+  limits.stays_oob = true;
+  evlsim::explored printed = evlsim::explore("printed", waits_for_condition, limits);
+  wanted = "FAILED: T2 printer calls printf out-of-band, which may send it in-band";
+  well = holds(printed.failed && printed.all[0].text == wanted, "a call that goes in-band") && well;
   limits.forks = true;
   evlsim::explored crashed = evlsim::explore("crashed", [] {
     wait_for_events(2);

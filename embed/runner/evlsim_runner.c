@@ -68,6 +68,8 @@ __attribute__((noreturn)) static void finish_task(void *value);
 static void yield_if_due(void);
 static void fire_timer(int number);
 static void at_call(void);
+static void at_return(void);
+static void arrive_raised(void);
 static void mend_torn(void);
 static void at_idle(void);
 static void see_read(const void *at, size_t size);
@@ -76,14 +78,20 @@ static ssize_t read_timer(int number, void *bytes, size_t count);
 static bool is_lock_free(const void *mutex);
 __attribute__((noreturn)) static void fail_stuck(void);
 static void note_outcome(enum ending ending);
-static irqreturn_t do_works(int irq, void *device);
+static void *do_works(void *nothing);
+static void look_at_refusal(evlsim_call call, evlsim_answer answer);
+static void look_at_waits(void);
+static uint64_t late_date(uint64_t due);
+__attribute__((noreturn)) static void fail_misplaced(void);
 
 #include "parts/coroutines.c"
 #include "parts/output.c"
 #include "parts/seen.c"
 #include "parts/machine.c"
 #include "parts/schedule.c"
+#include "parts/refusals.c"
 #include "parts/errors.c"
+#include "parts/inband_calls.c"
 #include "parts/threads.c"
 #include "parts/waits.c"
 #include "parts/buffers.c"
@@ -91,11 +99,14 @@ static irqreturn_t do_works(int irq, void *device);
 #include "parts/inband_locks.c"
 #include "parts/clocks.c"
 #include "parts/lines.c"
+#include "parts/works.c"
 #include "parts/footprints.c"
 #include "parts/moments.c"
+#include "parts/choices.c"
 #include "parts/copies.c"
 #include "parts/memory.c"
 #include "parts/reports.c"
+#include "parts/ends.c"
 #include "parts/runs.c"
 #include "parts/explorations.c"
 #include "parts/hooks.c"

@@ -43,6 +43,10 @@ typedef struct evlsim_limits {
   bool quiet;        /* nothing is printed */
   uint64_t starts;   /* the date that libevl's clocks have at the start, in nanoseconds: 1,999,999,999 */
   bool prints;       /* what driver and test print goes to standard output in each run: else that of the failing run */
+  bool in_handlers;  /* hardware works on while an out-of-band handler runs; its interrupts stay pending till that ends */
+  bool stays_oob;    /* an out-of-band call of what may send its thread in-band fails the run: printf, malloc, read .. */
+  bool refusals_fail; /* Deadlock, NotOwner, WrongStage, Invalid, a thread that isn't attached, Busy at a detach */
+  bool nobody_waits; /* a thread that waits when the body ends, and may not by evlsim_may_wait_at_rest, fails the run */
 } evlsim_limits;
 
 /* What came of an exploration. */
@@ -56,6 +60,8 @@ typedef struct evlsim_explored {
   bool failed;
   bool is_cut;       /* limits.runs were made, or more lists noted than there is room for */
   bool sees_accesses; /* whether all loads and stores were seen, or of some handler or thread its calls alone */
+  uint64_t not_tried; /* moments within out-of-band handlers, which only limits.in_handlers tries */
+  uint64_t waited;   /* lists at whose end a thread waited, and nothing said that it may */
 } evlsim_explored;
 
 /*
@@ -66,7 +72,7 @@ typedef struct evlsim_explored {
  * too, its place among them, as line 5 [2] @ 31.
  *
  * With EVLSIM_REPLAY=".." in the environment, evlsim_explore replays that, with its limits of a run (history, steps,
- * until, starts). EVLSIM_FOLDER is where the scenario and the picture of a failure go, else the current one.
+ * until, starts, and all that may fail it). EVLSIM_FOLDER is where the scenario and the picture of a failure go, else the current one.
  */
 #define evlsim_test(body) evlsim_test_as(body, #body)
 #define evlsim_explore(body, limits) evlsim_explore_as(body, #body, limits, NULL)
@@ -92,10 +98,26 @@ void evlsim_may_arrive_as(const char *arguments, unsigned line, unsigned times, 
 void evlsim_may_pass(unsigned times);
 void evlsim_may_switch(unsigned times);
 
+/* A number below `answers` (1 to 256): 0, and in further lists each other one, as an event: "choice 2 @ 9". For hardware
+   that may do one thing or another, and for the test. */
+unsigned evlsim_choose(unsigned answers);
+
+/* From here on what is due when all threads wait, timers, deadlines and sleeps, may come late, by up to so many
+   nanoseconds: at each next due date before that, and just then. As an event: "late 1 @ 9". */
+void evlsim_may_be_late(uint64_t nanoseconds);
+
 /* Waits until all others wait, while events of sources may come; the date stays, so no deadline passes. evlsim_rest then
    closes the sources, and waits until all others wait again. */
 void evlsim_settle(void);
 void evlsim_rest(void);
+
+/* Fails the run unless a thread waits for an element, by the number that libevl gave for it or for a thread, or for
+   anything. Says, too, that it may wait when the body ends; the second call says that alone. */
+#define EVLSIM_ANY_ELEMENT (-1)
+#define evlsim_require_waits(thread, element) evlsim_require_waits_at((int)(thread), element, __FILE__, __LINE__)
+void evlsim_require_waits_at(int thread, int element, const char *file, int line);
+void evlsim_may_wait_at_rest(int thread);
+#define evlsim_may_wait_at_rest(thread) evlsim_may_wait_at_rest((int)(thread))
 
 /* An interrupt on a line, now. */
 void evlsim_arrive(unsigned line);

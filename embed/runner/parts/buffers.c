@@ -5,7 +5,7 @@
 int evl_create_xbuf(size_t in_size, size_t out_size, int flags, const char *format, ...) {
   (void)format;
   expect_run("evl_create_xbuf");
-  if (in_size == 0 || in_size > 256 || out_size == 0 || out_size > 256) return -EINVAL;
+  if (in_size == 0 || in_size > 256 || out_size == 0 || out_size > 256) return invalid();
   unsigned place = run->made.xbufs;
   evlsim_rings rings = {(uint16_t)in_size, (uint16_t)out_size};
   bool is_same = place < run->opened.xbufs && run->opened.rings[place].in_size == rings.in_size &&
@@ -96,6 +96,7 @@ static void begin_inband(enum awaited awaits, int xbuf, size_t needs) {
 }
 
 ssize_t evlsim_read(int fd, void *bytes, size_t count) {
+  expect_stays("read", CALLED_FROM);
   int xbuf = xbuf_of(fd);
   if (xbuf < 0) return read(fd, bytes, count);
   go_inband();
@@ -110,6 +111,7 @@ ssize_t evlsim_read(int fd, void *bytes, size_t count) {
 }
 
 ssize_t evlsim_write(int fd, const void *bytes, size_t count) {
+  expect_stays("write", CALLED_FROM);
   int xbuf = xbuf_of(fd);
   if (xbuf < 0) return write(fd, bytes, count);
   go_inband();
@@ -124,6 +126,7 @@ ssize_t evlsim_write(int fd, const void *bytes, size_t count) {
 }
 
 int evlsim_close_fd(int fd) {
+  expect_stays("close", CALLED_FROM);
   if (fd < FIRST_FD || fd >= FIRST_FD + 256 * 8) return close(fd);
   return 0;
 }

@@ -41,7 +41,7 @@ int evl_sleep_until(int clockfd, const struct timespec *date) {
   (void)clockfd;
   expect_run("evl_sleep_until");
   uint64_t until;
-  return read_point(date, &until) ? sleep_oob(until) : -EINVAL;
+  return read_point(date, &until) ? sleep_oob(until) : invalid();
 }
 
 int evl_usleep(unsigned microseconds) {
@@ -78,26 +78,30 @@ void evlsim_compute(uint64_t nanoseconds) {
 }
 
 int evlsim_usleep(unsigned microseconds) {
+  expect_stays("usleep", CALLED_FROM);
   if (run == NULL || !run->is_on) return usleep(microseconds);
   sleep_inband(run->date + (uint64_t)microseconds * 1000);
   return 0;
 }
 
 unsigned evlsim_sleep(unsigned seconds) {
+  expect_stays("sleep", CALLED_FROM);
   if (run == NULL || !run->is_on) return sleep(seconds);
   sleep_inband(run->date + (uint64_t)seconds * 1000000000u);
   return 0;
 }
 
 int evlsim_nanosleep(const struct timespec *span, struct timespec *left) {
+  expect_stays("nanosleep", CALLED_FROM);
   if (run == NULL || !run->is_on) return nanosleep(span, left);
   uint64_t nanoseconds;
-  if (!read_date(span, &nanoseconds)) return (int)with_errno(-EINVAL, -1);
+  if (!read_date(span, &nanoseconds)) return (int)with_errno(invalid(), -1);
   sleep_inband(run->date + nanoseconds);
   return 0;
 }
 
 int evlsim_clock_nanosleep(clockid_t clock, int flags, const struct timespec *span, struct timespec *left) {
+  expect_stays("clock_nanosleep", CALLED_FROM);
   if (run == NULL || !run->is_on) return clock_nanosleep(clock, flags, span, left);
   uint64_t nanoseconds;
   if (!read_date(span, &nanoseconds)) return EINVAL;
@@ -191,8 +195,8 @@ int evl_set_timer(int efd, const struct itimerspec *value, struct itimerspec *be
   at_call();
   int number = timer_of(efd);
   if (number < 0) return -EBADF;
-  if (value == NULL || !read_date(&value->it_value, &date)) return -EINVAL;
-  if (!read_date(&value->it_interval, &interval)) return -EINVAL;
+  if (value == NULL || !read_date(&value->it_value, &date)) return invalid();
+  if (!read_date(&value->it_interval, &interval)) return invalid();
   if (before != NULL) tell_timer(&run->timers[number], before);
   return set_timer(number, date == 0 ? 0 : first_fire(date), interval);
 }
@@ -201,7 +205,7 @@ int evl_set_timer(int efd, const struct itimerspec *value, struct itimerspec *be
    that meanwhile. */
 static ssize_t read_timer(int number, void *bytes, size_t count) {
   if (number >= ELEMENTS || !run->timers[number].is_made) return with_errno(-EBADF, -1);
-  if (count < sizeof(uint64_t)) return with_errno(-EINVAL, -1);
+  if (count < sizeof(uint64_t)) return with_errno(invalid(), -1);
   struct timer *timer = &run->timers[number];
   int error = go_oob();
   do {

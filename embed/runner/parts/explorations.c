@@ -33,6 +33,7 @@ static void note_outcome(enum ending ending) {
 
 static void conclude(enum ending ending) {
   note_outcome(ending);
+  if (run->has_waited) kept->explored.waited++;
   if (ending != FAILED) return;
   kept->explored.failed = true;
   if (!kept->limits.goes_on && !kept->limits.quiet) report_failure();
@@ -48,16 +49,31 @@ static void take_choices(uint32_t at) {
   }
 }
 
+static bool add_node(uint32_t parent, uint32_t step, uint32_t source) {
+  if (kept->nodes == NODES) return false;
+  struct node node = {parent, step, source, kept->node[parent].depth + 1};
+  kept->node[kept->nodes++] = node;
+  return true;
+}
+
+/* The nodes of a moment, by its sources or by the answers to its question. */
+static bool add_nodes_of(uint32_t parent, const struct candidate *candidate) {
+  uint32_t kind = candidate->sources & (IS_ANSWER | IS_LATE), answers = candidate->sources & ANSWER_BITS;
+  for (uint32_t each = 1; kind != 0 && each < answers; each++) {
+    if (!add_node(parent, candidate->step, kind | each)) return false;
+  }
+  for (uint32_t each = 0; kind == 0 && each < SOURCES; each++) {
+    bool is_ready = (candidate->sources >> each & 1) != 0;
+    if (is_ready && !add_node(parent, candidate->step, each)) return false;
+  }
+  return true;
+}
+
 /* Adds the nodes that a run led to: one event more, at each of its moments. */
 static bool add_nodes(uint32_t parent) {
-  unsigned depth = kept->node[parent].depth + 1u;
-  for (uint32_t each = 0; depth <= kept->limits.arrivals && each < kept->candidates * SOURCES; each++) {
-    const struct candidate *candidate = &kept->candidate[each / SOURCES];
-    unsigned source = each % SOURCES;
-    if ((candidate->sources >> source & 1) == 0) continue;
-    if (kept->nodes == NODES) return false;
-    struct node node = {parent, candidate->step, (uint16_t)source, (uint16_t)depth};
-    kept->node[kept->nodes++] = node;
+  if (kept->node[parent].depth >= kept->limits.arrivals) return true;
+  for (uint32_t each = 0; each < kept->candidates; each++) {
+    if (!add_nodes_of(parent, &kept->candidate[each])) return false;
   }
   return true;
 }
@@ -72,6 +88,8 @@ static void begin_round(void) {
   kept->has_grown = false;
   kept->explored.lists = 0;
   kept->explored.left_out = 0;
+  kept->explored.waited = 0;
+  kept->explored.not_tried = 0;
   kept->explored.rounds++;
 }
 
@@ -135,6 +153,9 @@ static void print_explored(void) {
           kept->name, it->failed ? "failed in" : "passed in", (unsigned long long)it->lists,
           (unsigned)kept->limits.arrivals, (unsigned long long)it->runs, (unsigned long long)it->left_out,
           (unsigned)kept->outcomes, it->is_cut ? "; CUT OFF, not all were tried" : "");
+  if (it->not_tried != 0) {
+    fprintf(stderr, "; %llu moments within handlers not tried", (unsigned long long)it->not_tried);
+  }
   if (!has_hooks || kept->unseen[0] != 0) {
     fprintf(stderr, "; moments at calls alone%s%s, without -fsanitize=thread", has_hooks ? " in " : "", kept->unseen);
   }
@@ -147,6 +168,12 @@ static size_t read_choice(const char *text, struct choice *choice) {
   int length = 0;
   char name[NAME_BYTES] = "";
   uint32_t kind = A_LINE;
+  bool is_late = sscanf(text, "late %u @ %u%n", &line, &step, &length) == 2 && length > 0;
+  if (is_late || (sscanf(text, "choice %u @ %u%n", &line, &step, &length) == 2 && length > 0)) {
+    struct choice answer = {step, IS_ANSWER | (is_late ? IS_LATE : 0) | (line & ANSWER_BITS), ""};
+    *choice = answer;
+    return (size_t)length;
+  }
   if (sscanf(text, "line %u [%31[^]]] @ %u%n", &line, name, &step, &length) != 3 || length == 0) {
     name[0] = 0;
     if (sscanf(text, "line %u @ %u%n", &line, &step, &length) != 2 || length == 0) kind = THE_CLOCK;
@@ -194,8 +221,11 @@ static int replay(void (*body)(void), const char *name, const char *choices, con
                   evlsim_explored *explored) {
   evlsim_limits own;
   memset(&own, 0, sizeof own);
-  if (limits != NULL) own.history = limits->history, own.steps = limits->steps, own.until = limits->until;
-  if (limits != NULL) own.starts = limits->starts;
+  if (limits != NULL) {
+    own.history = limits->history, own.steps = limits->steps, own.until = limits->until, own.starts = limits->starts;
+    own.in_handlers = limits->in_handlers, own.stays_oob = limits->stays_oob;
+    own.refusals_fail = limits->refusals_fail, own.nobody_waits = limits->nobody_waits;
+  }
   begin(body, name, &own);
   if (read_choices(choices)) {
     kept->explored.lists = 1;

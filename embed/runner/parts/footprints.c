@@ -5,6 +5,7 @@
  * before that task. A step of a task that touches nothing of this, or only reads what is only read there, gives the
  * same before such an event and after it. So the event is tried after such a step alone; what is noted grows from run
  * to run, and when it has grown the exploration begins again. Calls always count, and so does what lies on the heap.
+ * Within an out-of-band handler only hardware works, so a step of the handler counts by what hardware touches.
  */
 
 /* The executable's own variables, which are at one place in each run. */
@@ -51,10 +52,13 @@ static void note_access(const char *address, size_t size, bool is_write) {
     struct touched *entry = entry_of(place);
     uint8_t bits = bits_of(place, address, size);
     uint8_t *noted = is_write ? &entry->written : &entry->read;
-    if (entry->place != 0 && (*noted & bits) == bits) continue;
+    uint8_t *of_device = is_write ? &entry->device_written : &entry->device_read;
+    uint8_t by_device = run->in_device && kept->limits.in_handlers ? bits : 0;
+    if (entry->place != 0 && (*noted & bits) == bits && (*of_device & by_device) == by_device) continue;
     if (entry->place == 0 && ++kept->touches > TOUCHED / 2) fail("handlers touch more than %d places", TOUCHED / 2);
     entry->place = place;
     *noted |= bits;
+    *of_device |= by_device;
     kept->has_grown = true;
   }
 }
@@ -65,8 +69,10 @@ static bool meets_noted(const char *address, size_t size, bool is_write) {
   for (uint64_t place = (uintptr_t)address >> 3; place <= last; place++) {
     const struct touched *entry = entry_of(place);
     uint8_t bits = bits_of(place, address, size);
+    uint8_t written = run->in_oob_handler ? entry->device_written : entry->written;
+    uint8_t read = run->in_oob_handler ? entry->device_read : entry->read;
     if (entry->place == 0) continue;
-    if ((entry->written & bits) != 0 || (is_write && (entry->read & bits) != 0)) return true;
+    if ((written & bits) != 0 || (is_write && (read & bits) != 0)) return true;
   }
   return false;
 }

@@ -1,6 +1,7 @@
 /*
  * Part of evlsim_runner.c: pthread_mutex_t between the threads of a run, in glibc's own fields. The system's calls
- * would take all of them for one thread, which may lock a recursive mutex once more.
+ * would take all of them for one thread, which may lock a recursive mutex once more. C++ code may name calls that the
+ * runner hasn't: they fail the run.
  */
 
 enum { FIRST_OWNER = 1 << 24, KINDS = 3, MOST_DEPTH = 1 << 16 }; /* owners are no number of a thread of the system */
@@ -46,11 +47,13 @@ static int lock_inband(pthread_mutex_t *mutex, uint64_t date) {
 }
 
 int evlsim_pthread_mutex_lock(pthread_mutex_t *mutex) {
+  expect_stays("pthread_mutex_lock", CALLED_FROM);
   return run == NULL || !run->is_on ? pthread_mutex_lock(mutex) : lock_inband(mutex, NEVER);
 }
 
 int evlsim_pthread_mutex_timedlock(pthread_mutex_t *mutex, const struct timespec *date) {
   uint64_t until;
+  expect_stays("pthread_mutex_timedlock", CALLED_FROM);
   if (run == NULL || !run->is_on) return pthread_mutex_timedlock(mutex, date);
   return read_point(date, &until) ? lock_inband(mutex, until) : EINVAL;
 }
@@ -72,3 +75,16 @@ int evlsim_pthread_mutex_unlock(pthread_mutex_t *mutex) {
   if (owner >= 0 && owner < TASKS) tasks[owner].locks--;
   return 0;
 }
+
+/* Names of C++'s own headers; a C source that has one isn't compiled. */
+#define NOT_HERE(name, parameters, why)             \
+  int evlsim_##name parameters;                     \
+  int evlsim_##name parameters {                    \
+    expect_run(#name);                              \
+    fail("the runner has no " #name ": " why);      \
+  }
+#define NO_CONDITIONS "use a semaphore or a flag group"
+NOT_HERE(pthread_cond_wait, (void), NO_CONDITIONS)
+NOT_HERE(pthread_cond_timedwait, (void), NO_CONDITIONS)
+NOT_HERE(pthread_mutex_clocklock, (void), "use pthread_mutex_timedlock")
+NOT_HERE(pthread_cancel, (void), "let the thread look at a flag")

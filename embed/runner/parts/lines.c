@@ -1,11 +1,11 @@
 /*
- * Part of evlsim_runner.c: interrupt lines with the driver's handlers, stalls, and in-band work.
+ * Part of evlsim_runner.c: interrupt lines with the driver's handlers, and stalls.
  */
 
 /* Requests a line; the moment is its caller's, before it takes a callback. */
 static int request(unsigned irq, bool is_oob, int callback, irq_handler_t handle, void *device) {
   struct handler *handler = new_handler();
-  if (irq == 0 || irq > UINT16_MAX || handler == NULL || callback < 0) return -EINVAL;
+  if (irq == 0 || irq > UINT16_MAX || handler == NULL || callback < 0) return invalid();
   evlsim_call call = evlsim_call_request((uint16_t)irq, is_oob ? EVLSIM_OOB : EVLSIM_INBAND, (uint8_t)callback, 0);
   evlsim_answer answer = do_call(caller(), call);
   if (evlsim_is_done(answer)) {
@@ -52,10 +52,16 @@ void evlsim_arrive(unsigned line) {
   (void)call_core(evlsim_call_arrive((uint16_t)line));
 }
 
+/* Out-of-band nothing is kept out by a stall of the in-band stage. */
+static void expect_inband_stage(bool is_oob) {
+  if (!is_oob && !evl_is_inband()) (void)refuse("WrongStage, the in-band stage is stalled or unstalled out-of-band", 0);
+}
+
 /* Stalls a stage, and returns whether it was stalled. What is noted changes with the kernel: at the moment before, the
    stage isn't stalled yet. */
 bool evlsim_stall_stage(bool is_oob, const char *file, int line) {
   expect_run("a stall");
+  expect_inband_stage(is_oob);
   at_call();
   bool was_stalled = run->stalls[is_oob].is_on;
   struct stall stall = {true, in_handler() ? -1 : run->now, file, line};
@@ -67,6 +73,7 @@ bool evlsim_stall_stage(bool is_oob, const char *file, int line) {
 
 void evlsim_unstall_stage(bool is_oob) {
   expect_run("an unstall");
+  expect_inband_stage(is_oob);
   at_call();
   run->stalls[is_oob].is_on = false;
   (void)do_call(caller(), evlsim_call_unstall(is_oob ? EVLSIM_OOB : EVLSIM_INBAND));
@@ -76,44 +83,4 @@ void evlsim_unstall_stage(bool is_oob) {
 bool evlsim_is_stalled(bool is_oob) {
   expect_run("a look at a stall");
   return run->stalls[is_oob].is_on;
-}
-
-/* In-band work: a line of the in-band stage, after all that a driver would request, does what is pending. */
-CALLER static irqreturn_t do_works(int irq, void *device) {
-  (void)irq, (void)device;
-  while (run->first_work != NULL) {
-    struct evl_work *work = run->first_work;
-    run->first_work = work->next;
-    work->is_pending = false;
-    run->is_seen = false;
-    int (*handler)(struct evl_work *) = work->handler;
-    (void)handler(work);
-    if (!run->is_seen) note_unseen("in-band work", -1, &handler);
-  }
-  return IRQ_HANDLED;
-}
-
-void evl_init_work(struct evl_work *work, int (*handler)(struct evl_work *work)) {
-  expect_run("evl_init_work");
-  at_call();
-  work->handler = handler;
-  work->is_pending = false;
-  work->next = NULL;
-  if (run->work_line != 0) return;
-  run->work_line = 4095;
-  if (request((unsigned)run->work_line, false, take_callback(), do_works, NULL) != 0) fail("line 4095 isn't free");
-}
-
-bool evl_call_inband(struct evl_work *work) {
-  expect_run("evl_call_inband");
-  at_call();
-  if (work->is_pending) return false;
-  work->is_pending = true;
-  work->next = NULL;
-  struct evl_work **last = &run->first_work;
-  while (*last != NULL) last = &(*last)->next;
-  *last = work;
-  (void)do_call(caller(), evlsim_call_post(EVLSIM_INBAND, (uint16_t)run->work_line));
-  go_on();
-  return true;
 }

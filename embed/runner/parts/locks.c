@@ -6,7 +6,7 @@
 int evl_create_mutex(struct evl_mutex *mutex, int clockfd, unsigned ceiling, int flags, const char *format, ...) {
   (void)clockfd, (void)format;
   expect_run("evl_create_mutex");
-  if (ceiling > 99) return -EINVAL;
+  if (ceiling > 99) return invalid();
   bool is_recursive = (flags & EVL_MUTEX_RECURSIVE) != 0;
   unsigned number_of_kind = ceiling != 0 ? EVLSIM_CEILING : is_recursive ? EVLSIM_RECURSIVE : EVLSIM_NORMAL;
   evlsim_mutex kind = {(uint8_t)number_of_kind, (uint8_t)ceiling};
@@ -33,7 +33,7 @@ static int number_of_mutex(struct evl_mutex *mutex) {
 }
 
 int evl_close_mutex(struct evl_mutex *mutex) {
-  if (mutex->magic != EVLSIM_MADE) return -EINVAL;
+  if (mutex->magic != EVLSIM_MADE) return invalid();
   if (run->words[mutex->number].owner >= 0) return -EBUSY;
   mutex->magic = 0;
   return 0;
@@ -41,7 +41,7 @@ int evl_close_mutex(struct evl_mutex *mutex) {
 
 int evl_get_mutex_ceiling(struct evl_mutex *mutex) {
   int number = number_of_mutex(mutex);
-  return number < 0 ? -EINVAL : run->words[number].ceiling;
+  return number < 0 ? invalid() : run->words[number].ceiling;
 }
 
 static void own(struct word *word) {
@@ -68,7 +68,7 @@ static int before_lock(struct word *word) {
   if (error != 0) return error;
   at_call();
   if (word->owner != run->now) return 1;
-  if (!word->is_recursive) return -EDEADLK;
+  if (!word->is_recursive) return refuse("Deadlock", -EDEADLK);
   if (word->depth == 255) return -EAGAIN;
   word->depth++;
   return 0;
@@ -76,7 +76,7 @@ static int before_lock(struct word *word) {
 
 static int lock_mutex(struct evl_mutex *mutex, uint64_t date) {
   int number = number_of_mutex(mutex);
-  if (number < 0) return -EINVAL;
+  if (number < 0) return invalid();
   struct word *word = &run->words[number];
   int before = before_lock(word);
   if (before <= 0) return before;
@@ -90,12 +90,12 @@ int evl_lock_mutex(struct evl_mutex *mutex) { return lock_mutex(mutex, NEVER); }
 
 int evl_timedlock_mutex(struct evl_mutex *mutex, const struct timespec *date) {
   uint64_t until;
-  return read_deadline(date, &until) ? lock_mutex(mutex, until) : -EINVAL;
+  return read_deadline(date, &until) ? lock_mutex(mutex, until) : invalid();
 }
 
 int evl_trylock_mutex(struct evl_mutex *mutex) {
   int number = number_of_mutex(mutex);
-  if (number < 0) return -EINVAL;
+  if (number < 0) return invalid();
   struct word *word = &run->words[number];
   int before = before_lock(word);
   if (before <= 0) return before;
@@ -120,11 +120,11 @@ static int hand_on(struct word *word, int number) {
 
 int evl_unlock_mutex(struct evl_mutex *mutex) {
   int number = number_of_mutex(mutex);
-  if (number < 0) return -EINVAL;
+  if (number < 0) return invalid();
   struct word *word = &run->words[number];
   if (in_handler()) fail("a handler unlocks a mutex");
   at_call();
-  if (word->owner != run->now) return -EPERM;
+  if (word->owner != run->now) return refuse("NotOwner", -EPERM);
   if (word->depth > 1) {
     word->depth--;
     return 0;

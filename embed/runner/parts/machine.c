@@ -101,6 +101,7 @@ static evlsim_answer do_bytes(int who, evlsim_call call, const void *bytes, size
   }
   if (evlsim_refused_as(answer, EVLSIM_REFUSAL_NO_MEMORY)) fail("no memory");
   run->entries++;
+  look_at_refusal(call, answer);
   for (size_t each = 0; each < answer.plays; each++) {
     evlsim_event event;
     if (evlsim_ok(evlsim_event_at(&run->kernel, answer.first_play + each, &event))) note_play(&event);
@@ -126,28 +127,40 @@ static void expect_no_stall(int who, const char *what) {
   }
 }
 
+/* Whether a handler has code of the driver's. */
+static bool has_code(const struct handler *handler) {
+  if (!handler->is_used) return false;
+  if (!handler->is_timer) return handler->handle != NULL;
+  const struct evl_timer *core = run->timers[handler->element].core;
+  return core != NULL && core->handler != NULL;
+}
+
 CALLER static void call_handler(const struct handler *handler) {
   char here, what[64];
   const char *before = run->below;
+  const struct handler *handled = run->handled;
   bool was_seen = run->is_seen;
   int error = errno;
   run->below = &here;
+  run->handled = handler;
   run->is_seen = false;
   if (handler->is_used && handler->is_timer) fire_timer(handler->element);
   if (handler->is_used && handler->handle != NULL) {
     (void)handler->handle(handler->element, handler->device);
-    bool is_runners = handler->handle == do_works;
-    if (!run->is_seen && !is_runners) note_unseen("the handler of line ", handler->element, &handler->handle);
+    if (!run->is_seen) note_unseen("the handler of line ", handler->element, &handler->handle);
   }
+  if (run->in_oob_handler && has_code(handler)) at_return();
   const char *kind = handler->is_timer ? "timer" : "line";
   snprintf(what, sizeof what, "the handler of %s %u returns", kind, (unsigned)handler->element);
   expect_no_stall(-1, what);
   run->is_seen = was_seen;
+  run->handled = handled;
   run->below = before;
   errno = error;
 }
 
-/* Calls the handlers of the out-of-band lines and timers that were played, one after another. */
+/* Calls the handlers of the out-of-band lines and timers that were played, one after another. Interrupts that came while
+   one ran arrive when it has returned. */
 static void run_oob_handlers(void) {
   if (run->in_oob_handler) return;
   struct handler due;
@@ -155,6 +168,7 @@ static void run_oob_handlers(void) {
     run->in_oob_handler = true;
     call_handler(&due);
     run->in_oob_handler = false;
+    arrive_raised();
   }
 }
 

@@ -11,17 +11,22 @@ static bool can_switch(void) {
   return next != run->now && next != IDLE;
 }
 
+/* Whether a source could have an event now: within an out-of-band handler only an interrupt, which stays pending. */
+static bool is_ready(const struct source *source) {
+  if (source->left == 0) return false;
+  switch (source->kind) {
+    case A_LINE: return true;
+    case THE_CLOCK: return !run->in_oob_handler && next_due() != NEVER;
+    case A_TURN: return can_switch();
+  }
+  return false;
+}
+
 /* The sources that could have an event now, a bit for each. */
 static uint32_t ready_sources(void) {
   uint32_t ready = 0;
   for (unsigned each = 0; each < run->sources; each++) {
-    const struct source *source = &run->source[each];
-    bool is_ready = source->left > 0;
-    if (source->kind == THE_CLOCK) is_ready = is_ready && next_due() != NEVER;
-    if (source->kind == A_TURN) {
-      is_ready = is_ready && can_switch();
-    }
-    if (is_ready) ready |= 1u << each;
+    if (is_ready(&run->source[each])) ready |= 1u << each;
   }
   return ready;
 }
@@ -30,24 +35,44 @@ static uint32_t ready_sources(void) {
 static void call_device(const struct source *source) {
   char here;
   const char *before = run->below;
+  bool was_in_handler = run->in_oob_handler;
   int error = errno;
   run->below = &here;
-  run->in_oob_handler = true;
+  run->in_oob_handler = run->in_device = true;
   source->device(source->it);
-  run->in_oob_handler = false;
+  run->in_oob_handler = was_in_handler;
+  run->in_device = false;
   run->below = before;
   errno = error;
+}
+
+/* After an out-of-band handler: each line on which interrupts came while it ran arrives once, the lowest first. */
+static void arrive_raised(void) {
+  while (run->raised != 0) {
+    uint16_t line = UINT16_MAX;
+    for (unsigned each = 0; each < run->sources; each++) {
+      if ((run->raised >> each & 1) != 0 && run->source[each].line < line) line = run->source[each].line;
+    }
+    for (unsigned each = 0; each < run->sources; each++) {
+      if (run->source[each].line == line) run->raised &= ~(1u << each);
+    }
+    (void)do_call(IDLE, evlsim_call_arrive(line));
+  }
 }
 
 /* An event of a source: an interrupt, the clock's next date, or another in-band thread's turn. */
 static void bring(struct source *source) {
   unsigned is_between = run->now != IDLE ? 1 : 0;
   source->left--;
+  if (source->kind == A_LINE && source->device != NULL) call_device(source);
+  if (run->in_oob_handler) {
+    run->raised |= 1u << (source - run->source);
+    return;
+  }
   run->paused += is_between;
   if (source->kind == A_TURN) {
     change_task(next_inband(run->now + 1));
   } else {
-    if (source->kind == A_LINE && source->device != NULL) call_device(source);
     if (source->kind == THE_CLOCK) {
       move_date(next_due());
     } else {
@@ -139,21 +164,34 @@ struct access {
   const void *place;
 };
 
+static struct place place_here(const void *code) {
+  bool is_handlers = run->in_oob_handler && !run->in_device;
+  struct place here = {code, run->now, run->entries, run->in_device, is_handlers, false, 0};
+  if (is_handlers) here.is_timer = run->handled->is_timer, here.element = run->handled->element;
+  return here;
+}
+
+/* Whether the code that runs has moments: hardware has none, an out-of-band handler only by its limit. */
+static bool has_moments(void) {
+  return !run->in_oob_handler || (kept->limits.in_handlers && !run->in_device);
+}
+
 /* A moment of the code that runs, before an access (with a size) or a call. */
-static void at_moment(struct access access) {
+static void at_moment(struct access access, bool is_call_relevant) {
   while (is_chosen(++run->step)) {
-    struct place noted = {access.place, run->now, run->entries};
-    kept->place[run->choices_made] = noted;
+    kept->place[run->choices_made] = place_here(access.place);
+    if ((kept->choices[run->choices_made].source & IS_ANSWER) != 0) fail_misplaced();
     unsigned source = source_of(&kept->choices[run->choices_made++]);
     if (!run->sources_open || (ready_sources() >> source & 1) == 0) {
-      fail("the chosen event can't come there: a list of another build, or a body that isn't the same in each run?");
+      fail_misplaced();
     }
     bring(&run->source[source]);
   }
   if (run->step > kept->limits.steps) fail("T%d goes on for ever: %u steps", run->now, (unsigned)run->step);
   if (!kept->offers || !run->sources_open || run->choices_made < kept->choice_count) return;
   bool is_call = access.size == 0;
-  offer(run->step, is_call || is_relevant(access.address, access.size, access.is_write, access.is_further));
+  offer(run->step, is_call ? is_call_relevant
+                           : is_relevant(access.address, access.size, access.is_write, access.is_further));
 }
 
 /* Gives a struct that was read word by word what belongs there. */
@@ -164,16 +202,32 @@ static void mend_torn(void) {
   torn->place = NULL;
 }
 
-/* Before a call, and when all tasks wait. An out-of-band handler has no moments: nothing comes while it runs. */
+/* Counts a moment within an out-of-band handler that only its limit tries. */
+static void pass_over(void) {
+  bool is_next = kept->offers && run->sources_open && run->choices_made >= kept->choice_count;
+  if (is_next && !run->in_device && ready_sources() != 0) kept->explored.not_tried++;
+}
+
+/* Hardware makes a call. */
+static void note_device_call(void) {
+  if (!run->in_device || kept->devices_call) return;
+  kept->devices_call = kept->has_grown = true;
+}
+
+/* Before a call, before an out-of-band handler returns, and when all tasks wait. An act of hardware before the call of
+   such a handler is the same after it, unless hardware makes calls. */
+static const struct access a_call = {NULL, 0, false, false, NULL};
 static void at_call(void) {
-  static const struct access call = {NULL, 0, false, false, NULL};
   mend_torn();
-  if (!run->in_oob_handler) at_moment(call);
+  note_device_call();
+  bool counts = !run->in_oob_handler || kept->devices_call || kept->limits.whole;
+  has_moments() ? at_moment(a_call, counts) : pass_over();
 }
-static void at_idle(void) {
-  static const struct access call = {NULL, 0, false, false, NULL};
-  at_moment(call);
+static void at_return(void) {
+  mend_torn();
+  has_moments() ? at_moment(a_call, true) : pass_over();
 }
+static void at_idle(void) { at_moment(a_call, true); }
 
 static void see(struct access access) {
   if (run == NULL || !run->is_on || access.size == 0) return;
@@ -181,7 +235,7 @@ static void see(struct access access) {
   bool is_caused = in_handler() || run->paused > 0;
   bool is_stable = is_variable(access.address) || is_on_a_stack(access.address);
   if (is_caused && is_stable && !is_local(access.address)) note_access(access.address, access.size, access.is_write);
-  if (!run->in_oob_handler) at_moment(access);
+  has_moments() ? at_moment(access, false) : pass_over();
 }
 
 /* An access of the driver's code. */
@@ -263,6 +317,7 @@ int evlsim_quota_group(uint8_t percent) {
 
 void evlsim_say(const char *format, ...) {
   expect_run("evlsim_say");
+  note_device_call();
   va_list values;
   va_start(values, format);
   int length = vsnprintf(run->said + run->said_length, OUTCOME_BYTES - run->said_length, format, values);
@@ -281,6 +336,7 @@ void evlsim_fail(const char *format, ...) {
 
 evlsim_kernel *evlsim_running(void) {
   expect_run("evlsim_running");
+  note_device_call();
   open_kernel();
   return &run->kernel;
 }

@@ -13,6 +13,7 @@ static const char *awaited_name(const struct task *task, char *text, size_t size
     case ROOM: snprintf(text, size, "room for %u bytes in xbuf %d", task->needs, task->target); break;
     case A_GATE: snprintf(text, size, "stax %d", task->target); break;
     case A_LOCK: snprintf(text, size, "an in-band mutex"); break;
+    case WORK: snprintf(text, size, "in-band work"); break;
     case REST: snprintf(text, size, "rest"); break;
   }
   return text;
@@ -78,6 +79,11 @@ static void fail_stuck(void) {
 
 /* Of a list that was read, an event that didn't come has no source yet: it is told as it was read. */
 static const char *choice_name(const struct choice *choice, char *text, size_t size) {
+  if ((choice->source & IS_ANSWER) != 0) {
+    const char *what = (choice->source & IS_LATE) != 0 ? "late" : "choice";
+    snprintf(text, size, "%s %u", what, (unsigned)(choice->source & ANSWER_BITS));
+    return text;
+  }
   bool is_read = (choice->source & IS_NAMED) != 0;
   uint32_t kind = is_read ? choice->source & ~IS_NAMED : kind_of(&kept->source[choice->source]);
   char name[NAME_BYTES];
@@ -109,8 +115,8 @@ static bool is_position_independent(void) {
   return (uintptr_t)__executable_start > 0x10000000u;
 }
 
-/* Where in the driver an event came, by the program addr2line where it is there. */
-static void print_place(const void *place) {
+/* A place in the driver's code, after a word, by the program addr2line where it is there. */
+static void print_place(const char *word, const void *place) {
   extern char __executable_start[] __attribute__((weak));
   char command[512], executable[256], line[256] = "";
   ssize_t length = readlink("/proc/self/exe", executable, sizeof executable - 1);
@@ -122,7 +128,7 @@ static void print_place(const void *place) {
   FILE *answer = popen(command, "r");
   if (answer == NULL) return;
   bool is_known = fgets(line, sizeof line, answer) != NULL && line[0] != '?';
-  if (is_known) fprintf(stderr, ", before %.*s", (int)strcspn(line, " \n"), line);
+  if (is_known) fprintf(stderr, ", %s %.*s", word, (int)strcspn(line, " \n"), line);
   pclose(answer);
 }
 
@@ -130,9 +136,15 @@ static void print_events(void) {
   char name[2 * NAME_BYTES];
   for (unsigned each = 0; each < run->choices_made; each++) {
     const struct place *place = &kept->place[each];
-    fprintf(stderr, "  %s after entry %u, in T%d %s", choice_name(&kept->choices[each], name, sizeof name),
-            place->entries, place->task, tasks[place->task].name);
-    print_place(place->code);
+    fprintf(stderr, "  %s after entry %u, in ", choice_name(&kept->choices[each], name, sizeof name), place->entries);
+    if (place->in_device) {
+      fprintf(stderr, "the hardware");
+    } else if (place->in_handler) {
+      fprintf(stderr, "the handler of %s %u", place->is_timer ? "timer" : "line", (unsigned)place->element);
+    } else {
+      fprintf(stderr, "T%d %s", place->task, tasks[place->task].name);
+    }
+    print_place("before", place->code);
     fputc('\n', stderr);
   }
 }
@@ -226,7 +238,8 @@ static void write_files(void) {
 /* Whether a run may be another by the limits of evlsim_replay. */
 static bool has_own_limits(void) {
   const evlsim_limits *it = &kept->limits;
-  return it->history != HISTORY || it->steps != STEPS || it->until != NEVER - 1 || it->starts != STARTS;
+  bool is_longer = it->history != HISTORY || it->steps != STEPS || it->until != NEVER - 1 || it->starts != STARTS;
+  return is_longer || it->in_handlers || it->stays_oob || it->refusals_fail || it->nobody_waits;
 }
 
 /* All that there is to say of a run that failed. */
@@ -234,7 +247,9 @@ static void report_failure(void) {
   char choices[CHOICES_BYTES];
   write_choices(choices, sizeof choices);
   print_output();
-  fprintf(stderr, "%s FAILED: %s\n", kept->name, run->why);
+  fprintf(stderr, "%s FAILED: %s", kept->name, run->why);
+  print_place("at", run->blamed);
+  fputc('\n', stderr);
   if (run->choices_made > 0) fprintf(stderr, "events:\n");
   print_events();
   fprintf(stderr, "trace:\n");

@@ -23,6 +23,7 @@ static bool can_run(int number) {
     case ROOM: return has_room(task->target, task->needs);
     case A_GATE: return run->gates[task->target].count == 0 || !run->gates[task->target].is_oob;
     case A_LOCK: return is_lock_free(task->wanted) || run->date >= task->date;
+    case WORK: return run->first_work != NULL;
     case REST: return false;
   }
   return false;
@@ -74,24 +75,26 @@ static void wait_here(void) {
   run_inband_handlers();
 }
 
-/* The next date at which something is due after now. */
-static uint64_t next_due(void) {
+/* The next date at which something is due after another one. */
+static uint64_t next_due_after(uint64_t from) {
   uint64_t due = NEVER;
   for (unsigned each = 1; each < run->made.tasks; each++) {
     const struct task *task = &tasks[each];
     bool is_wait = task->awaits == A_DATE || task->awaits == THE_CORE || task->awaits == A_LOCK;
     bool is_dated = is_wait && !task->has_ended;
-    if (is_dated && task->date > run->date && task->date < due) due = task->date;
+    if (is_dated && task->date > from && task->date < due) due = task->date;
     bool is_without_budget = task->is_oob && task->awaits == NOTHING && task->policy == 2 && !task->has_ended;
-    uint64_t second = (run->date / 1000000000u + 1) * 1000000000u;
+    uint64_t second = (from / 1000000000u + 1) * 1000000000u;
     if (is_without_budget && second < due) due = second;
   }
   for (unsigned each = 0; each < ELEMENTS; each++) {
     const struct timer *timer = &run->timers[each];
-    if (timer->is_made && timer->date > run->date && timer->date < due) due = timer->date;
+    if (timer->is_made && timer->date > from && timer->date < due) due = timer->date;
   }
   return due;
 }
+
+static uint64_t next_due(void) { return next_due_after(run->date); }
 
 /* What the picked thread has left of its slice, as the kernel will charge it. */
 static void charge(uint64_t delta) {
@@ -129,7 +132,7 @@ static void *be_idle(void *nothing) {
     if (wake_resting()) continue;
     uint64_t due = next_due();
     if (due == NEVER || due > kept->limits.until) fail_stuck();
-    move_date(due);
+    move_date(late_date(due));
     go_on();
   }
   return nothing;
@@ -162,7 +165,7 @@ static void finish_task(void *value) {
   if (task->held != 0) fail("T%d %s ends, and has a mutex or a stax", run->now, task->name);
   if (task->locks != 0) fail("T%d %s ends, and has an in-band mutex", run->now, task->name);
   expect_no_stall_of_task("ends");
-  if (run->now == BODY) end_run(ENDED);
+  if (run->now == BODY) look_at_waits(), end_run(ENDED);
   if (task->is_attached) {
     (void)do_call(run->now, evlsim_call_detach());
     task->is_attached = task->is_oob = false;

@@ -43,7 +43,7 @@ static void note_unseen(const char *what, int number, const void *function) {
 static void note_unseen_threads(void) {
   for (int each = BODY; each < (int)run->made.tasks; each++) {
     const struct task *task = &tasks[each];
-    if (!task->has_begun || task->is_seen) continue;
+    if (!task->has_begun || task->is_seen || task->run == do_works) continue;
     if (each == BODY) {
       note_unseen("T", each, &kept->body);
     } else if (task->simple != NULL) {

@@ -13,6 +13,7 @@ enum {
   STAXES = 16,
   SOURCES = 16,
   CHOICES = 64,
+  ANSWERS = 256,
   NAME_BYTES = 32,      /* of a source's name, with its end */
   CHOICES_BYTES = 4096, /* of a list of so many events, as text */
   QUEUE = 1 << 12,
@@ -35,6 +36,9 @@ enum {
 #define FIRST_FD 0x4000
 #define CALLER __attribute__((noinline, section("evlsim_callers"))) /* what calls handlers and threads */
 #define IS_NAMED (1u << 31) /* a choice whose source is told by what it is */
+#define IS_ANSWER (1u << 30) /* a choice that is an answer, to the test's question or, */
+#define IS_LATE (1u << 29)   /* to that how late the clock comes */
+#define ANSWER_BITS 0xffffu
 
 /* Why a task can't go on. */
 enum awaited {
@@ -46,6 +50,7 @@ enum awaited {
   ROOM,
   A_GATE,
   A_LOCK,
+  WORK,
   REST
 };
 
@@ -78,6 +83,7 @@ struct task {
   bool in_handler;
   bool keeps_stage; /* whether it waits for a stax: then it stays on its stage */
   bool has_begun;
+  bool may_wait; /* at the end of a run, as its test says */
   bool is_seen; /* whether its code calls in, as -fsanitize=thread has it */
   char name[24];
 };
@@ -143,7 +149,8 @@ struct source {
   char name[NAME_BYTES]; /* what its test calls the device; empty where that is no name */
 };
 
-/* A moment at which a source's event may come, and which sources could have one. */
+/* A moment at which a source's event may come, and which sources could have one; or a question, and how many answers it
+   has. */
 struct candidate {
   uint32_t step;
   uint32_t sources;
@@ -158,6 +165,10 @@ struct place {
   const void *code;
   int task;
   unsigned entries;
+  bool in_device;
+  bool in_handler; /* an out-of-band one, of a line or a timer */
+  bool is_timer;
+  uint16_t element;
 };
 /* A struct that is copied behind a step, in which each word is for that long as it was when it was read. */
 struct torn {
@@ -168,8 +179,8 @@ struct torn {
 struct node {
   uint32_t parent;
   uint32_t step;
-  uint16_t source;
-  uint16_t depth;
+  uint32_t source; /* as a choice has it */
+  uint32_t depth;
 };
 
 /* How a run ended. */
@@ -190,8 +201,12 @@ struct run {
   evlsim_kernel kernel;
   bool is_open;
   bool is_on;
+  bool has_waited; /* whether a thread waits at the end, and nothing says that it may */
   bool is_reported; /* whether a sanitizer has reported something and went on */
   bool in_oob_handler;
+  bool in_device;                /* whether what hardware does runs */
+  const struct handler *handled; /* whose code runs, while a handler does */
+  uint32_t raised;               /* the sources whose interrupts came within it, a bit for each */
   bool is_seen; /* whether the code of the handler that runs calls in */
   struct stall stalls[2]; /* of the in-band stage and of the out-of-band one */
   enum ending ending;
@@ -201,6 +216,7 @@ struct run {
   unsigned paused;   /* how many tasks are interrupted by an event that was chosen */
   const char *below; /* the locals of a handler lie below this place of its task's stack */
   uint64_t date;
+  uint64_t lateness; /* how late the clock may come */
   struct elements made;
   struct elements opened;
   struct handler handlers[HANDLERS];
@@ -210,7 +226,7 @@ struct run {
   unsigned gates_made;
   bool blocks[XBUFS]; /* whether a cross-buffer's calls wait */
   int sleepers; /* the semaphore that nobody puts, or -1 */
-  int work_line;
+  int worker; /* the thread that does in-band work, or 0 */
   struct evl_work *first_work;
   struct due oob_due;
   struct due inband_due;
@@ -221,6 +237,7 @@ struct run {
   unsigned entries;
   unsigned choices_made;
   char why[512];
+  const void *blamed; /* where the call is made that ends the run, if that is known */
   char said[OUTCOME_BYTES];
   size_t said_length;
 };
@@ -237,6 +254,8 @@ struct touched {
   uint64_t place;
   uint8_t read;
   uint8_t written;
+  uint8_t device_read; /* by hardware alone, for moments within handlers */
+  uint8_t device_written;
 };
 
 /* What is kept from run to run, also where each run has a process of its own. */
@@ -252,6 +271,7 @@ struct kept {
   unsigned sources;
   bool offers; /* whether candidates are noted */
   bool has_grown;
+  bool devices_call; /* whether hardware makes calls: it then differs where it comes before those of a handler */
   enum ending ending;
   uint32_t at;   /* the node that is run next */
   bool is_large; /* whether this process ended its part of the exploration, since its memory has grown */

@@ -47,8 +47,8 @@ int evl_detach_thread(int flags) {
   (void)flags;
   expect_run("evl_detach_thread");
   struct task *task = &tasks[run->now];
-  if (in_handler() || !task->is_attached) return -EPERM;
-  if (task->held != 0) return -EBUSY;
+  if (in_handler() || !task->is_attached) return not_attached();
+  if (task->held != 0) return refuse("Busy", -EBUSY);
   at_call();
   evlsim_answer answer = do_call(run->now, evlsim_call_detach());
   if (evlsim_is_done(answer)) task->is_attached = task->is_oob = false;
@@ -68,7 +68,7 @@ bool evl_is_inband(void) {
 
 static int change_stage(bool is_oob) {
   struct task *task = &tasks[run->now];
-  if (in_handler() || !task->is_attached) return -EPERM;
+  if (in_handler() || !task->is_attached) return not_attached();
   if (task->is_oob == is_oob) return 0;
   if (task->staxes != 0) return -EBUSY;
   at_call();
@@ -98,7 +98,7 @@ static void go_inband(void) {
 /* One that is in-band and waits for an element goes out-of-band first; who isn't attached can't. */
 static int go_oob(void) {
   if (in_handler()) fail("a handler waits");
-  return tasks[run->now].is_attached ? change_stage(true) : -EPERM;
+  return tasks[run->now].is_attached ? change_stage(true) : not_attached();
 }
 
 static bool read_policy(const struct evl_sched_attrs *from, struct task *to) {
@@ -123,14 +123,14 @@ static bool read_policy(const struct evl_sched_attrs *from, struct task *to) {
 static int set_policy(int number, const struct evl_sched_attrs *attrs) {
   struct task *task = &tasks[number];
   struct task wanted = *task;
-  if (!read_policy(attrs, &wanted)) return -EINVAL;
+  if (!read_policy(attrs, &wanted)) return invalid();
   evlsim_answer answer = do_call(number, evlsim_call_set_policy(policy_of(&wanted)));
   if (evlsim_is_done(answer)) {
     task->policy = wanted.policy, task->prio = wanted.prio;
     task->slice = task->left = wanted.slice, task->group = wanted.group;
   }
   go_on();
-  return evlsim_refused_as(answer, EVLSIM_REFUSAL_RANGE) ? -EINVAL : error_of(answer);
+  return evlsim_refused_as(answer, EVLSIM_REFUSAL_RANGE) ? invalid() : error_of(answer);
 }
 
 int evl_set_schedattr(int efd, const struct evl_sched_attrs *attrs) {
@@ -138,7 +138,7 @@ int evl_set_schedattr(int efd, const struct evl_sched_attrs *attrs) {
   at_call();
   int number = number_of(efd, FD_THREAD);
   if (number < 0 || number >= (int)run->made.tasks) return -EBADF;
-  return attrs == NULL ? -EINVAL : set_policy(number, attrs);
+  return attrs == NULL ? invalid() : set_policy(number, attrs);
 }
 
 int evl_get_schedattr(int efd, struct evl_sched_attrs *attrs) {
@@ -158,7 +158,7 @@ int evl_get_schedattr(int efd, struct evl_sched_attrs *attrs) {
 int evl_yield(void) {
   expect_run("evl_yield");
   struct task *task = &tasks[run->now];
-  if (in_handler() || !task->is_attached) return -EPERM;
+  if (in_handler() || !task->is_attached) return not_attached();
   at_call(); /* another may set this thread's policy there */
   task->left = task->slice;
   evlsim_answer answer = do_call(run->now, evlsim_call_set_policy(policy_of(task)));
@@ -187,12 +187,14 @@ static int set_param(pthread_t thread, int policy, const struct sched_param *par
 
 int evlsim_pthread_setschedparam(pthread_t thread, int policy, const struct sched_param *param) {
   expect_run("pthread_setschedparam");
+  expect_stays("pthread_setschedparam", CALLED_FROM);
   at_call();
   return thread < run->made.tasks ? set_param(thread, policy, param) : ESRCH;
 }
 
 int evlsim_pthread_create(pthread_t *thread, const pthread_attr_t *attr, void *(*start)(void *), void *argument) {
   expect_run("pthread_create");
+  expect_stays("pthread_create", CALLED_FROM);
   go_inband();
   at_call();
   int number = make_task(start, argument, NULL);
@@ -208,8 +210,7 @@ int evlsim_pthread_create(pthread_t *thread, const pthread_attr_t *attr, void *(
   return 0;
 }
 
-int evlsim_pthread_join(pthread_t thread, void **value) {
-  expect_run("pthread_join");
+static int join(pthread_t thread, void **value) {
   go_inband();
   if (thread < BODY || thread >= run->made.tasks) return ESRCH;
   if ((int)thread == run->now) return EDEADLK;
@@ -221,6 +222,12 @@ int evlsim_pthread_join(pthread_t thread, void **value) {
   return 0;
 }
 
+int evlsim_pthread_join(pthread_t thread, void **value) {
+  expect_run("pthread_join");
+  expect_stays("pthread_join", CALLED_FROM);
+  return join(thread, value);
+}
+
 int evlsim_pthread_detach(pthread_t thread) { return thread < run->made.tasks ? 0 : ESRCH; }
 pthread_t evlsim_pthread_self(void) { return run != NULL && run->is_on ? (pthread_t)run->now : pthread_self(); }
 void evlsim_pthread_exit(void *value) {
@@ -229,8 +236,9 @@ void evlsim_pthread_exit(void *value) {
   finish_task(value);
 }
 
-
 int evlsim_pthread_setname_np(pthread_t thread, const char *name) {
+  expect_run("pthread_setname_np");
+  expect_stays("pthread_setname_np", CALLED_FROM);
   if (thread >= run->made.tasks) return ESRCH;
   snprintf(tasks[thread].name, sizeof tasks[thread].name, "%s", name);
   return 0;
@@ -250,7 +258,13 @@ int evlsim_thread(void (*start)(void *it), void *it, const char *name) {
 }
 
 /* Names that have it are then the same in each run, so that reports and outcomes can be compared. */
-pid_t evlsim_getpid(void) { return run != NULL && run->is_on ? RUN_PROCESS : getpid(); }
+pid_t evlsim_getpid(void) {
+  expect_stays("getpid", CALLED_FROM);
+  return run != NULL && run->is_on ? RUN_PROCESS : getpid();
+}
 
-void evlsim_join(int thread) { (void)evlsim_pthread_join((pthread_t)thread, NULL); }
+void evlsim_join(int thread) {
+  expect_run("evlsim_join");
+  (void)join((pthread_t)thread, NULL);
+}
 int evlsim_self(void) { return run->now; }

@@ -68,7 +68,7 @@ static int make_flags(uint32_t bits) {
 int evl_create_sem(struct evl_sem *sem, int clockfd, int initval, int flags, const char *format, ...) {
   (void)clockfd, (void)flags, (void)format;
   expect_run("evl_create_sem");
-  if (initval < 0) return -EINVAL;
+  if (initval < 0) return invalid();
   int number = make_sem((uint32_t)initval);
   if (number < 0) return -EMFILE;
   sem->magic = EVLSIM_MADE;
@@ -86,14 +86,14 @@ static int number_of_sem(struct evl_sem *sem) {
 }
 
 int evl_close_sem(struct evl_sem *sem) {
-  if (sem->magic != EVLSIM_MADE) return -EINVAL;
+  if (sem->magic != EVLSIM_MADE) return invalid();
   sem->magic = 0;
   return 0;
 }
 
 static int get_sem(struct evl_sem *sem, uint64_t date) {
   int number = number_of_sem(sem);
-  int error = number < 0 ? -EINVAL : go_oob();
+  int error = number < 0 ? invalid() : go_oob();
   if (error != 0) return error;
   return error_of(simple_wait(evlsim_call_begin_get((uint16_t)number), date));
 }
@@ -102,22 +102,22 @@ int evl_get_sem(struct evl_sem *sem) { return get_sem(sem, NEVER); }
 
 int evl_timedget_sem(struct evl_sem *sem, const struct timespec *date) {
   uint64_t until;
-  return read_deadline(date, &until) ? get_sem(sem, until) : -EINVAL;
+  return read_deadline(date, &until) ? get_sem(sem, until) : invalid();
 }
 
 int evl_tryget_sem(struct evl_sem *sem) {
   int number = number_of_sem(sem);
-  return number < 0 ? -EINVAL : error_of(call_core(evlsim_call_try_get((uint16_t)number)));
+  return number < 0 ? invalid() : error_of(call_core(evlsim_call_try_get((uint16_t)number)));
 }
 
 int evl_put_sem(struct evl_sem *sem) {
   int number = number_of_sem(sem);
-  return number < 0 ? -EINVAL : error_of(call_core(evlsim_call_put((uint16_t)number)));
+  return number < 0 ? invalid() : error_of(call_core(evlsim_call_put((uint16_t)number)));
 }
 
 int evl_peek_sem(struct evl_sem *sem, int *value) {
   int number = number_of_sem(sem);
-  if (number < 0) return -EINVAL;
+  if (number < 0) return invalid();
   evlsim_answer answer = call_core(evlsim_call_peek((uint16_t)number));
   *value = (int)answer.count;
   return error_of(answer);
@@ -144,14 +144,14 @@ static int number_of_flags(struct evl_flags *group) {
 }
 
 int evl_close_flags(struct evl_flags *group) {
-  if (group->magic != EVLSIM_MADE) return -EINVAL;
+  if (group->magic != EVLSIM_MADE) return invalid();
   group->magic = 0;
   return 0;
 }
 
 static int take_flags(struct evl_flags *group, evlsim_take choice, int bits, uint64_t date, int *taken) {
   int number = number_of_flags(group);
-  int error = number < 0 ? -EINVAL : go_oob();
+  int error = number < 0 ? invalid() : go_oob();
   if (error != 0) return error;
   evlsim_answer answer = simple_wait(evlsim_call_begin_take((uint16_t)number, choice, (uint32_t)bits), date);
   if (taken != NULL && evlsim_has(answer, EVLSIM_BITS)) *taken = (int)(uint32_t)answer.number;
@@ -160,7 +160,7 @@ static int take_flags(struct evl_flags *group, evlsim_take choice, int bits, uin
 
 static int try_flags(struct evl_flags *group, evlsim_take choice, int bits, int *taken) {
   int number = number_of_flags(group);
-  if (number < 0) return -EINVAL;
+  if (number < 0) return invalid();
   evlsim_answer answer = call_core(evlsim_call_try_take((uint16_t)number, choice, (uint32_t)bits));
   if (taken != NULL && evlsim_has(answer, EVLSIM_BITS)) *taken = (int)(uint32_t)answer.number;
   return error_of(answer);
@@ -171,7 +171,7 @@ int evl_wait_some_flags(struct evl_flags *group, int bits, int *taken) {
 }
 int evl_timedwait_some_flags(struct evl_flags *group, int bits, const struct timespec *date, int *taken) {
   uint64_t until;
-  return read_deadline(date, &until) ? take_flags(group, EVLSIM_TAKE_OF, bits, until, taken) : -EINVAL;
+  return read_deadline(date, &until) ? take_flags(group, EVLSIM_TAKE_OF, bits, until, taken) : invalid();
 }
 int evl_trywait_some_flags(struct evl_flags *group, int bits, int *taken) {
   return try_flags(group, EVLSIM_TAKE_OF, bits, taken);
@@ -181,7 +181,7 @@ int evl_wait_exact_flags(struct evl_flags *group, int bits) {
 }
 int evl_timedwait_exact_flags(struct evl_flags *group, int bits, const struct timespec *date) {
   uint64_t until;
-  return read_deadline(date, &until) ? take_flags(group, EVLSIM_TAKE_EXACT, bits, until, NULL) : -EINVAL;
+  return read_deadline(date, &until) ? take_flags(group, EVLSIM_TAKE_EXACT, bits, until, NULL) : invalid();
 }
 int evl_trywait_exact_flags(struct evl_flags *group, int bits) {
   return try_flags(group, EVLSIM_TAKE_EXACT, bits, NULL);
@@ -189,18 +189,18 @@ int evl_trywait_exact_flags(struct evl_flags *group, int bits) {
 int evl_wait_flags(struct evl_flags *group, int *taken) { return take_flags(group, EVLSIM_TAKE_ANY, 0, NEVER, taken); }
 int evl_timedwait_flags(struct evl_flags *group, const struct timespec *date, int *taken) {
   uint64_t until;
-  return read_deadline(date, &until) ? take_flags(group, EVLSIM_TAKE_ANY, 0, until, taken) : -EINVAL;
+  return read_deadline(date, &until) ? take_flags(group, EVLSIM_TAKE_ANY, 0, until, taken) : invalid();
 }
 int evl_trywait_flags(struct evl_flags *group, int *taken) { return try_flags(group, EVLSIM_TAKE_ANY, 0, taken); }
 
 int evl_post_flags(struct evl_flags *group, int bits) {
   int number = number_of_flags(group);
-  return number < 0 ? -EINVAL : error_of(call_core(evlsim_call_post_flags((uint16_t)number, (uint32_t)bits)));
+  return number < 0 ? invalid() : error_of(call_core(evlsim_call_post_flags((uint16_t)number, (uint32_t)bits)));
 }
 
 int evl_peek_flags(struct evl_flags *group, int *bits) {
   int number = number_of_flags(group);
-  if (number < 0) return -EINVAL;
+  if (number < 0) return invalid();
   evlsim_answer answer = call_core(evlsim_call_peek_flags((uint16_t)number));
   *bits = (int)(uint32_t)answer.number;
   return error_of(answer);

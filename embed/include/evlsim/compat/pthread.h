@@ -17,14 +17,18 @@
 #pragma redefine_extname pthread_mutex_timedlock evlsim_pthread_mutex_timedlock
 #pragma redefine_extname pthread_mutex_trylock evlsim_pthread_mutex_trylock
 #pragma redefine_extname pthread_mutex_unlock evlsim_pthread_mutex_unlock
+#ifdef __cplusplus
+/* The C++ library's own headers name these: there a call of one fails the run. */
+#pragma redefine_extname pthread_cond_wait evlsim_pthread_cond_wait
+#pragma redefine_extname pthread_cond_timedwait evlsim_pthread_cond_timedwait
+#pragma redefine_extname pthread_mutex_clocklock evlsim_pthread_mutex_clocklock
+#pragma redefine_extname pthread_cancel evlsim_pthread_cancel
+#endif
 #endif
 #include_next <pthread.h>
-#ifndef EVLSIM_RUNNER
+#if !defined(EVLSIM_RUNNER) && !defined(__cplusplus)
 #include <evl/profile.h>
 #define EVLSIM_WHY_CONDITION "the runner has no condition variables: use a semaphore or a flag group"
-#ifdef __cplusplus
-extern "C" {
-#endif
 EVLSIM_NOT_HERE(EVLSIM_WHY_CONDITION)
 int pthread_cond_wait(pthread_cond_t *__restrict condition, pthread_mutex_t *__restrict mutex);
 EVLSIM_NOT_HERE(EVLSIM_WHY_CONDITION)
@@ -34,8 +38,5 @@ EVLSIM_NOT_HERE("the runner has no clocks to choose from: use pthread_mutex_time
 int pthread_mutex_clocklock(pthread_mutex_t *__restrict mutex, clockid_t clock, const struct timespec *__restrict date);
 EVLSIM_NOT_HERE("the runner has no cancellation: let the thread look at a flag")
 int pthread_cancel(pthread_t thread);
-#ifdef __cplusplus
-}
-#endif
 #endif
 #endif
