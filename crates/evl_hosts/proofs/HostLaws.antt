@@ -7,7 +7,9 @@ use Rattle.evl_core.specs.worlds.Events.{Gives}
 use Rattle.evl_machine.specs.calls.Calls.{TookKernel}
 use Rattle.evl_machine.specs.callers.Handles.{CallerState, HeldState, MachineState, newcomer_of, newcomers_of}
 use Rattle.evl_plans.specs.declared.planned.Planned.{Planned}
-use Rattle.evl_hosts.specs.Hosts.{bytes_of}
+use Rattle.evl_words.specs.declared.gate.StaxPass.{StaxPass}
+use Rattle.evl_words.specs.declared.mutex.MutexPass.{MutexPass}
+use Rattle.evl_hosts.specs.Hosts.{HostState, bytes_of}
 use Rattle.std.specs.List.{range_with_len}
 
 -- a text that was written, or memory ran out
@@ -28,7 +30,12 @@ all_belong m n = All-map (λ (c : CallerState Planned). c.machine ≡ m) (newcom
 
 -- the kernel is given back to the machine that it was taken from, which is that of a host's caller
 pub given_back : (m : MachineState Planned) (had : Option (CallerState Planned)) (a : CallerState Planned) (h : HeldState Planned) (b : CallerState Planned) → had ≡ Some a
-    → IsSomeAnd had (λ c. c.machine ≡ m) → TookKernel a h → Gives h.caller.machine.first h.caller.account h.kernel b.account → Gives m.first h.caller.account h.kernel b.account
+    → IsSomeAnd had (λ c. c.machine ≡ m) → TookKernel a h → Gives h.caller.machine.first h.caller.account h.caller.lock h.kernel b.account b.lock → Gives m.first h.caller.account h.caller.lock h.kernel b.account b.lock
 given_back m had a h b is there took gives =
     let of_host : a.machine ≡ m = subst (λ (o : Option (CallerState Planned)). IsSomeAnd o (λ c. c.machine ≡ m)) is there in
-    subst (λ (n : MachineState Planned). Gives n.first h.caller.account h.kernel b.account) (ap (λ (c : CallerState Planned). c.machine) took.caller ∙ of_host) gives
+    subst (λ (n : MachineState Planned). Gives n.first h.caller.account h.caller.lock h.kernel b.account b.lock) (ap (λ (c : CallerState Planned). c.machine) took.caller ∙ of_host) gives
+
+-- a caller that has come so far, with these passes
+pub kept : (m : MachineState Planned) (c : Option (CallerState Planned)) (staxes : List StaxPass) (was is : List MutexPass) → was ≡ is
+    → ◌≡◌ {A = HostState} (record { machine = m; caller = c; staxes = staxes; mutexes = was }) (record { machine = m; caller = c; staxes = staxes; mutexes = is })
+kept m c staxes was is same = λ i. record { machine = m; caller = c; staxes = staxes; mutexes = same i }

@@ -107,12 +107,13 @@ bytes_of (Err refusal) = Err refusal
 
 -- the caller finds that another has the kernel, and has lost a take more
 abbrev pub FindsTaken : {T : Type 0} → MachineState Planned → Result T Refusal → CallerState Planned → CallerState Planned → Type 0
-FindsTaken machine r a b = (r ≡ Err CoreBusy) × (b ≡ turned_away a) × FailsToTake machine.first a.account b.account
+FindsTaken machine r a b = (r ≡ Err CoreBusy) × (b ≡ turned_away b.lock a) × FailsToTake machine.first a.account a.lock b.account b.lock
 
 -- the caller takes the kernel and gives it back as it is
 abbrev pub TakesAndGives : MachineState Planned → KernelView Planned → CallerState Planned → CallerState Planned → Type 0
 TakesAndGives machine k a b =
-    (h : HeldState Planned) × (h.kernel ≡ k) × TookKernel a h × Takes machine.first a.account h.caller.account × (b ≡ returned k.history h.caller) × Gives machine.first h.caller.account k b.account
+    (h : HeldState Planned) × (h.kernel ≡ k) × TookKernel a h × Takes machine.first a.account a.lock h.caller.account h.caller.lock
+    × (b ≡ returned k.history b.lock h.caller) × Gives machine.first h.caller.account h.caller.lock k b.account b.lock
 
 -- The trace of the kernel that the caller takes is told, or there is no memory for it. Or another has the kernel.
 abbrev pub TellsTrace : MachineState Planned → Result (List ℕ) Refusal → CallerState Planned → CallerState Planned → Type 0

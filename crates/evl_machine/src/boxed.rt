@@ -101,8 +101,8 @@ impl Machine {
     /// take more.
     pub fn take(&self, caller: Caller) -> Result<Held<'_>, Caller>
         requires { Belongs caller self.now.of }
-        ensures taken { MatchResult result (λ h. TookKernel caller h.of) (λ c. c ≡ turned_away caller) }
-        ensures event { MatchResult result (λ h. Takes self.now.of.first caller.account h.of.caller.account) (λ c. FailsToTake self.now.of.first caller.account c.account) }
+        ensures taken { MatchResult result (λ h. TookKernel caller h.of) (λ c. c ≡ turned_away c.lock caller) }
+        ensures event { MatchResult result (λ h. Takes self.now.of.first caller.account caller.lock h.of.caller.account h.of.caller.lock) (λ c. FailsToTake self.now.of.first caller.account caller.lock c.account c.lock) }
     {
         match self.of.take(caller) {
             Ok(of) => Ok(Held { of }),
@@ -154,8 +154,8 @@ impl<'a> Held<'a> {
     /// Puts the kernel back. The caller has then seen its history.
     pub fn give(self) -> Caller
         ensures stage { HoldsAtItsStage result }
-        ensures given { result ≡ returned self.entry.of.kernel.history self.entry.of.caller }
-        ensures event { Gives self.entry.of.caller.machine.first self.entry.of.caller.account self.entry.of.kernel result.account }
+        ensures given { result ≡ returned self.entry.of.kernel.history result.lock self.entry.of.caller }
+        ensures event { Gives self.entry.of.caller.machine.first self.entry.of.caller.account self.entry.of.caller.lock self.entry.of.kernel result.account result.lock }
     {
         let Held { of } = self;
         of.give()

@@ -10,6 +10,7 @@ ghost use Rattle.evl_core.specs.words.AtSeats.{AtSeat};
 ghost use Rattle.evl_core.specs.accounts.KernelCalls.{Applied};
 ghost use Rattle.evl_machine.specs.declared.unfinished.Unfinished.TheVariants.{Mutex};
 ghost use Rattle.evl_machine.specs.callers.JustTaken.{HasJustTaken};
+ghost use Rattle.evl_machine.specs.callers.OneSteps.{MakesSome};
 ghost use Rattle.evl_core.specs.rule.Known.{ceilings_of, first_of};
 ghost use Rattle.evl_machine.specs.mutex_locks.Locking.{Begins, Finishes, GivesTo, GoesAlong, HaveSeats, LocksRaised, Releases};
 ghost use Rattle.evl_core.specs.words.MutexSeats.{HasOnce, HasSeat, holds_mutex, mutex_refusal};
@@ -61,6 +62,7 @@ pub(crate) fn lock_raised<C: Handler, A: Allocator>(
     ensures along { GoesAlong (acting actor.old) kernel.old (acting actor.new) kernel.new }
     ensures locked { LocksRaised core.now.shared.key.value.history.board.mutexes.items (acting actor.old) kernel.old mutex result (acting actor.new) kernel.new }
     ensures settled { IsSettled actor.new.me.0 kernel.new.history.state }
+    ensures made { MakesSome actor.old.me.0 actor.new.me.0 }
 {
     kernel.reserve()?;
     let pass = mutex_steps::try_held(core, &mut actor.seat, &mut actor.places, mutex)?;
@@ -88,6 +90,7 @@ pub(crate) fn release<C: Handler, A: Allocator>(
     ensures along { GoesAlong (acting actor.old) kernel.old (acting actor.new) kernel.new }
     ensures released { Releases (acting actor.old) kernel.old pass result (acting actor.new) kernel.new }
     ensures settled { IsSettled actor.new.me.0 kernel.new.history.state }
+    ensures made { MakesSome actor.old.me.0 actor.new.me.0 }
 {
     let mutex = pass.mutex();
     match actor.apply(kernel, Call::Release { mutex }) {
@@ -147,6 +150,7 @@ pub(crate) fn begin<C: Handler, A: Allocator>(
     ensures along { GoesAlong (acting actor.old) kernel.old (acting actor.new) kernel.new }
     ensures begun { Begins ceiling (acting actor.old) kernel.old mutex until result (acting actor.new) kernel.new }
     ensures settled { IsSettled actor.new.me.0 kernel.new.history.state }
+    ensures made { MakesSome actor.old.me.0 actor.new.me.0 }
 {
     kernel.reserve()?;
     match mutex_steps::claim(core, &mut actor.seat, &actor.places, mutex) {
@@ -188,6 +192,7 @@ pub(crate) fn finish<C: Handler, A: Allocator>(
     ensures along { GoesAlong (acting actor.old) kernel.old (acting actor.new) kernel.new }
     ensures finished { Finishes (acting actor.old) kernel.old mutex result (acting actor.new) kernel.new }
     ensures settled { IsSettled actor.new.me.0 kernel.new.history.state }
+    ensures made { MakesSome actor.old.me.0 actor.new.me.0 }
 {
     if !kernel.kernel().finished(actor.thread) {
         return Err(Refusal::Again);

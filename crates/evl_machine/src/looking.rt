@@ -9,7 +9,7 @@ ghost use Rattle.evl_machine.specs.calls.Calls.{ActsOnCore, Answered, HoldsAtIts
 ghost use Rattle.evl_core.specs.accounts.Seats.{IsCaller, account_of};
 ghost use Rattle.evl_machine.specs.declared.unfinished.Unfinished.TheVariants.{Element};
 ghost use Rattle.evl_machine.specs.callers.Handles.{Belongs};
-ghost use Rattle.evl_core.specs.rule.Known.{first_of, seen};
+ghost use Rattle.evl_core.specs.rule.Known.{first_of, seen, lock_in};
 ghost use Rattle.evl_core.specs.words.MutexSeats.{holds_mutex};
 ghost use Rattle.evl_machine.specs.stax_locks.StaxSeats.{holds_stax};
 ghost use Rattle.evl_machine.specs.calls.Waitings.{Looked, Looks, LooksOrFinishes, finish_of};
@@ -34,8 +34,8 @@ impl<C: Handler, A: Allocator> MachineOf<C, A> {
         ensures rests { IsCaller (seen actor.new.me) actor.new.thread }
         ensures suits { Suits (acting actor.new) (account_of (seen actor.new.me)).seen }
         ensures held { AreHeldAt actor.new.stage actor.new.staxes }
-        ensures looked { LooksOrFinishes (first_of actor.old.me.0) (keeps_stage (holds_stax actor.old.staxes) (holds_mutex (acting actor.old).mutexes)) (account_of (seen actor.old.me)) result (account_of (seen actor.new.me)) }
-        ensures acted { MatchOption result ⊤ (λ r. ActsOnCore (first_of actor.old.me.0) (account_of (seen actor.old.me)) r (account_of (seen actor.new.me))) }
+        ensures looked { LooksOrFinishes (first_of actor.old.me.0) (keeps_stage (holds_stax actor.old.staxes) (holds_mutex (acting actor.old).mutexes)) (account_of (seen actor.old.me)) (lock_in actor.old.me.0) result (account_of (seen actor.new.me)) (lock_in actor.new.me.0) }
+        ensures acted { MatchOption result ⊤ (λ r. ActsOnCore (first_of actor.old.me.0) (account_of (seen actor.old.me)) (lock_in actor.old.me.0) r (account_of (seen actor.new.me)) (lock_in actor.new.me.0)) }
         ensures told { MatchOption result ⊤ (λ r. (r ≢ Err Again) × (r ≢ Err CoreBusy)) }
     {
         let Some(mut kernel) = self.open(actor) else {

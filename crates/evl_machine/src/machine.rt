@@ -8,7 +8,7 @@ ghost use Rattle.evl_machine.specs.callers.Actors.{AreHeldAt, ClaimsOneOf, IsSam
 ghost use Rattle.evl_machine.specs.calls.Calls.{ActsOnCore, Answered, Called, HoldsAtItsStage, KernelCall, answer_of, own_refusal};
 ghost use Rattle.evl_core.specs.accounts.Seats.{IsCaller, account_of};
 ghost use Rattle.evl_machine.specs.callers.Handles.{Belongs, IsSameCaller};
-ghost use Rattle.evl_core.specs.rule.Known.{first_of, seen};
+ghost use Rattle.evl_core.specs.rule.Known.{first_of, lock_in, seen};
 ghost use Rattle.evl_core.specs.words.MutexSeats.{holds_mutex};
 ghost use Rattle.evl_machine.specs.stax_locks.StaxSeats.{holds_stax};
 
@@ -71,7 +71,7 @@ impl<C: Handler, A: Allocator> MachineOf<C, A> {
         ensures suits { Suits (acting actor.new) (account_of (seen actor.new.me)).seen }
         ensures held { AreHeldAt actor.new.stage actor.new.staxes }
         ensures called { Answered (first_of actor.old.me.0).limit (account_of (seen actor.old.me)) call (answer_of result) (account_of (seen actor.new.me)) }
-        ensures acted { ActsOnCore (first_of actor.old.me.0) (account_of (seen actor.old.me)) (answer_of result) (account_of (seen actor.new.me)) }
+        ensures acted { ActsOnCore (first_of actor.old.me.0) (account_of (seen actor.old.me)) (lock_in actor.old.me.0) (answer_of result) (account_of (seen actor.new.me)) (lock_in actor.new.me.0) }
         ensures entered { IfOk result (λ answer. answer ≢ Err CoreBusy) }
         ensures back { IfErr result (λ back. back ≡ call) }
     {

@@ -2,15 +2,14 @@
 ghost use Rattle.std.specs.Prelude.{◌≡◌, ◌≢◌, ◌<◌, None, Ok, false};
 ghost use Rattle.evl_kernel.specs.state.Callbacks.{AnswersByPlan};
 ghost use Rattle.evl_words.specs.declared.mutex.Unlock.TheVariants.{Done};
-ghost use Rattle.evl_words.specs.MutexWorld.{tries, unlocks};
+ghost use Rattle.evl_words.specs.MutexWorld.{tries};
 ghost use Rattle.evl_core.specs.worlds.OneWorld.{on_word};
-ghost use Rattle.evl_machine.specs.callers.OneSteps.{StepsInOne};
 ghost use Rattle.evl_machine.specs.calls.Calls.{HoldsAtItsStage, wait_of_caller};
 ghost use Rattle.evl_core.specs.rule.Ceilings.{has_ceiling};
 ghost use Rattle.evl_machine.specs.callers.Handles.{Belongs, IsSameCaller};
-ghost use Rattle.evl_machine.specs.mutex_locks.MutexLocks.{MutexCall, UnlocksAtWord, is_handed_on, kind_of, kinds_of, own_lock_refusal};
+ghost use Rattle.evl_machine.specs.mutex_locks.MutexLocks.{MutexCall, SpendsAtWord, UnlocksAtWord, WordCall, is_handed_on, kind_of, kinds_of, own_lock_refusal};
 ghost use Rattle.evl_core.specs.words.MutexTokens.{AreTheSame};
-ghost use Rattle.evl_core.specs.words.MutexSeats.{TriesMutex, UnlocksMutex, depth_at, unlock_refusal};
+ghost use Rattle.evl_core.specs.words.MutexSeats.{TriesMutex, depth_at, unlock_refusal};
 
 use crate::caller::CallerOf;
 use crate::machine::MachineOf;
@@ -33,8 +32,7 @@ impl<C: Drop, A: Allocator> MachineOf<C, A> {
         requires plain { has_ceiling (kind_of caller.old mutex) ≡ false }
         requires free { depth_at caller.old.mutexes mutex.0 ≡ 0 }
         ensures machine { IsSameCaller caller.old caller.new }
-        ensures tried { MutexCall caller.old (λ was is. TriesMutex (kinds_of caller.old) was mutex.0 result is) caller.new }
-        ensures event { StepsInOne (on_word mutex.0 tries) caller.old caller.new }
+        ensures tried { WordCall (depth_at caller.old.mutexes mutex.0 ≡ 0) (on_word mutex.0 tries) caller.old (λ was is. TriesMutex (kinds_of caller.old) was mutex.0 result is) caller.new }
         ensures stage { HoldsAtItsStage caller.new }
     {
         mutex_steps::try_there(
@@ -67,8 +65,7 @@ impl<C: Drop, A: Allocator> MachineOf<C, A> {
         requires plain { has_ceiling (kind_of caller.old pass.mutex) ≡ false }
         requires once { depth_at caller.old.mutexes pass.mutex.0 ≡ 1 }
         ensures machine { IsSameCaller caller.old caller.new }
-        ensures unlocked { MutexCall caller.old (λ was is. UnlocksMutex was pass (Ok result) is) caller.new }
-        ensures event { StepsInOne (on_word pass.mutex.0 unlocks) caller.old caller.new }
+        ensures unlocked { SpendsAtWord caller.old pass result caller.new }
         ensures seats { AreTheSame caller.old.mutexes caller.new.mutexes }
         ensures stage { HoldsAtItsStage caller.new }
     {
@@ -86,7 +83,7 @@ impl<C: Drop, A: Allocator> MachineOf<C, A> {
         requires own { unlock_refusal caller.old.mutexes pass ≡ None }
         requires more { depth_at caller.old.mutexes pass.mutex.0 ≢ 1 }
         ensures machine { IsSameCaller caller.old caller.new }
-        ensures unlocked { MutexCall caller.old (λ was is. UnlocksMutex was pass (Ok Done) is) caller.new }
+        ensures unlocked { SpendsAtWord caller.old pass Done caller.new }
         ensures seats { AreTheSame caller.old.mutexes caller.new.mutexes }
         ensures stage { HoldsAtItsStage caller.new }
     {
@@ -101,7 +98,7 @@ impl<C: Drop, A: Allocator> MachineOf<C, A> {
         requires own { unlock_refusal caller.old.mutexes pass ≡ None }
         requires stays { is_handed_on (kind_of caller.old pass.mutex) (depth_at caller.old.mutexes pass.mutex.0) ≡ false }
         ensures machine { IsSameCaller caller.old caller.new }
-        ensures unlocked { MutexCall caller.old (λ was is. UnlocksMutex was pass (Ok result) is) caller.new }
+        ensures unlocked { SpendsAtWord caller.old pass result caller.new }
         ensures seats { AreTheSame caller.old.mutexes caller.new.mutexes }
         ensures stage { HoldsAtItsStage caller.new }
     {

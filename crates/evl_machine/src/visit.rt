@@ -4,7 +4,7 @@ ghost use Rattle.evl_core.specs.accounts.Accounts.{lost_one, up_to_date};
 ghost use Rattle.evl_core.specs.accounts.Seats.{IsCaller, Continues, Taken, account_of, holding, resting};
 ghost use Rattle.evl_core.specs.worlds.Events.{FailsToTake, Gives, Takes};
 ghost use Rattle.evl_machine.specs.callers.InHand.{HasMissed, HasOpened, HasShut, MayShut};
-ghost use Rattle.evl_core.specs.rule.Known.{ComesFrom, first_of, past_of, room_of, seen};
+ghost use Rattle.evl_core.specs.rule.Known.{ComesFrom, first_of, lock_in, past_of, room_of, seen};
 ghost use Rattle.evl_core.specs.words.MutexTokens.{KeepsPlaces};
 ghost use Rattle.evl_core.specs.words.Noted.{HasTaken, IsSettled};
 
@@ -19,7 +19,7 @@ impl<C: Drop, A: Allocator> MachineOf<C, A> {
     pub(crate) fn take_kernel(&self, seat: &mut CoreSeat<C, A>) -> Option<KernelBox<C, A>>
         requires { (seat.old.table_id ≡ self.now.id) × (seen seat.old.me ≡ resting (account_of (seen seat.old.me))) }
         ensures same { (seat.new.table_id ≡ seat.old.table_id) × (seat.new.id ≡ seat.old.id) × (first_of seat.new.me.0 ≡ first_of seat.old.me.0) }
-        ensures event { MatchOption result (FailsToTake (first_of seat.old.me.0) (account_of (seen seat.old.me)) (account_of (seen seat.new.me))) (λ _. Takes (first_of seat.old.me.0) (account_of (seen seat.old.me)) (account_of (seen seat.new.me))) }
+        ensures event { MatchOption result (FailsToTake (first_of seat.old.me.0) (account_of (seen seat.old.me)) (lock_in seat.old.me.0) (account_of (seen seat.new.me)) (lock_in seat.new.me.0)) (λ _. Takes (first_of seat.old.me.0) (account_of (seen seat.old.me)) (lock_in seat.old.me.0) (account_of (seen seat.new.me)) (lock_in seat.new.me.0)) }
         ensures taken { MatchOption result (seen seat.new.me ≡ resting (lost_one (account_of (seen seat.old.me)))) (λ k. Taken past_of room_of (seen seat.old.me) k (seen seat.new.me) × ComesFrom (first_of seat.old.me.0) k) }
         ensures places { KeepsPlaces seat.old.me.0 seat.new.me.0 }
         ensures holder { MatchOption result ⊤ (λ k. HasTaken (account_of (seen seat.old.me)).thread k.history seat.new.me.0) }
@@ -40,7 +40,7 @@ impl<C: Drop, A: Allocator> MachineOf<C, A> {
         requires kernel { (seen seat.old.me ≡ holding (account_of (seen seat.old.me))) × Continues (account_of (seen seat.old.me)) kernel.history }
         requires settled { IsSettled seat.old.me.0 kernel.history.state }
         ensures same { (seat.new.table_id ≡ seat.old.table_id) × (seat.new.id ≡ seat.old.id) × (first_of seat.new.me.0 ≡ first_of seat.old.me.0) }
-        ensures event { Gives (first_of seat.old.me.0) (account_of (seen seat.old.me)) kernel (account_of (seen seat.new.me)) }
+        ensures event { Gives (first_of seat.old.me.0) (account_of (seen seat.old.me)) (lock_in seat.old.me.0) kernel (account_of (seen seat.new.me)) (lock_in seat.new.me.0) }
         ensures given { seen seat.new.me ≡ resting (up_to_date kernel.history (account_of (seen seat.old.me))) }
         ensures places { KeepsPlaces seat.old.me.0 seat.new.me.0 }
     {

@@ -1,6 +1,6 @@
 -- A caller that leaves its place among the others and comes back.
 use Rattle.std.proofs.Common.{◌≡◌, ℕ, zero, suc, ◌<◌, List, [], ◌∷◌, length, take, drop, refl, sym, ◌∙◌, ap, subst, arith}
-use Rattle.std.specs.Prelude.{All, Bool, true, false, Result, Ok, Err, IfOk, if◌then◌else◌, slice_index_or, slice_set}
+use Rattle.std.specs.Prelude.{All, Bool, true, false, Result, Ok, Err, IfOk, OnOk, if◌then◌else◌, slice_index_or, slice_set}
 use Rattle.std.specs.List.{insert, remove}
 use Rattle.std.proofs.lemmas.List.Elements.{All-append, All-cons, All-drop, All-take}
 use Rattle.std.proofs.lemmas.Option.{slice_get_read}
@@ -33,3 +33,7 @@ all_back P xs ys k x false all one is = subst (All P) (sym is) all
 pub ok_gives : {A E : Type 0} (P Q : A → Type 0) (r : Result A E) → IfOk r P → ((a : A) → P a → Q a) → IfOk r Q
 ok_gives P Q (Ok a) has gives = gives a has
 ok_gives P Q (Err e) has gives = tt
+
+pub on_ok : {A E : Type 0} (P Q : Type 0) (r : Result A E) → OnOk r P → (P → Q) → OnOk r Q
+on_ok P Q (Ok a) has gives = gives has
+on_ok P Q (Err e) has gives = tt

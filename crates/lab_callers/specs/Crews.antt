@@ -6,6 +6,7 @@ use Rattle.evl_base.specs.declared.refusal.Refusal.{Refusal}
 use Rattle.evl_base.specs.declared.reply.Reply.{Reply}
 use Rattle.lab_callers.specs.declared.passes.StepFault.{StepFault}
 use Rattle.lab_callers.specs.declared.passes.StepFault.TheVariants.{HasCore, HasNoCore, NoCaller}
+use Rattle.evl_core.specs.worlds.Events.{Gives}
 use Rattle.evl_machine.specs.calls.Calls.{Called, CalledHeld, TookKernel}
 use Rattle.evl_machine.specs.callers.Handles.{CallerState, HeldState, MachineState, returned, turned_away}
 
@@ -95,13 +96,16 @@ module _ {C : Type 0} where
 
   -- a take, and whether it found the core free
   abbrev pub TakesCore : CrewState C → ℕ → Bool → CrewState C → Type 0
-  TakesCore old who free new = MatchBool free (GetsCore old who new) (Steps old who (λ before after. after ≡ turned_away before) new)
+  TakesCore old who free new = MatchBool free (GetsCore old who new) (Steps old who (λ before after. after ≡ turned_away after.lock before) new)
 
   -- who has the core gives it back, and comes to its place among the others
   pub record GivesCore (old : CrewState C) (who : ℕ) (new : CrewState C) : Type 0 where
     pub giver : HeldState C
+    pub back : CallerState C
     pub was : old.held ≡ Some giver
     pub who_is : old.holder ≡ who
     pub machine : new.machine ≡ old.machine
-    pub others : new.callers ≡ insert old.callers who (returned giver.kernel.history giver.caller)
+    pub given : back ≡ returned giver.kernel.history back.lock giver.caller
+    pub event : Gives giver.caller.machine.first giver.caller.account giver.caller.lock giver.kernel back.account back.lock
+    pub others : new.callers ≡ insert old.callers who back
     pub held : new.held ≡ None

@@ -30,7 +30,7 @@ module _ {C : Type 0} where
   -- by the caller at this place, which takes the core for it and gives it back
   pub record LooksAt (old : List (CallerState C)) (place : ℕ) (q : Question) (v : View) (new : List (CallerState C)) : Type 0 where
     pub taker : HeldState C
-    pub stepped : StepsAt old place (λ before after. TookKernel before taker × (after ≡ returned taker.kernel.history taker.caller)) new
+    pub stepped : StepsAt old place (λ before after. TookKernel before taker × (after ≡ returned taker.kernel.history after.lock taker.caller)) new
     pub seen : Sees taker q v
 
   -- by the caller that has it

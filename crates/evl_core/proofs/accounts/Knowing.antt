@@ -28,7 +28,7 @@ use Rattle.evl_core.specs.rule.ThreadRule.{mutex_of, put_core}
 use Rattle.evl_core.specs.worlds.CoreWorld.{CoreKind, IsCoreEvent, Slot, step_part, taken_from, takes, gives}
 use Rattle.evl_core.specs.worlds.Events.{FailsToTake, Gives, KernelEvent, Takes, at_rest, in_hand}
 use Rattle.evl_core.specs.accounts.Seats.{CoreMe, AccountsFit, view, Continues, account_of, resting}
-use Rattle.evl_core.specs.rule.Known.{ComesFrom, CoreHand, KernelMe, accounts_in, taken_in, first_of, past_of, room_of, seen, ceilings_of, mutex_count, KeptKnown, took_known, gave_known}
+use Rattle.evl_core.specs.rule.Known.{lock_in, ComesFrom, CoreHand, KernelMe, accounts_in, taken_in, first_of, past_of, room_of, seen, ceilings_of, mutex_count, KeptKnown, took_known, gave_known}
 use Rattle.evl_core.proofs.lock.LockSteps.{loses_to}
 use Rattle.evl_core.proofs.accounts.Taking.{Took, loaded}
 use Rattle.evl_core.proofs.rule.TableTies.{takes_tied, gives_tied}
@@ -102,7 +102,7 @@ module _ {C : Type 0} where
   -- what a take tells
   pub took_seen : (st : Step (Option (KernelView C))) (found : ℕ) (me me' : KernelMe C) (a : Account) → seen me ≡ resting a → took_known st me found me'
       → (found ≡ 0 → Took past_of room_of (ComesFrom (first_of me.0)) (seen me) (seen me')) × (found ≢ 0 → seen me' ≡ resting (lost_one a)) × (first_of me'.0 ≡ first_of me.0)
-      × (found ≡ 0 → Takes (first_of me.0) a (account_of (seen me'))) × (found ≢ 0 → FailsToTake (first_of me.0) a (account_of (seen me')))
+      × (found ≡ 0 → Takes (first_of me.0) a (lock_in me.0) (account_of (seen me')) (lock_in me'.0)) × (found ≢ 0 → FailsToTake (first_of me.0) a (lock_in me.0) (account_of (seen me')) (lock_in me'.0))
   took_seen st found me me' a rests told =
       let o = is_one me.0 me.1 None a [] rests in
       let k = o.number in
@@ -116,6 +116,8 @@ module _ {C : Type 0} where
       let stays : t.0.core.first ≡ v.core.first = dite (ℕ_discrete found 0)
       (λ (e : found ≡ 0). ap (λ (x : CorePart (KernelView C) × Slots C). x.0.first) (t.2.0.0.0 e).2)
       (λ (ne : found ≢ 0). ap (λ (x : CorePart (KernelView C) × Slots C). x.0.first) (t.2.0.0.1 ne).1) in
+      let lock : lock_in me.0 ≡ v.core.lock = ap lock_in hand in
+      let lock' : lock_in me'.0 ≡ t.0.core.lock = ap lock_in t.1 in
       let one : KernelEvent k v.core takes found t.0.core = record { before = v; after = t.0; was = refl; is = refl; event = t.2.2 } in
       let number : k ≡ a.thread = ap (λ (x : Account). x.thread) o.account_is in
       let from : v.core ≡ at_rest (first_of me.0) a v.core.note v.core.lock = part_is k v.core None a (first_of me.0) o.taken_is o.account_is (sym before) in
@@ -134,23 +136,21 @@ module _ {C : Type 0} where
         after ∙ (stays ∙ sym before),
         (λ e.
             let q = t.2.0.0.0 e in
-            let taken : t.0.core.taken ≡ Some (account_of (seen me')).seen = ap (λ (x : CorePart (KernelView C) × Slots C). x.0.taken) q.2 ∙ ap (λ (h : History). Some h) (sym (ap (λ (x : CorePart (KernelView C) × Slots C). x.0.seen) q.2) ∙ ap (λ (x : Account). x.seen) account) in (
+            let taken : t.0.core.taken ≡ Some (account_of (seen me')).seen = ap (λ (x : CorePart (KernelView C) × Slots C). x.0.taken) q.2 ∙ ap (λ (h : History). Some h) (sym (ap (λ (x : CorePart (KernelView C) × Slots C). x.0.seen) q.2) ∙ ap (λ (x : Account). x.seen) account) in
+            subst (λ (z : LockView × LockView). Takes (first_of me.0) a z.0 (account_of (seen me')) z.1) (λ i. (sym lock i, sym lock' i)) (
               v.core.note,
               t.0.core.note,
-              v.core.lock,
-              t.0.core.lock,
               event_as k a.thread v.core (at_rest (first_of me.0) a v.core.note v.core.lock) takes found 0 t.0.core (in_hand (first_of me.0) (account_of (seen me')) t.0.core.note t.0.core.lock) number from e
                   (part_is k t.0.core (Some (account_of (seen me')).seen) (account_of (seen me')) (first_of me.0) taken account (stays ∙ sym before)) one,
             )),
         (λ ne.
-            let taken : t.0.core.taken ≡ None = ap (λ (x : CorePart (KernelView C) × Slots C). x.0.taken) (t.2.0.0.1 ne).1 ∙ o.taken_is in (
+            let taken : t.0.core.taken ≡ None = ap (λ (x : CorePart (KernelView C) × Slots C). x.0.taken) (t.2.0.0.1 ne).1 ∙ o.taken_is in
+            subst (λ (z : LockView × LockView). FailsToTake (first_of me.0) a z.0 (account_of (seen me')) z.1) (λ i. (sym lock i, sym lock' i)) (
               ap account_of (lost ne),
               found,
               ne,
               v.core.note,
               t.0.core.note,
-              v.core.lock,
-              t.0.core.lock,
               subst (λ (i : ℕ). LosesTo i v.core.lock t.0.core.lock) number (lost_to k v.core t.0.core found o.taken_is ne t.2.0.0.2),
               event_as k a.thread v.core (at_rest (first_of me.0) a v.core.note v.core.lock) takes found found t.0.core (at_rest (first_of me.0) (account_of (seen me')) t.0.core.note t.0.core.lock) number from refl
                   (part_is k t.0.core None (account_of (seen me')) (first_of me.0) taken account (stays ∙ sym before)) one,
@@ -180,7 +180,7 @@ module _ {C : Type 0} where
 
   -- what a give tells
   pub gave_seen : (st : Step (Option (KernelView C))) (found : ℕ) (me me' : KernelMe C) (a : Account) (k : KernelView C) → seen me ≡ loaded past_of room_of a k → gave_known st me found me'
-      → (seen me' ≡ resting (up_to_date k.history a)) × (first_of me'.0 ≡ first_of me.0) × Gives (first_of me.0) a k (account_of (seen me'))
+      → (seen me' ≡ resting (up_to_date k.history a)) × (first_of me'.0 ≡ first_of me.0) × Gives (first_of me.0) a (lock_in me.0) k (account_of (seen me')) (lock_in me'.0)
   gave_seen st found me me' a k is told =
       let o = is_one me.0 me.1 (Some a.seen) a ((0, Some k) ∷ []) is in
       let hand = ap (λ (z : KernelMe C). z.0) o.me_is in
@@ -193,12 +193,10 @@ module _ {C : Type 0} where
       let stays : t.0.core.first ≡ first_of me.0 = ap (λ (x : CorePart (KernelView C) × Slots C). x.0.first) gave.1 ∙ sym before in (
         now ∙ (ap (seen_at o.number) gave.1 ∙ ap (λ (x : Account). resting (up_to_date k.history x)) o.account_is),
         ap first_of t.1 ∙ stays,
-        (
+        subst (λ (z : LockView × LockView). Gives (first_of me.0) a z.0 k (account_of (seen me')) z.1) (λ i. (sym (ap lock_in hand) i, sym (ap lock_in t.1) i)) (
           e.0,
           o.thread.core.note,
           t.0.core.note,
-          o.thread.core.lock,
-          t.0.core.lock,
           event_as o.number a.thread o.thread.core (in_hand (first_of me.0) a o.thread.core.note o.thread.core.lock) (gives k) e.0 e.0 t.0.core (at_rest (first_of me.0) (account_of (seen me')) t.0.core.note t.0.core.lock) (ap (λ (x : Account). x.thread) o.account_is)
               (part_is o.number o.thread.core (Some a.seen) a (first_of me.0) o.taken_is o.account_is (sym before)) refl
               (part_is o.number t.0.core None (account_of (seen me')) (first_of me.0) (ap (λ (x : CorePart (KernelView C) × Slots C). x.0.taken) gave.1) (sym (ap account_of now)) stays) one,

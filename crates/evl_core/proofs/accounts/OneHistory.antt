@@ -23,7 +23,9 @@ use Rattle.evl_words.specs.History as word
 use Rattle.evl_words.specs.MutexWorld.{MutexView}
 use Rattle.evl_words.specs.declared.history.Place.{Place}
 use Rattle.evl_core.specs.declared.views.ThreadView.{ThreadView}
-use Rattle.evl_core.specs.lock.Lock.{lock_author, lock_of}
+use Rattle.evl_words.specs.Machine as machine
+use Rattle.evl_words.proofs.Machines.{run_split}
+use Rattle.evl_core.specs.lock.Lock.{LockStep, idle, lock_author, lock_of}
 use Rattle.evl_core.specs.rule.Known.{ComesFrom, KeptKnown, ceilings_of, mutex_count, past_of, room_of, seen}
 use Rattle.evl_core.specs.worlds.OneWorld.{looks}
 use Rattle.evl_core.proofs.worlds.OneTurns.{event_of, look_event}
@@ -80,13 +82,24 @@ module _ {C : Type 0} where
         history = kept.history;
         one = kept.fits p.number p.view.core (at_map core_of d.views p.number p.view are.0);
         other = kept.fits q.number q.view.core (at_map core_of d.views q.number q.view are.1.0);
-        lock = see_one lock_author d.kept.locked.0 p.number q.number p.view.core.lock q.view.core.lock (its_lock p are.0) (its_lock q are.1.0);
+        lock = record {
+          longer = see_one lock_author d.kept.locked.0 p.number q.number p.view.core.lock q.view.core.lock (its_lock p are.0) (its_lock q are.1.0);
+          one = legal_lock p are.0;
+          other = legal_lock q are.1.0;
+        };
         look = (get_or s.words 0 0, event_of past_of room_of ComesFrom ceilings_of mutex_count first p.number p.view (looks 0) (get_or s.words 0 0) p.view (kept.knows p.number p.view.core (at_map core_of d.views p.number p.view are.0)) (look_event past_of room_of ComesFrom ceilings_of mutex_count first s.words s.homes d.views d.kept p.number p.view are.0 0 (omega arith)));
         mutexes = λ i within. on_word i (subst (λ (f : KernelView C). i < mutex_count f) (kept.knows p.number p.view.core (at_map core_of d.views p.number p.view are.0)) within) apart are.0 are.1.0;
       }
     where
       its_lock : (x : Place (ThreadView (KernelView C) MutexView)) → get_elem? d.views x.number ≡ some x.view → word.Fits lock_author d.kept.locked.0 x.number x.view.core.lock
       its_lock x at = d.kept.locked.2.world.history.fits x.number x.view.core.lock (at_map lock_of (map core_of d.views) x.number x.view.core (at_map core_of d.views x.number x.view at))
+
+      legal_lock : (x : Place (ThreadView (KernelView C) MutexView)) → get_elem? d.views x.number ≡ some x.view → machine.IsLegal LockStep idle x.view.core.lock.seen
+      legal_lock x at =
+          let world = d.kept.locked.2.world in
+          let pre = (its_lock x at).seen in
+          let r = run_split LockStep idle world.state x.view.core.lock.seen pre.0 (subst (λ l. machine.Run LockStep idle l world.state) (sym pre.1) world.history.run) in
+          (r.0, r.1)
 
       on_word : (i : ℕ) → i < mutex_count first → p.number ≢ q.number → get_elem? d.views p.number ≡ some p.view → get_elem? d.views q.number ≡ some q.view → AreAtMutex (place p.number (mutex_of i p.view)) (place q.number (mutex_of i q.view))
       on_word i within apart here there =

@@ -19,7 +19,7 @@ use Rattle.evl_core.specs.declared.views.CorePart.{CorePart}
 use Rattle.evl_core.specs.declared.views.ThreadView.{ThreadView}
 use Rattle.evl_core.specs.words.AtSeats.{AtSeat}
 use Rattle.evl_core.specs.rule.CoreRule.{IsAbout, account_at, noting}
-use Rattle.evl_core.specs.rule.Known.{ComesFrom, CoreHand, KernelMe, KeptKnown, accounts_in, ceilings_of, first_of, by_anybody, by_holder, mutex_count, past_of, room_of, taken_in, tried_known, unlocked_known}
+use Rattle.evl_core.specs.rule.Known.{lock_in, ComesFrom, CoreHand, KernelMe, KeptKnown, accounts_in, ceilings_of, first_of, by_anybody, by_holder, mutex_count, past_of, room_of, taken_in, tried_known, unlocked_known}
 use Rattle.evl_core.specs.words.Noted.{Found, Notes, number_of, MakesOne}
 use Rattle.evl_core.specs.rule.Ties.{StandsNoted}
 use Rattle.evl_core.specs.worlds.OneWorld.{needs_kernel, on_word}
@@ -75,10 +75,11 @@ module _ {C : Type 0} where
     pub account : account_at k now.core ≡ account_at k v.core
     pub taken : now.core.taken ≡ v.core.taken
     pub first : now.core.first ≡ v.core.first
+    pub lock : now.core.lock ≡ v.core.lock
 
-  moved_to : (i k : ℕ) (v : Thread C) (kind : MutexKind) (found : ℕ) (me me' : KernelMe C) (c : CorePart (KernelView C)) (w : Thread C) (j : ℕ) → j ≡ i → me'.0 ≡ place k w ∷ [] → w ≡ put_core (put_mutex j v (mutex_of j w)) c → account_at k c ≡ account_at k v.core → c.taken ≡ v.core.taken → c.first ≡ v.core.first
+  moved_to : (i k : ℕ) (v : Thread C) (kind : MutexKind) (found : ℕ) (me me' : KernelMe C) (c : CorePart (KernelView C)) (w : Thread C) (j : ℕ) → j ≡ i → me'.0 ≡ place k w ∷ [] → w ≡ put_core (put_mutex j v (mutex_of j w)) c → account_at k c ≡ account_at k v.core → c.taken ≡ v.core.taken → c.first ≡ v.core.first → c.lock ≡ v.core.lock
       → me'.1 ≡ me.1 → MutexDoes k (mutex_of j v) kind found (mutex_of j w) → Moved i k v kind found me me'
-  moved_to i k v kind found me me' c w j e one is account taken first slots does = record {
+  moved_to i k v kind found me me' c w j e one is account taken first lock slots does = record {
     now = w;
     one = one;
     slots = slots;
@@ -87,6 +88,7 @@ module _ {C : Type 0} where
     account = ap (λ (x : Thread C). account_at k x.core) is ∙ account;
     taken = ap (λ (x : Thread C). x.core.taken) is ∙ taken;
     first = ap (λ (x : Thread C). x.core.first) is ∙ first;
+    lock = ap (λ (x : Thread C). x.core.lock) is ∙ lock;
   }
 
   -- a step tells that it is of this kind, and leaves the slots
@@ -100,7 +102,7 @@ module _ {C : Type 0} where
         let t = told k v one in
         let j = st.word - 1 in
         let d = says st (mutex_of j v) (mutex_of j t.0) me.1 me'.1 found t.2.0 in
-        moved_to i k v kind found me me' v.core t.0 j (omega (arith, at)) t.1 t.2.1 refl refl refl d.0 d.1
+        moved_to i k v kind found me me' v.core t.0 j (omega (arith, at)) t.1 t.2.1 refl refl refl refl d.0 d.1
 
     -- by the thread that has the kernel
     pub moved_held : (f : Step (Option (KernelView C)) → ℕ → ℕ) → by_holder kind f tells st me found me' → Moved i k v kind found me me'
@@ -108,7 +110,7 @@ module _ {C : Type 0} where
         let t = told k v one in
         let j = st.word - 1 in
         let d = says st (mutex_of j v) (mutex_of j t.0) me.1 me'.1 found t.2.0 in
-        moved_to i k v kind found me me' (noting j (f st found) v.core) t.0 j (omega (arith, at)) t.1 t.2.2 refl refl refl d.0 d.1
+        moved_to i k v kind found me me' (noting j (f st found) v.core) t.0 j (omega (arith, at)) t.1 t.2.2 refl refl refl refl d.0 d.1
 
     -- which is about this mutex then
     pub still_about : (f : Step (Option (KernelView C)) → ℕ → ℕ) → by_holder kind f tells st me found me' → HasKernelFor i me.0 → HasKernelFor i me'.0
@@ -153,7 +155,7 @@ module _ {C : Type 0} where
     tells_same =
         let taken : taken_in me'.0 ≡ taken_in me.0 = ap taken_in went.one ∙ went.taken ∙ sym (ap taken_in one) in
         let accounts : accounts_in me'.0 ≡ accounts_in me.0 = ap accounts_in went.one ∙ ap (λ (a : Account). a ∷ []) went.account ∙ sym (ap accounts_in one) in
-        record { core = λ j. (view (taken j) (accounts j), went.slots j); first = ap first_of went.one ∙ went.first ∙ sym (ap first_of one) }
+        record { core = λ j. (view (taken j) (accounts j), went.slots j); first = ap first_of went.one ∙ went.first ∙ sym (ap first_of one); lock = ap lock_in went.one ∙ went.lock ∙ sym (ap lock_in one) }
 
     part_was : (j : ℕ) → part_of me.0 j ≡ mutex_of j v
     part_was j = ap (λ (hand : CoreHand C). part_of hand j) one
@@ -237,4 +239,4 @@ module _ {C : Type 0} where
 
 -- a token that tells the same of the core twice
 pub core_twice : {C : Type 0} {one two three : KernelMe C} → TellsTheSame one two → TellsTheSame two three → TellsTheSame one three
-core_twice first then = record { core = then.core ∙ first.core; first = then.first ∙ first.first }
+core_twice first then = record { core = then.core ∙ first.core; first = then.first ∙ first.first; lock = then.lock ∙ first.lock }

@@ -15,8 +15,9 @@ use Rattle.evl_core.specs.rule.ThreadRule.{mutex_of}
 use Rattle.evl_core.specs.rule.Known.{ComesFrom, ceilings_of, mutex_count, past_of, room_of}
 use Rattle.evl_core.specs.rule.TieTells.{EventOf}
 use Rattle.evl_core.specs.worlds.OneWorld.{looks}
-use Rattle.evl_core.specs.lock.Lock.{lock_author}
+use Rattle.evl_core.specs.lock.Lock.{LockStep, LockView, idle, lock_author}
 use Rattle.evl_words.specs.History.{SeeOneHistory}
+use Rattle.evl_words.specs.Machine.{IsLegal}
 
 -- They act for threads of their own, and each knows what an account knows. Of what they have seen of the kernel one history is the beginning of the other, and the longer one has just the other's own calls of its thread
 pub record OneHistory (a b : Account) : Type 0 where
@@ -32,12 +33,18 @@ AgreeOnMutexes ps qs = (i : ℕ) (p q : MutexSeatState) → slice_get ps i ≡ S
 abbrev pub AgreeOnStaxes : List SeatState → List SeatState → Type 0
 AgreeOnStaxes ps qs = (i : ℕ) (p q : SeatState) → slice_get ps i ≡ Some p → slice_get qs i ≡ Some q → AgreeAtGate p q
 
+-- Of what they have seen of the core's lock one history is the beginning of the other, and the longer one has just the other's own steps there. Both are runs of the lock from where nobody has the kernel, in which one thread at most has it at a time
+pub record AgreeOnLock (j : ℕ) (u : LockView) (k : ℕ) (v : LockView) : Type 0 where
+  pub longer : SeeOneHistory lock_author j u k v
+  pub one : IsLegal LockStep idle u.seen
+  pub other : IsLegal LockStep idle v.seen
+
 -- two threads fit one history of the kernel and one of its lock, and are together at each mutex's word; that tells a load of the lock's word, which is an event of the one world
 pub record AreTogether {C : Type 0} (p q : Place (ThreadView (KernelView C) MutexView)) : Type 0 where
   pub apart : p.number ≢ q.number
   pub history : History
   pub one : Fits history (account_at p.number p.view.core)
   pub other : Fits history (account_at q.number q.view.core)
-  pub lock : SeeOneHistory lock_author p.number p.view.core.lock q.number q.view.core.lock
+  pub lock : AgreeOnLock p.number p.view.core.lock q.number q.view.core.lock
   pub look : (found : ℕ) × EventOf past_of room_of ComesFrom ceilings_of mutex_count p.number p.view (looks 0) found p.view
   pub mutexes : (i : ℕ) → i < mutex_count p.view.core.first → AreAtMutex (place p.number (mutex_of i p.view)) (place q.number (mutex_of i q.view))

@@ -11,6 +11,7 @@ use Rattle.evl_words.specs.MutexWorld.{MutexKind, MutexView, accepts, awaits, cl
 use Rattle.evl_words.specs.MutexRule.{awaited, claimed, does, forgot, tried, unlocked}
 use Rattle.evl_core.specs.declared.views.Account.{Account}
 use Rattle.evl_core.specs.declared.views.ThreadView.{ThreadView}
+use Rattle.evl_core.specs.lock.Lock.{LockView, new_lock}
 use Rattle.evl_core.specs.rule.Ceilings.{has_ceiling}
 use Rattle.evl_core.specs.accounts.Nothing.{no_kernel}
 use Rattle.evl_core.specs.accounts.Accounts.{threads_of}
@@ -54,6 +55,11 @@ module _ {C : Type 0} where
   abbrev pub first_of : CoreHand C → KernelView C
   first_of [] = no_kernel
   first_of (p ∷ ps) = p.view.core.first
+
+  -- what its first thread has seen of the core's lock
+  abbrev pub lock_in : CoreHand C → LockView
+  lock_in [] = new_lock
+  lock_in (p ∷ ps) = p.view.core.lock
 
   -- a token that acts for a thread at least
   abbrev pub IsLive : CoreHand C → Type 0

@@ -19,7 +19,7 @@ use Rattle.evl_core.specs.words.AtSeats.{AtSeat}
 use Rattle.evl_core.specs.rule.CoreRule.{IsAbout}
 use Rattle.evl_core.specs.words.Homes.{mutex_home}
 use Rattle.evl_core.specs.rule.ThreadRule.{mutex_of}
-use Rattle.evl_core.specs.rule.Known.{CoreHand, KernelMe, first_of, mutex_count, seen, taken_in}
+use Rattle.evl_core.specs.rule.Known.{CoreHand, KernelMe, first_of, mutex_count, seen, taken_in, lock_in}
 
 module _ {C : Type 0} where
   -- what the token's thread knows of mutex i, and what it has noted since it took the kernel
@@ -71,6 +71,7 @@ module _ {C : Type 0} where
   pub record TellsTheSame (old new : KernelMe C) : Type 0 where
     pub core : seen new ≡ seen old
     pub first : first_of new.0 ≡ first_of old.0
+    pub lock : lock_in new.0 ≡ lock_in old.0
 
 -- the same seats, by where they belong and by their numbers
 pub record AreTheSame (old new : List MutexSeatState) : Type 0 where

@@ -30,18 +30,18 @@ module _ {C : Type 0} where
     pub is : after.core ≡ d
     pub event : EventOf past_of room_of ComesFrom ceilings_of mutex_count k before (on_lock kind) found after
 
-  -- A take found the core free. Or it found it taken: then its thread has lost one more, and knows nothing else but that another thread had the kernel, behind all that it had seen of the lock's history
-  abbrev pub Takes : KernelView C → Account → Account → Type 0
-  Takes first a a' = (was is : Option Noted) × (old new : LockView) × KernelEvent a.thread (at_rest first a was old) takes 0 (in_hand first a' is new)
+  -- A take found the core free. Or it found it taken: then its thread has lost one more, and knows nothing else but that another thread had the kernel, behind all that it had seen of the lock's history. Each is of what the thread knows of the kernel and of the lock, before and after
+  abbrev pub Takes : KernelView C → Account → LockView → Account → LockView → Type 0
+  Takes first a l a' l' = (was is : Option Noted) × KernelEvent a.thread (at_rest first a was l) takes 0 (in_hand first a' is l')
 
-  abbrev pub FailsToTake : KernelView C → Account → Account → Type 0
-  FailsToTake first a a' = (a' ≡ lost_one a) × (found : ℕ) × (found ≢ 0) × (was is : Option Noted) × (old new : LockView) × LosesTo a.thread old new × KernelEvent a.thread (at_rest first a was old) takes found (at_rest first a' is new)
+  abbrev pub FailsToTake : KernelView C → Account → LockView → Account → LockView → Type 0
+  FailsToTake first a l a' l' = (a' ≡ lost_one a) × (found : ℕ) × (found ≢ 0) × (was is : Option Noted) × LosesTo a.thread l l' × KernelEvent a.thread (at_rest first a was l) takes found (at_rest first a' is l')
 
-  -- takes that found the core taken, the last one first, each with the account before it
-  abbrev pub LosesTakes : KernelView C → Account → List Account → Account → Type 0
-  LosesTakes first a [] a' = a' ≡ a
-  LosesTakes first a (before ∷ earlier) a' = LosesTakes first a earlier before × FailsToTake first before a'
+  -- takes that found the core taken, the last one first, each with what was known before it
+  abbrev pub LosesTakes : KernelView C → Account → LockView → List (Account × LockView) → Account → LockView → Type 0
+  LosesTakes first a l [] a' l' = (a' ≡ a) × (l' ≡ l)
+  LosesTakes first a l (before ∷ earlier) a' l' = LosesTakes first a l earlier before.0 before.1 × FailsToTake first before.0 before.1 a' l'
 
   -- the kernel was given back
-  abbrev pub Gives : KernelView C → Account → KernelView C → Account → Type 0
-  Gives first a k a' = (found : ℕ) × (was is : Option Noted) × (old new : LockView) × KernelEvent a.thread (in_hand first a was old) (gives k) found (at_rest first a' is new)
+  abbrev pub Gives : KernelView C → Account → LockView → KernelView C → Account → LockView → Type 0
+  Gives first a l k a' l' = (found : ℕ) × (was is : Option Noted) × KernelEvent a.thread (in_hand first a was l) (gives k) found (at_rest first a' is l')

@@ -12,6 +12,7 @@ use Rattle.evl_base.specs.declared.refusal.Refusal.TheVariants.{NoMemory, Histor
 use Rattle.evl_kernel.specs.histories.Histories.{History}
 use Rattle.evl_kernel.specs.state.Callbacks.{BringsNone, handlers_in}
 use Rattle.evl_kernel.specs.state.KernelViews.{KernelView, IsKernelAnswer, Adds, entry_of, makes_entry}
+use Rattle.evl_core.specs.lock.Lock.{LockView}
 use Rattle.evl_core.specs.declared.views.Account.{Account}
 use Rattle.evl_core.specs.accounts.Accounts.{GoesOn, IsAccount, MadeBy, Fits, saw, up_to_date, calls_by, lost_one}
 use Rattle.evl_core.specs.accounts.Seats.{CoreMe, after_take, Taken, Continues, holding, resting, account_of, IsCaller, IsHeld}
@@ -73,14 +74,14 @@ never_busy : (r : Result Reply Refusal) → IsKernelAnswer r → r ≢ Err CoreB
 never_busy r is busy = absurd (subst IsKernelAnswer busy is)
 
 module _ {C : Type 0} where
-  pub found_taken : (first : KernelView C) (a a' : Account) → FailsToTake first a a' → ActsOnCore first a (Err CoreBusy) a'
-  found_taken first a a' fails = record { busy = λ _. fails; free = λ ne. absurd (ne refl) }
+  pub found_taken : (first : KernelView C) (a : Account) (l : LockView) (a' : Account) (l' : LockView) → FailsToTake first a l a' l' → ActsOnCore first a l (Err CoreBusy) a' l'
+  found_taken first a l a' l' fails = record { busy = λ _. fails; free = λ ne. absurd (ne refl) }
 
   -- the seat's own place for the machine's first kernel stays as it was by the take
-  pub took_and_gave : (first now : KernelView C) (a held a' : Account) (r : Result Reply Refusal) (k : KernelView C) → IsKernelAnswer r → Takes first a held → now ≡ first → Gives now held k a' → ActsOnCore first a r a'
-  took_and_gave first now a held a' r k is takes same gives = record {
+  pub took_and_gave : (first now : KernelView C) (a : Account) (l : LockView) (held : Account) (between : LockView) (a' : Account) (l' : LockView) (r : Result Reply Refusal) (k : KernelView C) → IsKernelAnswer r → Takes first a l held between → now ≡ first → Gives now held between k a' l' → ActsOnCore first a l r a' l'
+  took_and_gave first now a l held between a' l' r k is takes same gives = record {
     busy = λ busy. absurd (never_busy r is busy);
-    free = λ _. (held, k, takes, subst (λ (x : KernelView C). Gives x held k a') same gives);
+    free = λ _. (held, between, k, takes, subst (λ (x : KernelView C). Gives x held between k a' l') same gives);
   }
 
   -- the account once the kernel was taken, and once it was given back after a call

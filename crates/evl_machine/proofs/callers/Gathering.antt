@@ -14,6 +14,7 @@ use Rattle.evl_base.specs.declared.refusal.Refusal.{Refusal}
 use Rattle.evl_base.specs.declared.refusal.Refusal.TheVariants.{CoreBusy, Invalid}
 use Rattle.evl_kernel.specs.histories.Histories.{History, IsLegal}
 use Rattle.evl_kernel.specs.state.KernelViews.{KernelView}
+use Rattle.evl_core.specs.lock.Lock.{LockView}
 use Rattle.evl_core.specs.declared.views.Account.{Account}
 use Rattle.evl_core.specs.declared.views.ThreadView.{ThreadView}
 use Rattle.evl_core.specs.rule.ThreadRule.{ThreadRule, core_of}
@@ -117,8 +118,8 @@ module _ {C : Type 0} where
   none_handed m [] none = (refl, refl)
   none_handed m (x ∷ xs) none = absurd (omega arith)
 
-  pub stays_busy : (m : MachineState C) (xs : List (CallerState C)) (first : CallerState C) (others back : List (CallerState C)) → xs ≡ first ∷ others → back ≡ turned_away first ∷ others → FailsToTake m.first first.account (lost_one first.account) → KeepsOpen m xs CoreBusy back
-  stays_busy m xs first others back are same fails = subst (λ (ys : List (CallerState C)). KeepsOpen m ys CoreBusy back) (sym are) (inl (refl, same, fails))
+  pub stays_busy : (m : MachineState C) (xs : List (CallerState C)) (first : CallerState C) (others back : List (CallerState C)) → xs ≡ first ∷ others → (l : LockView) → back ≡ turned_away l first ∷ others → FailsToTake m.first first.account first.lock (lost_one first.account) l → KeepsOpen m xs CoreBusy back
+  stays_busy m xs first others back are l same fails = subst (λ (ys : List (CallerState C)). KeepsOpen m ys CoreBusy back) (sym are) (inl (refl, (l, same, fails)))
 
   legal_of : (c : CallerState C) (k : HeldState C) → TookKernel c k → IsLegal k.kernel.history
   legal_of c k took = subst (λ (s : CallerState C). IsLegal s.account.seen) took.caller took.just.legal
@@ -132,15 +133,15 @@ module _ {C : Type 0} where
     mine = subst (λ (s : CallerState C). calls_by s.account.thread s.account.seen.entries ≡ s.account.mine) took.caller took.just.mine;
   }
 
-  informs_as : (c : CallerState C) (k : HeldState C) → TookKernel c k → returned k.kernel.history k.caller ≡ shown k.kernel.history k.kernel.room c
-  informs_as c k took =
+  informs_as : (c : CallerState C) (k : HeldState C) → TookKernel c k → (l : LockView) → returned k.kernel.history l k.caller ≡ shown k.kernel.history k.kernel.room l c
+  informs_as c k took l =
       let h = k.kernel.history in
-      ap (returned h) took.caller ∙ ap (λ mine. record c { account = account c.account.thread h mine (c.account.found ++ k.kernel.room ∷ []) c.account.lost }) (fits_first c k took).mine
+      ap (returned h l) took.caller ∙ ap (λ mine. record c { account = account c.account.thread h mine (c.account.found ++ k.kernel.room ∷ []) c.account.lost; lock = l }) (fits_first c k took).mine
 
   pub stays_open : (m : MachineState C) (xs : List (CallerState C)) (first : CallerState C) (others back : List (CallerState C)) (k : HeldState C) → xs ≡ first ∷ others → length xs < threads_of m.first.history → TookKernel first k
-      → Belongs first m → Takes m.first first.account k.caller.account → Gives k.caller.machine.first k.caller.account k.kernel (up_to_date k.kernel.history k.caller.account)
-      → back ≡ returned k.kernel.history k.caller ∷ others → KeepsOpen m xs Invalid back
-  stays_open m xs first others back k are few took of takes gives now = subst (λ (ys : List (CallerState C)). KeepsOpen m ys Invalid back) (sym are) (inr (
+      → Belongs first m → Takes m.first first.account first.lock k.caller.account k.caller.lock → (l : LockView) → Gives k.caller.machine.first k.caller.account k.caller.lock k.kernel (up_to_date k.kernel.history k.caller.account) l
+      → back ≡ returned k.kernel.history l k.caller ∷ others → KeepsOpen m xs Invalid back
+  stays_open m xs first others back k are few took of takes l gives now = subst (λ (ys : List (CallerState C)). KeepsOpen m ys Invalid back) (sym are) (inr (
     refl,
     record {
       few = subst (λ (ys : List (CallerState C)). length ys < threads_of m.first.history) are few;
@@ -149,13 +150,15 @@ module _ {C : Type 0} where
       legal = legal_of first k took;
       strangers = strangers_of first k took;
       fits = fits_first first k took;
-      back_is = now ∙ ap (λ (c : CallerState C). c ∷ others) (informs_as first k took);
-      takes = subst (λ (s : CallerState C). Takes m.first first.account s.account) took.caller takes;
+      between = k.caller.lock;
+      lock = l;
+      back_is = now ∙ ap (λ (c : CallerState C). c ∷ others) (informs_as first k took l);
+      takes = subst (λ (s : CallerState C). Takes m.first first.account first.lock s.account k.caller.lock) took.caller takes;
       gives = (
         k.kernel,
         refl,
-        subst (λ (x : KernelView C). Gives x (saw k.kernel.history k.kernel.room first.account) k.kernel (up_to_date k.kernel.history (saw k.kernel.history k.kernel.room first.account))) (ap (λ (x : MachineState C). x.first) of)
-            (subst (λ (s : CallerState C). Gives s.machine.first s.account k.kernel (up_to_date k.kernel.history s.account)) took.caller gives),
+        subst (λ (x : KernelView C). Gives x (saw k.kernel.history k.kernel.room first.account) k.caller.lock k.kernel (up_to_date k.kernel.history (saw k.kernel.history k.kernel.room first.account)) l) (ap (λ (x : MachineState C). x.first) of)
+            (subst (λ (s : CallerState C). Gives s.machine.first s.account k.caller.lock k.kernel (up_to_date k.kernel.history s.account) l) took.caller gives),
       );
     },
   ))
@@ -164,14 +167,14 @@ module _ {C : Type 0} where
   pub back_again : (m : MachineState C) (xs : List (CallerState C)) (refusal : Refusal) (back : List (CallerState C)) → KeepsOpen m xs refusal back → All (λ (c : CallerState C). Belongs c m) xs → All (λ (c : CallerState C). Belongs c m) back
   back_again m [] refusal back (invalid, none) all = subst (λ (ys : List (CallerState C)). All (λ (c : CallerState C). Belongs c m) ys) (sym none) (All-nil _)
   back_again m (x ∷ xs) refusal back kept all = ⊎_elim
-      (λ (busy : (refusal ≡ CoreBusy) × (back ≡ turned_away x ∷ xs) × FailsToTake m.first x.account (lost_one x.account)). subst (λ (ys : List (CallerState C)). All (λ (c : CallerState C). Belongs c m) ys) (sym busy.1)
-      (All-cons (λ (c : CallerState C). Belongs c m) (turned_away x) xs (All-head (λ (c : CallerState C). Belongs c m) x xs all) (All-tail (λ (c : CallerState C). Belongs c m) x xs all)))
+      (λ (busy : (refusal ≡ CoreBusy) × ((l : LockView) × (back ≡ turned_away l x ∷ xs) × FailsToTake m.first x.account x.lock (lost_one x.account) l)). subst (λ (ys : List (CallerState C)). All (λ (c : CallerState C). Belongs c m) ys) (sym busy.1.1)
+      (All-cons (λ (c : CallerState C). Belongs c m) (turned_away busy.1.0 x) xs (All-head (λ (c : CallerState C). Belongs c m) x xs all) (All-tail (λ (c : CallerState C). Belongs c m) x xs all)))
       (λ (missing : (refusal ≡ Invalid) × LacksCaller m x xs back). subst (λ (ys : List (CallerState C)). All (λ (c : CallerState C). Belongs c m) ys) (sym missing.1.back_is)
-      (All-cons (λ (c : CallerState C). Belongs c m) (shown missing.1.history missing.1.room x) xs (All-head (λ (c : CallerState C). Belongs c m) x xs all) (All-tail (λ (c : CallerState C). Belongs c m) x xs all)))
+      (All-cons (λ (c : CallerState C). Belongs c m) (shown missing.1.history missing.1.room missing.1.lock x) xs (All-head (λ (c : CallerState C). Belongs c m) x xs all) (All-tail (λ (c : CallerState C). Belongs c m) x xs all)))
       kept
 
   pub closes_all : (m : MachineState C) (xs : List (CallerState C)) (first : CallerState C) (others : List (CallerState C)) (k : HeldState C) → xs ≡ first ∷ others → threads_of m.first.history ≤ length xs → Belongs first m → TookKernel first k
-      → Takes m.first first.account k.caller.account → All (λ (c : CallerState C). Fits k.kernel.history c.account) others → Closes m xs k.kernel
+      → Takes m.first first.account first.lock k.caller.account k.caller.lock → All (λ (c : CallerState C). Fits k.kernel.history c.account) others → Closes m xs k.kernel
   closes_all m xs first others k are all of took takes fit = subst (λ (ys : List (CallerState C)). Closes m ys k.kernel) (sym are) (record {
     some_caller = omega arith;
     all_callers = subst (λ (ys : List (CallerState C)). threads_of m.first.history ≤ length ys) are all;
@@ -179,5 +182,5 @@ module _ {C : Type 0} where
     strangers = strangers_of first k took;
     fits = All-cons (λ (x : CallerState C). Fits k.kernel.history x.account) first others (fits_first first k took) fit;
     comes = subst (λ (n : MachineState C). ComesFrom n.first k.kernel) of took.comes;
-    takes = subst (λ (s : CallerState C). Takes m.first first.account s.account) took.caller takes;
+    takes = (k.caller.lock, subst (λ (s : CallerState C). Takes m.first first.account first.lock s.account k.caller.lock) took.caller takes);
   })

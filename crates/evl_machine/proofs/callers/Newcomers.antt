@@ -29,7 +29,7 @@ use Rattle.evl_words.specs.Parts.{part_in}
 use Rattle.evl_core.specs.accounts.Accounts.{calls_by, newcomer, threads_of}
 use Rattle.evl_base.specs.declared.mutex_kind.MutexKind.{MutexKind}
 use Rattle.evl_machine.specs.callers.Callers.{caller_by}
-use Rattle.evl_core.specs.rule.Known.{CoreHand, first_of, mutex_count, seen}
+use Rattle.evl_core.specs.rule.Known.{CoreHand, first_of, mutex_count, seen, lock_in}
 use Rattle.evl_core.specs.words.MutexPlaces.{new_place, new_places}
 use Rattle.evl_core.specs.words.MutexTokens.{AreItsPlaces, IsAtTable, seat_at, seats_at}
 use Rattle.evl_core.specs.rule.ThreadRule.{newcomer_view}
@@ -199,7 +199,7 @@ module _ {C : Type 0} where
       let are : (acting a).mutexes ≡ seats_at m.id (new_hand m.first i) (new_places (mutex_count m.first) i) = λ j. seats_at (same j) (hand j) (by j) in
       let places : map mutex_home (acting a).mutexes ≡ m.mutexes = ap (map mutex_home) are ∙ new_homes m.first i m.id ∙ sym words in
       let holds : (acting a).mutexes ≡ map (new_mutex i) m.mutexes = are ∙ new_mutexes m.first i m.id ∙ ap (map (new_mutex i)) (sym words) in
-      (λ j. was j ++ caller_of (record { id = same j; first = from j; staxes = homes j; mutexes = places j }) (at j) (seats j) (holds j) ∷ []) ∙ sym (map-range_with_len_more (newcomer_of m) 0 i i (zero-add i))
+      (λ j. was j ++ caller_of (record { id = same j; first = from j; staxes = homes j; mutexes = places j }) (at j) (lock_in (hand j)) (seats j) (holds j) ∷ []) ∙ sym (map-range_with_len_more (newcomer_of m) 0 i i (zero-add i))
 
 -- a board that is checked is within its limits
 pub fits_checked : (b : Bool) (r : Result (Unit {0}) Refusal) → r ≡ (if b then Ok tt else Err Range) → is_err r ≡ false → b ≡ true

@@ -34,7 +34,7 @@ use Rattle.evl_core.specs.accounts.Seats.{account_of}
 use Rattle.evl_core.specs.words.Homes.{mutex_home, word_home, word_homes}
 use Rattle.evl_machine.specs.callers.InHand.{HasOpened}
 use Rattle.evl_machine.specs.callers.JustTaken.{HasJustTaken}
-use Rattle.evl_core.specs.rule.Known.{ComesFrom, CoreHand, first_of, mutex_count, seen}
+use Rattle.evl_core.specs.rule.Known.{ComesFrom, CoreHand, first_of, mutex_count, seen, lock_in}
 use Rattle.evl_machine.specs.mutex_locks.Locking.{HaveSeats}
 use Rattle.evl_machine.specs.mutex_locks.MutexLocks.{kind_of, lock_refusal, own_lock_refusal, spend_refusal}
 use Rattle.evl_core.specs.words.MutexPlaces.{depth_in, place_passes}
@@ -173,7 +173,7 @@ module _ {C : Type 0} where
 
   -- a caller's own stage and wait are its actor's
   pub opened_actor : (x o : SeatedActor C) (old : CallerState C) → caller_by x ≡ old → IsResting x → acting o ≡ acting x → acting o ≡ actor_of old
-  opened_actor x o old was rests same = same ∙ sym (ap actor_of (sym was) ∙ same_actor (machine_by x) (account_of (seen x.me)) (acting x) rests.0.own rests.0.account rests.1)
+  opened_actor x o old was rests same = same ∙ sym (ap actor_of (sym was) ∙ same_actor (machine_by x) (account_of (seen x.me)) (lock_in x.me.0) (acting x) rests.0.own rests.0.account rests.1)
 
   pub opened_wait : (x o : SeatedActor C) (old : CallerState C) (wait : Option Unfinished) → caller_by x ≡ old → IsResting x → acting o ≡ acting x → wait_of_caller old ≡ wait → o.wait ≡ wait
   opened_wait x o old wait was rests same is = ap (λ (a : ActorState). a.wait) (opened_actor x o old was rests same) ∙ is

@@ -17,10 +17,11 @@ use Rattle.evl_core.specs.accounts.Accounts.{IsAccount}
 use Rattle.evl_machine.specs.callers.Actors.{SeatedActor, acting}
 use Rattle.evl_core.specs.rule.CoreRule.{account_at}
 use Rattle.evl_core.specs.rule.ThreadRule.{mutex_of}
-use Rattle.evl_core.specs.accounts.Seats.{account_of, IsCaller}
-use Rattle.evl_core.specs.rule.Known.{CoreHand, first_of, mutex_count, seen}
+use Rattle.evl_core.specs.accounts.Seats.{account_of, first_account, IsCaller}
+use Rattle.evl_core.specs.rule.Known.{CoreHand, accounts_in, first_of, lock_in, mutex_count, seen}
+use Rattle.evl_core.specs.lock.Lock.{LockView}
 use Rattle.evl_core.specs.words.MutexTokens.{AreItsPlaces, IsAtTable, part_of, seat_at, seats_at}
-use Rattle.evl_core.specs.accounts.OneHistory.{AgreeOnMutexes, AreTogether, OneHistory}
+use Rattle.evl_core.specs.accounts.OneHistory.{AgreeOnLock, AgreeOnMutexes, AreTogether, OneHistory}
 use Rattle.evl_core.proofs.accounts.OneHistory.{one_history}
 
 module _ {C : Type 0} where
@@ -35,6 +36,16 @@ module _ {C : Type 0} where
     where
       account_in : CoreHand C → Account
       account_in hand = account_of {S = KernelView C} (seen (hand, []))
+
+  -- and of the core's lock
+  pub lock_together : (a b : SeatedActor C) → AreItsPlaces a.me.0 a.places → AreItsPlaces b.me.0 b.places → looks.AreTogether AreTogether a.me.0 b.me.0
+      → AgreeOnLock (account_of (seen a.me)).thread (lock_in a.me.0) (account_of (seen b.me)).thread (lock_in b.me.0)
+  lock_together a b its theirs told =
+      let t = told (place its.number its.thread) (place theirs.number theirs.thread) its.one theirs.one in
+      subst (λ (z : (ℕ × LockView) × (ℕ × LockView)). AgreeOnLock z.0.0 z.0.1 z.1.0 z.1.1) (λ i. ((sym (thread a its) i, sym (ap lock_in its.one) i), (sym (thread b theirs) i, sym (ap lock_in theirs.one) i))) t.lock
+    where
+      thread : (x : SeatedActor C) (own : AreItsPlaces x.me.0 x.places) → (account_of (seen x.me)).thread ≡ own.number
+      thread x own = ap (λ (hand : CoreHand C). (first_account (accounts_in hand)).thread) own.one
 
   -- the place of which a seat is read
   pub placed_at : (table : TableId) (hand : CoreHand C) (ps : List MutexPlace) (i : ℕ) (s : MutexSeatState) → slice_get (seats_at table hand ps) i ≡ Some s → (p : MutexPlace) × (slice_get ps i ≡ Some p) × (seat_at table hand p ≡ s)

@@ -23,8 +23,10 @@ use Rattle.evl_core.specs.accounts.KernelCalls.{Applied, IsRoomier}
 use Rattle.evl_core.specs.accounts.Seats.{IsCaller, IsHeld, Continues, account_of, resting, CoreMe}
 use Rattle.evl_core.specs.worlds.Events.{FailsToTake, Gives, Takes}
 use Rattle.evl_machine.specs.callers.Handles.{CallerState, HeldState, MachineState, caller_of, machine_of, returned, shown, turned_away}
+use Rattle.evl_machine.specs.callers.OneSteps.{StepsOnWords}
 use Rattle.evl_core.specs.words.Homes.{Home, mutex_home, stax_home, word_home, word_homes}
-use Rattle.evl_core.specs.rule.Known.{ComesFrom, KernelMe, first_of, mutex_count, seen}
+use Rattle.evl_core.specs.rule.Known.{ComesFrom, KernelMe, first_of, mutex_count, seen, lock_in}
+use Rattle.evl_core.specs.lock.Lock.{LockView}
 use Rattle.evl_machine.specs.mutex_locks.Locking.{GoesAlong, HaveSeats}
 use Rattle.evl_machine.specs.callers.InHand.{HasMissed, HasOpened, HasShut, IsSameAside, Opens}
 use Rattle.evl_core.specs.words.MutexTokens.{IsAtTable, KeepsPlaces, TellsTheSame}
@@ -74,12 +76,12 @@ module _ {C : Type 0} where
 
     -- what came of a take
     pub opened_or_missed : (out : Option (KernelView C)) → IsCaller (seen a.me) a.thread
-        → MatchOption out (FailsToTake (first_of x.me.0) (account_of (seen x.me)) (account_of (seen me))) (λ _. Takes (first_of x.me.0) (account_of (seen x.me)) (account_of (seen me)))
+        → MatchOption out (FailsToTake (first_of x.me.0) (account_of (seen x.me)) (lock_in x.me.0) (account_of (seen me)) (lock_in me.0)) (λ _. Takes (first_of x.me.0) (account_of (seen x.me)) (lock_in x.me.0) (account_of (seen me)) (lock_in me.0))
         → MatchOption out (seen me ≡ resting (lost_one (account_of (seen x.me)))) (λ k. TakenOut (seen x.me) k (seen me) × ComesFrom (first_of x.me.0) k)
         → MatchOption out ⊤ (λ k. HasTaken (account_of (seen x.me)).thread k.history me.0) → MatchOption out (HasMissed a now) (HasOpened a now)
     opened_or_missed out rests event taken holder = subst (λ (z : SeatedActor C). IsCaller (seen z.me) z.thread → MatchOption out (HasMissed z now) (HasOpened z now)) was (by out event taken holder) rests
       where
-        by : (o : Option (KernelView C)) → MatchOption o (FailsToTake (first_of x.me.0) (account_of (seen x.me)) (account_of (seen me))) (λ _. Takes (first_of x.me.0) (account_of (seen x.me)) (account_of (seen me)))
+        by : (o : Option (KernelView C)) → MatchOption o (FailsToTake (first_of x.me.0) (account_of (seen x.me)) (lock_in x.me.0) (account_of (seen me)) (lock_in me.0)) (λ _. Takes (first_of x.me.0) (account_of (seen x.me)) (lock_in x.me.0) (account_of (seen me)) (lock_in me.0))
             → MatchOption o (seen me ≡ resting (lost_one (account_of (seen x.me)))) (λ k. TakenOut (seen x.me) k (seen me) × ComesFrom (first_of x.me.0) k)
             → MatchOption o ⊤ (λ k. HasTaken (account_of (seen x.me)).thread k.history me.0) → IsCaller (seen x.me) x.thread → MatchOption o (HasMissed x now) (HasOpened x now)
         by None event lost holder rests = record { same = same_aside; thread = refl; lost = lost; own = actor_kept; event = event }
@@ -94,15 +96,15 @@ module _ {C : Type 0} where
         }
 
     -- what came of a give
-    pub has_shut : (k : KernelView C) → IsHeld (seen a.me) a.thread k → seen me ≡ resting (up_to_date k.history (account_of (seen x.me))) → Gives (first_of x.me.0) (account_of (seen x.me)) k (account_of (seen me)) → HasShut a k now
+    pub has_shut : (k : KernelView C) → IsHeld (seen a.me) a.thread k → seen me ≡ resting (up_to_date k.history (account_of (seen x.me))) → Gives (first_of x.me.0) (account_of (seen x.me)) (lock_in x.me.0) k (account_of (seen me)) (lock_in me.0) → HasShut a k now
     has_shut k held given gave = subst (λ (z : SeatedActor C). IsHeld (seen z.me) z.thread k → HasShut z k now) was by held
       where
         by : IsHeld (seen x.me) x.thread k → HasShut x k now
         by held = record { same = same_aside; rests = gives_caller (seen x.me) (seen me) x.thread k held given; held = is.held; account = ap account_of given; event = gave }
 
   -- what a caller has beside its seat at the core is told by what it knows
-  pub same_actor : (m : MachineState C) (a : Account) (x : ActorState) → a.thread ≡ x.thread.0 → IsAccount a → Suits x a.seen → actor_of (caller_of m a x.staxes x.mutexes) ≡ x
-  same_actor m a x own is suits =
+  pub same_actor : (m : MachineState C) (a : Account) (l : LockView) (x : ActorState) → a.thread ≡ x.thread.0 → IsAccount a → Suits x a.seen → actor_of (caller_of m a l x.staxes x.mutexes) ≡ x
+  same_actor m a l x own is suits =
       let stage : stage_in a.seen a.thread ≡ x.stage = ap (stage_in a.seen) own ∙ sym suits.stage in
       let wait : unfinished_wait a.mine ≡ x.wait = ap unfinished_wait (sym is.mine ∙ ap (λ t. calls_by t a.seen.entries) own) ∙ sym suits.wait in
       λ i. record { thread = record { 0 = own i }; stage = stage i; wait = wait i; staxes = x.staxes; mutexes = x.mutexes }
@@ -153,10 +155,11 @@ module _ {C : Type 0} where
       told_after = given_account (saw k.history k.room a) k'.history continues
 
       -- what is told of the whole visit
-      pub visited : (m : MachineState C) (does : ActorState → KernelView C → ActorState → KernelView C → Type 0) (a' : Account) → m.first ≡ first → Suits x a.seen → AreOwnedAsRecorded x.thread.0 x.mutexes k.history → a' ≡ after → does x k x' k'
-          → Takes first a (account_of (seen me)) → Gives first (account_of (seen me)) k' a' → Visited (caller_of m a x.staxes x.mutexes) does (caller_of m a' x'.staxes x'.mutexes)
-      visited m does a' from suits owned is did took gave = record {
-        held = record { caller = shown k.history k.room (caller_of m a x.staxes x.mutexes); kernel = k };
+      pub visited : (m : MachineState C) (does : ActorState → KernelView C → ActorState → KernelView C → Type 0) (l : LockView) (a' : Account) (l' : LockView) → m.first ≡ first → Suits x a.seen → AreOwnedAsRecorded x.thread.0 x.mutexes k.history → a' ≡ after → does x k x' k'
+          → StepsOnWords (shown k.history k.room (lock_in me.0) (caller_of m a l x.staxes x.mutexes)) (record (shown k.history k.room (lock_in me.0) (caller_of m a l x.staxes x.mutexes)) { mutexes = x'.mutexes })
+          → Takes first a l (account_of (seen me)) (lock_in me.0) → Gives first (account_of (seen me)) (lock_in me.0) k' a' l' → Visited (caller_of m a l x.staxes x.mutexes) does (caller_of m a' l' x'.staxes x'.mutexes)
+      visited m does l a' l' from suits owned is did words took gave = record {
+        held = record { caller = shown k.history k.room (lock_in me.0) (caller_of m a l x.staxes x.mutexes); kernel = k };
         took = record {
           caller = refl;
           later = opens.fits.seen;
@@ -171,19 +174,20 @@ module _ {C : Type 0} where
         longer = went.longer;
         own = added_own;
         comes = went.comes;
-        back = λ i. caller_of m (is i) (went.staxes i) x'.mutexes;
+        back = λ i. caller_of m (is i) l' (went.staxes i) x'.mutexes;
         mine = ap (λ (y : Account). y.mine) is ∙ mine_after a k k' went.added opens.fits went.longer added_own;
         just = subst IsAccount (sym is) told_after;
         does = subst (λ (z : ActorState × ActorState). does z.0 k z.1 k') (λ i. (before i, now i)) did;
-        takes = subst (λ (z : KernelView C × Account). Takes z.0 a z.1) (λ i. (sym from i, opens.account i)) took;
-        gives = subst (λ (z : KernelView C × Account). Gives z.0 z.1 k' a') (λ i. (sym from i, opens.account i)) gave;
+        words = words;
+        takes = subst (λ (z : KernelView C × Account). Takes z.0 a l z.1 (lock_in me.0)) (λ i. (sym from i, opens.account i)) took;
+        gives = subst (λ (z : KernelView C × Account). Gives z.0 z.1 (lock_in me.0) k' a' l') (λ i. (sym from i, opens.account i)) gave;
       }
         where
-          before : x ≡ actor_of (caller_of m a x.staxes x.mutexes)
-          before = sym (same_actor m a x own opens.was suits)
+          before : x ≡ actor_of (caller_of m a l x.staxes x.mutexes)
+          before = sym (same_actor m a l x own opens.was suits)
 
-          now : x' ≡ actor_of (caller_of m a' x'.staxes x'.mutexes)
-          now = sym (same_actor m a' x' (ap (λ (y : Account). y.thread) is ∙ (own ∙ ap (λ (t : ThreadId). t.0) (sym went.thread))) (subst IsAccount (sym is) told_after) (subst (λ (h : History). Suits x' h) (sym (ap (λ (y : Account). y.seen) is)) went.suits))
+          now : x' ≡ actor_of (caller_of m a' l' x'.staxes x'.mutexes)
+          now = sym (same_actor m a' l' x' (ap (λ (y : Account). y.thread) is ∙ (own ∙ ap (λ (t : ThreadId). t.0) (sym went.thread))) (subst IsAccount (sym is) told_after) (subst (λ (h : History). Suits x' h) (sym (ap (λ (y : Account). y.seen) is)) went.suits))
 
       pub suits_after : (a' : Account) → a' ≡ after → Suits x' a'.seen
       suits_after a' is = subst (λ (h : History). Suits x' h) (sym (ap (λ (y : Account). y.seen) is)) went.suits
@@ -192,13 +196,15 @@ module _ {C : Type 0} where
       stage_after a' is = at_stage x' a'.seen a'.thread x'.staxes went.held (suits_after a' is) (ap (λ (y : Account). y.thread) is ∙ (own ∙ ap (λ (t : ThreadId). t.0) (sym went.thread)))
 
       -- the same of a caller whose machine is told by where its seats belong
-      pub visited_at : (id id' : TableId) (first' : KernelView C) (does : ActorState → KernelView C → ActorState → KernelView C → Type 0) (a' : Account) (old : CallerState C) → caller_of (machine_of id first x.staxes x.mutexes) a x.staxes x.mutexes ≡ old → id' ≡ id → first' ≡ first_of me.0 → Suits x a.seen → AreOwnedAsRecorded x.thread.0 x.mutexes k.history
-          → a' ≡ up_to_date k'.history (account_of (seen me)) → does x k x' k' → Takes first a (account_of (seen me)) → Gives (first_of me.0) (account_of (seen me)) k' a'
-          → Visited old does (caller_of (machine_of id' first' x'.staxes x'.mutexes) a' x'.staxes x'.mutexes)
-      visited_at id id' first' does a' old was same from suits owned is did took gave =
+      pub visited_at : (id id' : TableId) (first' : KernelView C) (does : ActorState → KernelView C → ActorState → KernelView C → Type 0) (l : LockView) (a' : Account) (l' : LockView) (old : CallerState C) → caller_of (machine_of id first x.staxes x.mutexes) a l x.staxes x.mutexes ≡ old → id' ≡ id → first' ≡ first_of me.0 → Suits x a.seen → AreOwnedAsRecorded x.thread.0 x.mutexes k.history
+          → a' ≡ up_to_date k'.history (account_of (seen me)) → does x k x' k'
+          → StepsOnWords (shown k.history k.room (lock_in me.0) (caller_of (machine_of id first x.staxes x.mutexes) a l x.staxes x.mutexes)) (record (shown k.history k.room (lock_in me.0) (caller_of (machine_of id first x.staxes x.mutexes) a l x.staxes x.mutexes)) { mutexes = x'.mutexes })
+          → Takes first a l (account_of (seen me)) (lock_in me.0) → Gives (first_of me.0) (account_of (seen me)) (lock_in me.0) k' a' l'
+          → Visited old does (caller_of (machine_of id' first' x'.staxes x'.mutexes) a' l' x'.staxes x'.mutexes)
+      visited_at id id' first' does l a' l' old was same from suits owned is did words took gave =
           let machine : machine_of id' first' x'.staxes x'.mutexes ≡ machine_of id first x.staxes x.mutexes = λ i. record { id = same i; first = (from ∙ opens.first_is) i; staxes = map stax_home (went.staxes i); mutexes = went.homes i } in
-          subst (λ (z : CallerState C × MachineState C). Visited z.0 does (caller_of z.1 a' x'.staxes x'.mutexes)) (λ i. (was i, sym machine i))
-          (visited (machine_of id first x.staxes x.mutexes) does a' refl suits owned (is ∙ ap (up_to_date k'.history) opens.account) did took (subst (λ (f : KernelView C). Gives f (account_of (seen me)) k' a') opens.first_is gave))
+          subst (λ (z : CallerState C × MachineState C). Visited z.0 does (caller_of z.1 a' l' x'.staxes x'.mutexes)) (λ i. (was i, sym machine i))
+          (visited (machine_of id first x.staxes x.mutexes) does l a' l' refl suits owned (is ∙ ap (up_to_date k'.history) opens.account) did words took (subst (λ (f : KernelView C). Gives f (account_of (seen me)) (lock_in me.0) k' a' l') opens.first_is gave))
 
       pub stage_at : (a' : Account) → a' ≡ up_to_date k'.history (account_of (seen me)) → AreHeldAt (stage_in a'.seen a'.thread) x'.staxes
       stage_at a' is = stage_after a' (is ∙ ap (up_to_date k'.history) opens.account)
@@ -222,8 +228,8 @@ stage_resting a held rests = at_stage (acting a) (account_of (seen a.me)).seen (
 
 -- a caller that didn't find the kernel has lost one take more
 module _ {C : Type 0} {x n : SeatedActor C} (missed : HasMissed x n) where
-  pub caller_lost : caller_by n ≡ turned_away (caller_by x)
-  caller_lost = let same = missed.same in λ i. caller_of (machine_of (same.0 i) (same.2 i) (same.1 i).staxes (same.1 i).mutexes) (account_of (missed.lost i)) (same.1 i).staxes (same.1 i).mutexes
+  pub caller_lost : caller_by n ≡ turned_away (lock_in n.me.0) (caller_by x)
+  caller_lost = let same = missed.same in λ i. caller_of (machine_of (same.0 i) (same.2 i) (same.1 i).staxes (same.1 i).mutexes) (account_of (missed.lost i)) (lock_in n.me.0) (same.1 i).staxes (same.1 i).mutexes
 
   pub suits_lost : Suits (acting x) (account_of (seen x.me)).seen → Suits (acting n) (account_of (seen n.me)).seen
   suits_lost suits = subst (λ (z : ActorState × CoreMe (KernelView C)). Suits z.0 (account_of z.1).seen) (λ i. (sym missed.same.1 i, sym missed.lost i)) suits
@@ -241,7 +247,7 @@ module _ {C : Type 0} {x n : SeatedActor C} (missed : HasMissed x n) where
   finds_taken was = subst (λ (z : CallerState C). FindsTaken z (caller_by n)) was (caller_lost, missed.event)
 
 pub same_core : {C : Type 0} (me me' : KernelMe C) → me' ≡ me → TellsTheSame me me'
-same_core me me' same = record { core = ap seen same; first = ap (λ (m : KernelMe _). first_of m.0) same }
+same_core me me' same = record { core = ap seen same; first = ap (λ (m : KernelMe _). first_of m.0) same; lock = ap (λ (m : KernelMe _). lock_in m.0) same }
 
 -- an actor after a step on a mutex's word
 pub actor_at_mutexes : {C : Type 0} (a : SeatedActor C) (id : TableId) (first : KernelView C) (table : TableId) (me : KernelMe C) (places : List MutexPlace) → IsActor a → a.table ≡ id → first_of a.me.0 ≡ first → TellsTheSame a.me me → IsAtTable id first table me.0 places → IsActor (record a { table = table; me = me; places = places })
@@ -289,14 +295,14 @@ has_taken_it {C} {m} {x} {o} {k} opened suits is fits =
     )
 
 pub took_it : {C : Type 0} {m : MachineState C} {x o : SeatedActor C} {k : KernelView C} {old : CallerState C} → HasOpened x o k → caller_by x ≡ old → old.machine ≡ m → AreOwnedAsRecorded (acting o).thread.0 (acting o).mutexes k.history
-    → TookKernel old (record { caller = caller_of m (account_of (seen o.me)) o.staxes (acting o).mutexes; kernel = k })
+    → TookKernel old (record { caller = caller_of m (account_of (seen o.me)) (lock_in o.me.0) o.staxes (acting o).mutexes; kernel = k })
 took_it {C} {m} {x} {o} {k} {old} opened was is owned =
     let a = account_of (seen x.me) in
     let opens = opened.opens in
     let same = opened.same.1 in
-    subst (λ (z : CallerState C). TookKernel z (record { caller = caller_of m (account_of (seen o.me)) o.staxes (acting o).mutexes; kernel = k })) was
+    subst (λ (z : CallerState C). TookKernel z (record { caller = caller_of m (account_of (seen o.me)) (lock_in o.me.0) o.staxes (acting o).mutexes; kernel = k })) was
     record {
-      caller = λ i. caller_of (sym (ap (λ (s : CallerState C). s.machine) was ∙ is) i) (opens.account i) (same i).staxes (same i).mutexes;
+      caller = λ i. caller_of (sym (ap (λ (s : CallerState C). s.machine) was ∙ is) i) (opens.account i) (lock_in o.me.0) (same i).staxes (same i).mutexes;
       later = opens.fits.seen;
       just = opens.held.continues.before;
       stage = fits_stage a k.history opens.was opens.fits;
@@ -310,13 +316,13 @@ module _ {C : Type 0} (m : MachineState C) (a n : SeatedActor C) (k : KernelView
   pub given_suits : Suits (acting n) (account_of (seen n.me)).seen
   given_suits = subst (λ (z : ActorState × Account). Suits z.0 z.1.seen) (λ i. (sym given.1 i, sym now i)) has.3
 
-  pub given_back : (h : HeldState C) → record { caller = caller_of m (account_of (seen a.me)) a.staxes (acting a).mutexes; kernel = k } ≡ h → caller_by n ≡ returned h.kernel.history h.caller
+  pub given_back : (h : HeldState C) → record { caller = caller_of m (account_of (seen a.me)) (lock_in a.me.0) a.staxes (acting a).mutexes; kernel = k } ≡ h → caller_by n ≡ returned h.kernel.history (lock_in n.me.0) h.caller
   given_back h is =
-      (λ i. caller_of ((machine ∙ sym has.0) i) (now i) (given.1 i).staxes (given.1 i).mutexes) ∙ ap (λ (h : HeldState C). returned h.kernel.history h.caller) is
+      (λ i. caller_of ((machine ∙ sym has.0) i) (now i) (lock_in n.me.0) (given.1 i).staxes (given.1 i).mutexes) ∙ ap (λ (h : HeldState C). returned h.kernel.history (lock_in n.me.0) h.caller) is
     where
       machine : machine_by n ≡ machine_by a
       machine = λ i. machine_of (given.0 i) (given.2 i) (given.1 i).staxes (given.1 i).mutexes
 
-  pub given_event : (h : HeldState C) → record { caller = caller_of m (account_of (seen a.me)) a.staxes (acting a).mutexes; kernel = k } ≡ h → Gives (first_of a.me.0) (account_of (seen a.me)) k (account_of (seen n.me)) → Gives h.caller.machine.first h.caller.account h.kernel (account_of (seen n.me))
-  given_event h is gave = subst (λ (h : HeldState C). Gives h.caller.machine.first h.caller.account h.kernel (account_of (seen n.me))) is
-      (subst (λ (f : KernelView C). Gives f (account_of (seen a.me)) k (account_of (seen n.me))) (sym (ap (λ (m : MachineState C). m.first) has.0)) gave)
+  pub given_event : (h : HeldState C) → record { caller = caller_of m (account_of (seen a.me)) (lock_in a.me.0) a.staxes (acting a).mutexes; kernel = k } ≡ h → Gives (first_of a.me.0) (account_of (seen a.me)) (lock_in a.me.0) k (account_of (seen n.me)) (lock_in n.me.0) → Gives h.caller.machine.first h.caller.account h.caller.lock h.kernel (account_of (seen n.me)) (lock_in n.me.0)
+  given_event h is gave = subst (λ (h : HeldState C). Gives h.caller.machine.first h.caller.account h.caller.lock h.kernel (account_of (seen n.me)) (lock_in n.me.0)) is
+      (subst (λ (f : KernelView C). Gives f (account_of (seen a.me)) (lock_in a.me.0) k (account_of (seen n.me)) (lock_in n.me.0)) (sym (ap (λ (m : MachineState C). m.first) has.0)) gave)

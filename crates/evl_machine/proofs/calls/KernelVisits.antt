@@ -11,7 +11,7 @@ use Rattle.evl_pipeline.specs.declared.plan.Plan.{Plan}
 use Rattle.evl_kernel.specs.state.Callbacks.{AnswersByPlan}
 use Rattle.evl_kernel.specs.state.KernelViews.{KernelView}
 use Rattle.evl_core.specs.declared.views.Account.{Account}
-use Rattle.evl_core.specs.accounts.Accounts.{IsAccount, up_to_date}
+use Rattle.evl_core.specs.accounts.Accounts.{IsAccount, saw, up_to_date}
 use Rattle.evl_machine.specs.callers.Actors.{ActorState, AreHeldAt, IsSameActor, SeatedActor, Suits, acting, call_refusal, stage_in}
 use Rattle.evl_machine.specs.callers.Callers.{IsResting, caller_by, machine_by}
 use Rattle.evl_machine.specs.calls.Calls.{ActsOnCore, Answered, AreOwnedAsRecorded}
@@ -19,11 +19,13 @@ use Rattle.evl_core.specs.accounts.KernelCalls.{Applied}
 use Rattle.evl_core.specs.accounts.Seats.{IsHeld, account_of, CoreMe}
 use Rattle.evl_core.specs.rule.Ceilings.{has_ceiling}
 use Rattle.evl_core.specs.worlds.Events.{Gives}
-use Rattle.evl_machine.specs.callers.Handles.{CallerState, MachineState, caller_of, machine_of}
-use Rattle.evl_core.specs.words.Homes.{mutex_home}
+use Rattle.evl_machine.specs.callers.Handles.{CallerState, MachineState, caller_of, machine_of, shown}
+use Rattle.evl_machine.specs.callers.OneSteps.{MakesSome, StepsOnWords}
+use Rattle.evl_core.specs.words.Homes.{mutex_home, stax_home}
 use Rattle.evl_machine.specs.callers.InHand.{HasOpened, HasShut, MayShut}
 use Rattle.evl_machine.specs.callers.JustTaken.{HasJustTaken}
-use Rattle.evl_core.specs.rule.Known.{ComesFrom, KernelMe, first_of, seen}
+use Rattle.evl_core.specs.rule.Known.{ComesFrom, KernelMe, first_of, seen, lock_in}
+use Rattle.evl_core.specs.lock.Lock.{LockView}
 use Rattle.evl_machine.specs.mutex_locks.Locking.{GoesAlong}
 use Rattle.evl_machine.specs.mutex_locks.MutexLocks.{kind_of}
 use Rattle.evl_core.specs.words.MutexTokens.{TellsTheSame}
@@ -33,6 +35,7 @@ use Rattle.evl_machine.proofs.callers.Calling.{calls, took_and_gave}
 use Rattle.evl_core.proofs.accounts.Knowing.{answers_still}
 use Rattle.evl_machine.proofs.mutex_locks.LockingLaws.{along_call, along_none, same_kernel, the_same}
 use Rattle.evl_machine.proofs.mutex_locks.LockingTies.{other_settled, same_settled}
+use Rattle.evl_machine.proofs.callers.OneSteps.{none_made, steps_on_words}
 use Rattle.evl_machine.proofs.callers.Opened.{just_took, owned_seats}
 use Rattle.evl_machine.proofs.callers.Visits.{same_core, stage_at, still_comes, still_held, suits_after, suits_opened, visited_at}
 
@@ -50,6 +53,7 @@ module _ {C : Type 0} where
     pub table : x'.table ≡ o.table
     pub along : GoesAlong (acting o) k (acting x') k'
     pub settled : IsSettled x'.me.0 k'.history.state
+    pub made : MakesSome o.me.0 x'.me.0
 
   -- its token is the same
   pub does_call : (o x' : SeatedActor C) {k k' : KernelView C} {c : Call} {r : Result Reply Refusal} → (x'.table ≡ o.table) × (x'.me ≡ o.me) × (x'.places ≡ o.places) → IsSameActor (acting o) (acting x') → Applied k o.thread.0 c r k'
@@ -59,6 +63,7 @@ module _ {C : Type 0} where
     table = seat.0;
     along = along_call (acting o) (acting o) refl k k (acting o).mutexes c r (acting x') k' (same_kernel k) (the_same (acting o).mutexes) done same suits held;
     settled = subst (λ (m : KernelMe C). IsSettled m.0 k'.history.state) (sym seat.1) (other_settled o k just k' c r stax mutex free done);
+    made = none_made o.me x'.me seat.1;
   }
 
   module _ {x o : SeatedActor C} {k : KernelView C} (opened : HasOpened x o k) where
@@ -74,6 +79,7 @@ module _ {C : Type 0} where
         table = refl;
         along = along_none (acting o) (acting o) refl k k (acting o).mutexes (same_kernel k) opened.own.held (suits_opened opened suits) opened.opens.held.continues.legal (the_same (acting o).mutexes);
         settled = same_settled o k (just_took opened suits refl fits) k.history refl;
+        made = none_made o.me o.me refl;
       }
 
       module _ {x' : SeatedActor C} {k' : KernelView C} (did : HasDone o k x' k') where
@@ -105,8 +111,18 @@ module _ {C : Type 0} where
           pub rests_back : IsResting n
           rests_back = (shut.rests, suits_back)
 
-          gives : Gives (first_of x'.me.0) (account_of (seen o.me)) k' (account_of (seen n.me))
-          gives = subst (λ (m : CoreMe (KernelView C)). Gives (first_of x'.me.0) (account_of m) k' (account_of (seen n.me))) did.core.core shut.event
+          gives : Gives (first_of x'.me.0) (account_of (seen o.me)) (lock_in o.me.0) k' (account_of (seen n.me)) (lock_in n.me.0)
+          gives = subst (λ (z : CoreMe (KernelView C) × LockView). Gives (first_of x'.me.0) (account_of z.0) z.1 k' (account_of (seen n.me)) (lock_in n.me.0)) (λ i. (did.core.core i, did.core.lock i)) shut.event
+
+          -- its steps on words are those of its caller
+          words : StepsOnWords (shown k.history k.room (lock_in o.me.0) (caller_by x)) (record (shown k.history k.room (lock_in o.me.0) (caller_by x)) { mutexes = (acting x').mutexes })
+          words =
+              let first : first_of x'.me.0 ≡ first_of x.me.0 = did.core.first ∙ opened.opens.first_is in
+              let taken = opened.same.1 in
+              let account : account_of (seen x'.me) ≡ saw k.history k.room (account_of (seen x.me)) = ap account_of did.core.core ∙ opened.opens.account in
+              let before : caller_by o ≡ shown k.history k.room (lock_in o.me.0) (caller_by x) = λ i. caller_of (machine_of (opened.same.0 i) (opened.opens.first_is i) (taken i).staxes (taken i).mutexes) (opened.opens.account i) (lock_in o.me.0) (taken i).staxes (taken i).mutexes in
+              let after : caller_by x' ≡ record (shown k.history k.room (lock_in o.me.0) (caller_by x)) { mutexes = (acting x').mutexes } = λ i. caller_of (record { id = (did.table ∙ opened.same.0) i; first = first i; staxes = map stax_home (along.staxes i); mutexes = along.homes i }) (account i) (did.core.lock i) (along.staxes i) (acting x').mutexes in
+              subst (λ (z : CallerState C × CallerState C). StepsOnWords z.0 z.1) (λ i. (before i, after i)) (steps_on_words o x' opened.own.places.its did.made)
 
           -- what is told of the visit
           pub visited : {old : CallerState C} {does : ActorState → KernelView C → ActorState → KernelView C → Type 0} → caller_by x ≡ old → does (acting o) k (acting x') k' → Visited old does (caller_by n)
@@ -114,9 +130,9 @@ module _ {C : Type 0} where
               let a = account_of (seen n.me) in
               let first : first_of n.me.0 ≡ first_of o.me.0 = shut.same.2 ∙ did.core.first in
               let owned : AreOwnedAsRecorded (acting x).thread.0 (acting x).mutexes k.history = subst (λ (z : ActorState). AreOwnedAsRecorded z.thread.0 z.mutexes k.history) opened.same.1 (owned_seats opened) in
-              subst (λ (z : ActorState). Visited old does (caller_of (machine_of n.table (first_of n.me.0) z.staxes z.mutexes) a z.staxes z.mutexes)) (sym shut.same.1)
-              (visited_at (first_of x.me.0) (account_of (seen x.me)) (acting x) o.me k opened.opens (acting x') k' along x.table n.table (first_of n.me.0) does a old was (shut.same.0 ∙ did.table ∙ opened.same.0) first suits owned account
-              (subst (λ (z : ActorState). does z k (acting x') k') opened.same.1 done) opened.event (subst (λ (f : KernelView C). Gives f (account_of (seen o.me)) k' a) did.core.first gives))
+              subst (λ (z : ActorState). Visited old does (caller_of (machine_of n.table (first_of n.me.0) z.staxes z.mutexes) a (lock_in n.me.0) z.staxes z.mutexes)) (sym shut.same.1)
+              (visited_at (first_of x.me.0) (account_of (seen x.me)) (acting x) o.me k opened.opens (acting x') k' along x.table n.table (first_of n.me.0) does (lock_in x.me.0) a (lock_in n.me.0) old was (shut.same.0 ∙ did.table ∙ opened.same.0) first suits owned account
+              (subst (λ (z : ActorState). does z k (acting x') k') opened.same.1 done) words opened.event (subst (λ (f : KernelView C). Gives f (account_of (seen o.me)) (lock_in o.me.0) k' a (lock_in n.me.0)) did.core.first gives))
 
           -- and of a call
           module _ {c : Call} {r : Result Reply Refusal} (done : Applied k o.thread.0 c r k') where
@@ -127,8 +143,8 @@ module _ {C : Type 0} where
                 subst (λ (y : Account). Answered (first_of x.me.0).limit (account_of (seen x.me)) c r y) (sym (account ∙ ap (up_to_date k'.history) opens.account))
                 (calls (first_of x.me.0).limit (account_of (seen x.me)) c r k k' opens.comes.limit opens.was opens.fits (subst IsAccount opens.account opens.held.continues.before) (subst (λ (t : ℕ). Applied k t c r k') (ap (λ (t : ThreadId). t.0) opened.thread ∙ own) done))
 
-            pub acted_by : ActsOnCore (first_of x.me.0) (account_of (seen x.me)) r (account_of (seen n.me))
-            acted_by = took_and_gave (first_of x.me.0) (first_of x'.me.0) (account_of (seen x.me)) (account_of (seen o.me)) (account_of (seen n.me)) r k' done.answers opened.event (did.core.first ∙ opened.opens.first_is) gives
+            pub acted_by : ActsOnCore (first_of x.me.0) (account_of (seen x.me)) (lock_in x.me.0) r (account_of (seen n.me)) (lock_in n.me.0)
+            acted_by = took_and_gave (first_of x.me.0) (first_of x'.me.0) (account_of (seen x.me)) (lock_in x.me.0) (account_of (seen o.me)) (lock_in o.me.0) (account_of (seen n.me)) (lock_in n.me.0) r k' done.answers opened.event (did.core.first ∙ opened.opens.first_is) gives
 
 -- the caller of a machine, of which this is told
 module _ {C : Type 0} (old : CallerState C) {told m : MachineState C} (belongs : old.machine ≡ m) (same : told ≡ m) where

@@ -13,6 +13,7 @@ use Rattle.evl_machine.specs.declared.unfinished.Unfinished.{Unfinished}
 use Rattle.evl_machine.specs.declared.unfinished.Unfinished.TheVariants.{Element}
 use Rattle.evl_machine.specs.declared.unfinished.WaitStep.{WaitStep}
 use Rattle.evl_machine.specs.declared.unfinished.WaitStep.TheVariants.{Begins}
+use Rattle.evl_core.specs.lock.Lock.{LockView}
 use Rattle.evl_core.specs.declared.views.Account.{Account}
 use Rattle.evl_core.specs.accounts.Accounts.{IsAccount, up_to_date}
 use Rattle.evl_machine.specs.callers.Actors.{SeatedActor, call_refusal, keeps_stage, same_truth}
@@ -20,7 +21,7 @@ use Rattle.evl_machine.specs.calls.Calls.{Called, CalledAtLast, Enters, IsTurned
 use Rattle.evl_machine.specs.callers.Handles.{CallerState}
 use Rattle.evl_core.specs.accounts.Seats.{account_of}
 use Rattle.evl_machine.specs.callers.InHand.{Opens}
-use Rattle.evl_core.specs.rule.Known.{KernelMe, first_of, seen}
+use Rattle.evl_core.specs.rule.Known.{KernelMe, first_of, seen, lock_in}
 use Rattle.evl_core.specs.words.MutexSeats.{holds_mutex}
 use Rattle.evl_machine.specs.stax_locks.StaxSeats.{holds_stax}
 use Rattle.evl_machine.specs.callers.Unfinished.{unfinished_wait, unfinished_from, wait_after, wait_step}
@@ -30,37 +31,37 @@ use Rattle.evl_machine.proofs.callers.Calling.{took}
 use Rattle.evl_machine.proofs.callers.Staying.{fits_stage}
 
 module _ {C : Type 0} (first : KernelView C) where
-  looks_by_more : (a : Account) (xs : List Account) (b : Account) (ys : List Account) (c : Account) → LooksBy first a xs b → LooksBy first b ys c → LooksBy first a (xs ++ ys) c
-  looks_by_more a [] b ys c same more = subst (λ (x : Account). LooksBy first x ys c) same more
-  looks_by_more a (x ∷ xs) b ys c (one, rest) more = (one, looks_by_more x xs b ys c rest more)
+  looks_by_more : (a : Account) (l : LockView) (xs : List (Account × LockView)) (b : Account) (m : LockView) (ys : List (Account × LockView)) (c : Account) (n : LockView) → LooksBy first a l xs b m → LooksBy first b m ys c n → LooksBy first a l (xs ++ ys) c n
+  looks_by_more a l [] b m ys c n same more = subst (λ (z : Account × LockView). LooksBy first z.0 z.1 ys c n) (λ i. (same.0 i, same.1 i)) more
+  looks_by_more a l (x ∷ xs) b m ys c n (one, rest) more = (one, looks_by_more x.0 x.1 xs b m ys c n rest more)
 
   -- looks, and then looks
-  pub looks_more : (a b c : Account) → Looks first a b → Looks first b c → Looks first a c
-  looks_more a b c (xs, before) (ys, after) = (xs ++ ys, looks_by_more a xs b ys c before after)
+  pub looks_more : (a : Account) (l : LockView) (b : Account) (m : LockView) (c : Account) (n : LockView) → Looks first a l b m → Looks first b m c n → Looks first a l c n
+  looks_more a l b m c n (xs, before) (ys, after) = (xs ++ ys, looks_by_more a l xs b m ys c n before after)
 
   -- looks and lost takes leave the caller's own calls
-  mine_stays : (a : Account) (xs : List Account) (b : Account) → LooksBy first a xs b → b.mine ≡ a.mine
-  mine_stays a [] b same = ap (λ (x : Account). x.mine) same
-  mine_stays a (x ∷ xs) b (one, rest) = mine_stays x xs b rest
-      ∙ ⊎_elim (λ (look : Look first a x). ap (λ (y : Account). y.mine) look.now) (λ (fails : FailsToTake first a x). ap (λ (y : Account). y.mine) fails.0) one
+  mine_stays : (a : Account) (l : LockView) (xs : List (Account × LockView)) (b : Account) (m : LockView) → LooksBy first a l xs b m → b.mine ≡ a.mine
+  mine_stays a l [] b m same = ap (λ (x : Account). x.mine) same.0
+  mine_stays a l (x ∷ xs) b m (one, rest) = mine_stays x.0 x.1 xs b m rest
+      ∙ ⊎_elim (λ (look : Look first a l x.0 x.1). ap (λ (y : Account). y.mine) look.now) (λ (fails : FailsToTake first a l x.0 x.1). ap (λ (y : Account). y.mine) fails.0) one
 
-  pub lost_mine : (a : Account) (lost : List Account) (b : Account) → LosesTakes first a lost b → b.mine ≡ a.mine
-  lost_mine a [] b same = ap (λ (x : Account). x.mine) same
-  lost_mine a (x ∷ xs) b (rest, fails) = ap (λ (y : Account). y.mine) fails.0 ∙ lost_mine a xs x rest
+  pub lost_mine : (a : Account) (l : LockView) (lost : List (Account × LockView)) (b : Account) (m : LockView) → LosesTakes first a l lost b m → b.mine ≡ a.mine
+  lost_mine a l [] b m same = ap (λ (x : Account). x.mine) same.0
+  lost_mine a l (x ∷ xs) b m (rest, fails) = ap (λ (y : Account). y.mine) fails.0 ∙ lost_mine a l xs x.0 x.1 rest
 
   -- a take that was lost, of a caller that looks
-  pub look_lost : (a a' : Account) → FailsToTake first a a' → Looks first a a'
-  look_lost a a' fails = (a' ∷ [], (inr fails, refl))
+  pub look_lost : (a : Account) (l : LockView) (a' : Account) (l' : LockView) → FailsToTake first a l a' l' → Looks first a l a' l'
+  look_lost a l a' l' fails = ((a', l') ∷ [], (inr fails, (refl, refl)))
 
 module _ {C : Type 0} where
   -- what a caller knows that took the kernel and gave it back, between which no call was made
-  pub look_opened : (first : KernelView C) (a : Account) (thread : ThreadId) (me : KernelMe C) (k : KernelView C) → Opens first a thread me k → has_ended k.history.state thread.0 ≡ false → (a' : Account) → a' ≡ up_to_date k.history (account_of (seen me))
-      → Takes first a (account_of (seen me)) → Gives (first_of me.0) (account_of (seen me)) k a' → Looks first a a'
-  look_opened first a thread me k opens going a' now takes gives =
+  pub look_opened : (first : KernelView C) (a : Account) (l : LockView) (thread : ThreadId) (me : KernelMe C) (k : KernelView C) → Opens first a thread me k → has_ended k.history.state thread.0 ≡ false → (a' : Account) (l' : LockView) → a' ≡ up_to_date k.history (account_of (seen me))
+      → Takes first a l (account_of (seen me)) (lock_in me.0) → Gives (first_of me.0) (account_of (seen me)) (lock_in me.0) k a' l' → Looks first a l a' l'
+  look_opened first a l thread me k opens going a' l' now takes gives =
       let f = opens.fits in
       let own : a.thread ≡ thread.0 = sym (ap (λ (y : Account). y.thread) opens.account) ∙ opens.held.own in
       let same : a' ≡ took k a = now ∙ (ap (up_to_date k.history) opens.account ∙ (λ i. record (took k a) { mine = f.mine i })) in
-      let one : Look first a (took k a) = record {
+      let one : Look first a l (took k a) l' = record {
         room = k.room;
         now = refl;
         later = f.seen;
@@ -68,11 +69,12 @@ module _ {C : Type 0} where
         goes_on = ap (has_ended k.history.state) own ∙ going;
         account = subst IsAccount opens.account opens.held.continues.before;
         held = account_of (seen me);
+        between = lock_in me.0;
         kernel = k;
         takes = takes;
-        gives = subst (λ (z : KernelView C × Account). Gives z.0 (account_of (seen me)) k z.1) (λ i. (opens.first_is i, same i)) gives;
+        gives = subst (λ (z : KernelView C × Account). Gives z.0 (account_of (seen me)) (lock_in me.0) k z.1 l') (λ i. (opens.first_is i, same i)) gives;
       } in
-      subst (Looks first a) (sym same) (took k a ∷ [], (inl one, refl))
+      subst (λ (y : Account). Looks first a l y l') (sym same) ((took k a, l') ∷ [], (inl one, (refl, refl)))
 
   -- what the kernel's reader told of a wait
   pub goes_on : (k read : KernelView C) (x a : SeatedActor C) (b : Bool) → x ≡ a → read ≡ k → b ≡ has_ended read.history.state x.thread.0 → b ≡ false → has_ended k.history.state a.thread.0 ≡ false
@@ -100,13 +102,13 @@ module _ {C : Type 0} where
 
   pub looked_more : (a b c : CallerState C) → Looked a b → Looked b c → Looked a c
   looked_more a b c (same, before) (still, after) = (
-    still ∙ (λ i. record (same i) { account = c.account }),
-    looks_more a.machine.first a.account b.account c.account before (subst (λ (s : CallerState C). Looks s.machine.first b.account c.account) same after),
+    still ∙ (λ i. record (same i) { account = c.account; lock = c.lock }),
+    looks_more a.machine.first a.account a.lock b.account b.lock c.account c.lock before (subst (λ (s : CallerState C). Looks s.machine.first b.account b.lock c.account c.lock) same after),
   )
 
   -- a caller that has looked waits for what it waited for
   pub still_waits : (old over : CallerState C) → wait_of_caller old ≡ Some Element → Looked old over → wait_of_caller over ≡ Some Element
-  still_waits old over waits looked = ap unfinished_wait (mine_stays old.machine.first old.account looked.1.0 over.account looked.1.1) ∙ waits
+  still_waits old over waits looked = ap unfinished_wait (mine_stays old.machine.first old.account old.lock looked.1.0 over.account over.lock looked.1.1) ∙ waits
 
   -- a caller that has looked finishes its wait
   pub waits_out : (limit : ℕ) (old over : CallerState C) (r : Result Reply Refusal) (new : CallerState C) → wait_of_caller old ≡ Some Element → Looked old over → KernelCall limit over (finish_of over) r new → r ≢ Err Again → WaitsOut limit old r new

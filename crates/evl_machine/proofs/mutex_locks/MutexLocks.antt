@@ -18,7 +18,7 @@ use Rattle.evl_machine.specs.declared.locking.Begun.TheVariants.{Locked}
 use Rattle.evl_machine.specs.declared.unfinished.Unfinished.{Unfinished}
 use Rattle.evl_machine.specs.callers.Actors.{ActorState, SeatedActor, acting}
 use Rattle.evl_machine.specs.callers.Callers.{IsResting, caller_by, machine_by}
-use Rattle.evl_core.specs.rule.Known.{seen}
+use Rattle.evl_core.specs.rule.Known.{seen, lock_in}
 use Rattle.evl_core.specs.words.AtSeats.{AtSeat}
 use Rattle.evl_core.specs.rule.Ceilings.{has_ceiling}
 use Rattle.evl_machine.specs.callers.Handles.{CallerState, MachineState}
@@ -44,7 +44,7 @@ module _ {C : Type 0} where
   -- what a caller is refused by what it has itself is what its actor is refused
   pub own_lock_is : (x : SeatedActor C) (old : CallerState C) (kind : Option MutexKind) (m : MutexId) (o : Option Refusal) → caller_by x ≡ old → IsResting x → kind ≡ kind_of old m → lock_refusal kind x.wait x.stage (depth_at (acting x).mutexes m.0) ≡ o → own_lock_refusal old m ≡ o
   own_lock_is x old kind m o was rests same is =
-      let actor : actor_of old ≡ acting x = ap actor_of (sym was) ∙ same_actor (machine_by x) (account_of (seen x.me)) (acting x) rests.0.own rests.0.account rests.1 in
+      let actor : actor_of old ≡ acting x = ap actor_of (sym was) ∙ same_actor (machine_by x) (account_of (seen x.me)) (lock_in x.me.0) (acting x) rests.0.own rests.0.account rests.1 in
       (λ i. lock_refusal (sym same i) (actor i).wait (actor i).stage (depth_at (actor i).mutexes m.0)) ∙ is
 
   -- a lock that begins with the kernel, where the caller refuses nothing and doesn't have the mutex

@@ -11,7 +11,7 @@ use Rattle.evl_words.specs.declared.mutex.Unlock.TheVariants.{Claimed, Done}
 use Rattle.evl_core.specs.words.AtSeats.{AtSeat}
 use Rattle.evl_machine.specs.callers.Handles.{CallerState}
 use Rattle.evl_core.specs.words.Homes.{mutex_home}
-use Rattle.evl_machine.specs.mutex_locks.MutexLocks.{HandsOn, MutexCall, UnlocksAtWord}
+use Rattle.evl_machine.specs.mutex_locks.MutexLocks.{HandsOn, SpendsAtWord, UnlocksAtWord}
 use Rattle.evl_core.specs.words.MutexTokens.{AreTheSame}
 use Rattle.evl_core.specs.words.MutexSeats.{HasOnce, UnlocksMutex, UnlocksSo, is_owner, pass_refusal, unlock_refusal}
 use Rattle.evl_core.proofs.words.SeatLists.{set_there, same-at}
@@ -68,14 +68,14 @@ module _ (old new : List MutexSeatState) (pass back : MutexPass) (own : unlock_r
 
 -- the word was claimed, and the mutex handed on by the kernel
 pub unlocked_by_kernel : {C : Type 0} (old found new : CallerState C) (pass back : MutexPass) (r : Result (Unit {0}) (Refusal × MutexPass)) (u : Unlock) → unlock_refusal old.mutexes pass ≡ None → u ≡ Claimed back
-    → MutexCall old (λ was is. UnlocksMutex was pass (Ok u) is) found → HandsOn found back r new → UnlocksAtWord old pass r new
+    → SpendsAtWord old pass u found → HandsOn found back r new → UnlocksAtWord old pass r new
 unlocked_by_kernel old found new pass back r u own told call handed =
     let at_seats : UnlocksMutex old.mutexes pass (was_claimed back) found.mutexes = subst (λ (u : Unlock). UnlocksMutex old.mutexes pass (Ok u) found.mutexes) told call.1 in
     let is : back ≡ pass = comes_back old.mutexes found.mutexes pass back own (was_claimed back) refl at_seats in
-    inr (found, (call.0, subst (λ (p : MutexPass). UnlocksMutex old.mutexes pass (was_claimed p) found.mutexes) is at_seats), subst (λ (p : MutexPass). HandsOn found p r new) is handed)
+    inr (found, (call.0, subst (λ (p : MutexPass). UnlocksMutex old.mutexes pass (was_claimed p) found.mutexes) is at_seats, call.2), subst (λ (p : MutexPass). HandsOn found p r new) is handed)
 
 -- a caller still has it once then
-pub still_has : {C : Type 0} (old found : CallerState C) (pass back : MutexPass) (u : Unlock) → unlock_refusal old.mutexes pass ≡ None → u ≡ Claimed back → MutexCall old (λ was is. UnlocksMutex was pass (Ok u) is) found → AreTheSame old.mutexes found.mutexes → HasOnce found.mutexes back
+pub still_has : {C : Type 0} (old found : CallerState C) (pass back : MutexPass) (u : Unlock) → unlock_refusal old.mutexes pass ≡ None → u ≡ Claimed back → SpendsAtWord old pass u found → AreTheSame old.mutexes found.mutexes → HasOnce found.mutexes back
 still_has old found pass back u own told call seats =
     let at_seats : UnlocksMutex old.mutexes pass (was_claimed back) found.mutexes = subst (λ (u : Unlock). UnlocksMutex old.mutexes pass (Ok u) found.mutexes) told call.1 in
     claimed_once old.mutexes found.mutexes pass back own (was_claimed back) refl at_seats seats.homes seats.numbers

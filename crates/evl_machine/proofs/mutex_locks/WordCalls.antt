@@ -5,8 +5,9 @@ use Rattle.std.proofs.lemmas.Bool.Decides.{nat_tests}
 use Rattle.std.proofs.lemmas.Option.{none-some, slice_get-map}
 use Rattle.atomic_table.specs.Seated.{TableId}
 use Rattle.evl_base.specs.declared.mutex_kind.MutexKind.{MutexKind}
+use Rattle.evl_base.specs.declared.numbers.MutexId.{MutexId}
 use Rattle.evl_base.specs.declared.refusal.Refusal.{Refusal}
-use Rattle.evl_base.specs.declared.refusal.Refusal.TheVariants.{NotOwner}
+use Rattle.evl_base.specs.declared.refusal.Refusal.TheVariants.{CoreBusy, NotOwner}
 use Rattle.evl_kernel.specs.state.KernelViews.{KernelView}
 use Rattle.evl_words.specs.MutexCalls.{MutexSeatState, at_depth}
 use Rattle.evl_words.specs.MutexPlaces.{IsOfPlace, is_pass_of}
@@ -21,12 +22,16 @@ use Rattle.evl_machine.specs.callers.Callers.{IsResting, caller_by}
 use Rattle.evl_core.specs.accounts.Seats.{IsCaller, account_of, CoreMe}
 use Rattle.evl_machine.specs.callers.Handles.{CallerState, caller_of}
 use Rattle.evl_core.specs.rule.Known.{CoreHand, KernelMe, seen}
-use Rattle.evl_machine.specs.mutex_locks.MutexLocks.{MutexCall}
+use Rattle.evl_machine.specs.mutex_locks.MutexLocks.{MutexCall, TriesToLock, WordCall, kind_of, kinds_of, own_lock_refusal}
+use Rattle.evl_machine.specs.mutex_locks.Locking.{LocksRaised}
+use Rattle.evl_machine.specs.calls.Visits.{Visits}
+use Rattle.evl_core.specs.rule.Ceilings.{has_ceiling}
 use Rattle.evl_core.specs.words.MutexPlaces.{Deepens, HoldsBy, less, place_passes}
 use Rattle.evl_core.specs.words.MutexSeats.{Gains, IsOfMutex, Tries, TriesMutex, UnlocksMutex, UnlocksSo, depth_at, is_recursive, mutex_refusal, owner_refusal, unlock_refusal}
 use Rattle.evl_core.specs.words.MutexTokens.{AreTheSame, TellsTheSame, seat_at, seats_at}
-use Rattle.evl_words.specs.MutexWorld.{owns}
+use Rattle.evl_words.specs.MutexWorld.{owns, tries}
 use Rattle.evl_core.specs.rule.ThreadRule.{mutex_of}
+use Rattle.evl_core.specs.worlds.OneWorld.{on_word}
 use Rattle.evl_core.proofs.words.SeatLists.{each-set}
 use Rattle.evl_machine.proofs.mutex_locks.SeatsAt.{depth_there, refusal_there, some_also}
 
@@ -56,13 +61,28 @@ module _ {C : Type 0} (x : SeatedActor C) (table : TableId) (me : KernelMe C) (p
   -- of its caller nothing but its seats at the mutexes changes
   pub caller_stepped : AreTheSame (acting x).mutexes (seats_at table me.0 places) → (old : CallerState C) → caller_by x ≡ old → (does : List MutexSeatState → List MutexSeatState → Type 0) → does (acting x).mutexes (seats_at table me.0 places) → MutexCall old does (caller_by stepped)
   caller_stepped seats old was does did = (
-    (λ i. caller_of (record { id = same i; first = core.first i; staxes = map Rattle.evl_core.specs.words.Homes.stax_home x.staxes; mutexes = seats.homes i }) (account_of (core.core i)) x.staxes (seats_at table me.0 places)) ∙ ap (λ (s : CallerState C). record s { mutexes = seats_at table me.0 places }) was,
+    (λ i. caller_of (record { id = same i; first = core.first i; staxes = map Rattle.evl_core.specs.words.Homes.stax_home x.staxes; mutexes = seats.homes i }) (account_of (core.core i)) (core.lock i) x.staxes (seats_at table me.0 places)) ∙ ap (λ (s : CallerState C). record s { mutexes = seats_at table me.0 places }) was,
     subst (λ (s : CallerState C). does s.mutexes (seats_at table me.0 places)) was did,
   )
 
 -- a try of what may be locked
 pub tries_so : (kinds : List MutexKind) (old new : List MutexSeatState) (i : ℕ) (r : Result MutexPass Refusal) → mutex_refusal kinds old i ≡ None → IsOfMutex i r × AtSeat i old new (Tries r) → TriesMutex kinds old i r new
 tries_so kinds old new i r none told = at_none (mutex_refusal kinds old i) (IsOfMutex i r × AtSeat i old new (Tries r)) (λ refusal. (r ≡ Err refusal) × (new ≡ old)) none told
+
+-- a lock of a mutex without a ceiling that the caller has already, with no step
+pub locks_again : {C : Type 0} (old new : CallerState C) (mutex : MutexId) (pass : MutexPass) → own_lock_refusal old mutex ≡ None → has_ceiling (kind_of old mutex) ≡ false → 0 < depth_at old.mutexes mutex.0
+    → MutexCall old (λ was is. TriesMutex (kinds_of old) was mutex.0 (Ok pass) is) new → TriesToLock old mutex (Ok pass) new
+locks_again {C} old new mutex pass free plain held call = at_none (own_lock_refusal old mutex) (MatchBool (has_ceiling (kind_of old mutex)) Visit Again) (λ refusal. (answer ≡ Err refusal) × (new ≡ old)) free
+    (at_false (has_ceiling (kind_of old mutex)) Visit Again plain (call.0, call.1, λ none. absurd (omega (arith, held, none))))
+  where
+    answer : Result MutexPass Refusal
+    answer = Ok pass
+
+    Visit : Type 0
+    Visit = Visits (answer ≡ Err CoreBusy) old (λ a k a' k'. LocksRaised (kinds_of old) a k mutex answer a' k') new
+
+    Again : Type 0
+    Again = WordCall (depth_at old.mutexes mutex.0 ≡ 0) (on_word mutex.0 tries) old (λ was is. TriesMutex (kinds_of old) was mutex.0 answer is) new
 
 -- an unlocking by a pass that is spent
 pub unlocks_so : (old new : List MutexSeatState) (pass : MutexPass) (u : Unlock) → unlock_refusal old pass ≡ None → AtSeat pass.mutex.0 old new (UnlocksSo pass (Ok u)) → UnlocksMutex old pass (Ok u) new
@@ -140,7 +160,7 @@ spends_so table hand ps ps' pass more at =
 
 module _ {C : Type 0} where
   pub no_step : (me : KernelMe C) → TellsTheSame me me
-  no_step me = record { core = refl; first = refl }
+  no_step me = record { core = refl; first = refl; lock = refl }
 
   pub held_there : (x : SeatedActor C) (old : CallerState C) (pass : MutexPass) → caller_by x ≡ old → unlock_refusal old.mutexes pass ≡ None → IsSomeAnd (slice_get x.places pass.mutex.0) (λ p. 0 < p.depth)
   held_there x old pass was own =

@@ -2,14 +2,15 @@
 use Rattle.std.specs.Prelude.{◌≡◌}
 use Rattle.atomic_table.specs.Seated.{TableId}
 use Rattle.evl_core.specs.accounts.Accounts.{IsAccount}
-use Rattle.evl_core.specs.rule.Known.{KernelMe, first_of, seen}
+use Rattle.evl_core.specs.rule.Known.{KernelMe, first_of, lock_in, seen}
 use Rattle.evl_core.specs.accounts.Seats.{resting}
 use Rattle.evl_machine.specs.callers.Handles.{CallerState}
 
 module _ {C : Type 0} where
-  -- The token is one of the table of the caller's machine, and knows the kernel as it was made there. What the caller knows of the kernel is what is read of the token, which acts for this one thread and has nothing of the slot
+  -- The token is one of the table of the caller's machine, and knows the kernel as it was made there. What the caller knows of the kernel and of the core's lock is what is read of the token, which acts for this one thread and has nothing of the slot
   pub record IsTokenOf (id : TableId) (me : KernelMe C) (c : CallerState C) : Type 0 where
     pub table : id ≡ c.machine.id
     pub first : first_of me.0 ≡ c.machine.first
     pub account : seen me ≡ resting c.account
+    pub lock : lock_in me.0 ≡ c.lock
     pub sound : IsAccount c.account

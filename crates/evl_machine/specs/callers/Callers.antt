@@ -5,7 +5,7 @@ use Rattle.evl_kernel.specs.state.KernelViews.{KernelView}
 use Rattle.evl_machine.specs.callers.Actors.{SeatedActor, Suits, acting}
 use Rattle.evl_core.specs.accounts.Seats.{IsCaller, IsHeld, account_of}
 use Rattle.evl_machine.specs.callers.Handles.{CallerState, MachineState, caller_of, machine_of}
-use Rattle.evl_core.specs.rule.Known.{ComesFrom, first_of, seen}
+use Rattle.evl_core.specs.rule.Known.{ComesFrom, first_of, lock_in, seen}
 use Rattle.evl_core.specs.words.Noted.{IsSettled}
 
 module _ {C : Type 0} where
@@ -15,7 +15,7 @@ module _ {C : Type 0} where
 
   -- its caller, where it is at rest
   abbrev pub caller_by : SeatedActor C → CallerState C
-  caller_by a = caller_of (machine_by a) (account_of (seen a.me)) a.staxes (acting a).mutexes
+  caller_by a = caller_of (machine_by a) (account_of (seen a.me)) (lock_in a.me.0) a.staxes (acting a).mutexes
 
   -- it is at rest, and knows its thread's stage and wait
   abbrev pub IsResting : SeatedActor C → Type 0

@@ -10,6 +10,7 @@ use Rattle.evl_words.specs.MutexCalls.{MutexSeatState}
 use Rattle.evl_words.specs.MutexWorld.{newcomer as at_mutex}
 use Rattle.evl_core.specs.words.Homes.{Home, mutex_home, stax_home}
 use Rattle.evl_core.specs.declared.views.Account.{Account}
+use Rattle.evl_core.specs.lock.Lock.{LockView, new_lock}
 use Rattle.evl_core.specs.accounts.Accounts.{up_to_date, lost_one, newcomer, saw}
 
 -- which machine it is, its kernel as it was made, and where the seats at its staxes and mutexes belong
@@ -19,10 +20,11 @@ pub record MachineState (C : Type 0) : Type 0 where
   pub staxes : List Home
   pub mutexes : List Home
 
--- which machine the caller belongs to, what it knows of the kernel, and its seats at the staxes and mutexes
+-- which machine the caller belongs to, what it knows of the kernel and of the core's lock, and its seats at the staxes and mutexes
 pub record CallerState (C : Type 0) : Type 0 where
   pub machine : MachineState C
   pub account : Account
+  pub lock : LockView
   pub staxes : List SeatState
   pub mutexes : List MutexSeatState
 
@@ -31,8 +33,8 @@ abbrev pub machine_of : {C : Type 0} → TableId → KernelView C → List SeatS
 machine_of id first staxes mutexes = record { id = id; first = first; staxes = map stax_home staxes; mutexes = map mutex_home mutexes }
 
 -- the caller of this machine that knows this and has these seats
-abbrev pub caller_of : {C : Type 0} → MachineState C → Account → List SeatState → List MutexSeatState → CallerState C
-caller_of machine account staxes mutexes = record { machine = machine; account = account; staxes = staxes; mutexes = mutexes }
+abbrev pub caller_of : {C : Type 0} → MachineState C → Account → LockView → List SeatState → List MutexSeatState → CallerState C
+caller_of machine account lock staxes mutexes = record { machine = machine; account = account; lock = lock; staxes = staxes; mutexes = mutexes }
 
 -- the caller is as it was once it had taken the kernel, which is as it is now
 pub record HeldState (C : Type 0) : Type 0 where
@@ -48,16 +50,16 @@ module _ {C : Type 0} where
   abbrev pub IsSameCaller : CallerState C → CallerState C → Type 0
   IsSameCaller old new = new.machine ≡ old.machine
 
-  -- the caller once it took a kernel with this history and this room, and once it gave back a kernel with this history
-  abbrev pub shown : History → ℕ → CallerState C → CallerState C
-  shown h room caller = record caller { account = saw h room caller.account }
+  -- the caller once it took a kernel with this history and this room, and once it gave back a kernel with this history, with what it then knows of the lock
+  abbrev pub shown : History → ℕ → LockView → CallerState C → CallerState C
+  shown h room lock caller = record caller { account = saw h room caller.account; lock = lock }
 
-  abbrev pub returned : History → CallerState C → CallerState C
-  returned h caller = record caller { account = up_to_date h caller.account }
+  abbrev pub returned : History → LockView → CallerState C → CallerState C
+  returned h lock caller = record caller { account = up_to_date h caller.account; lock = lock }
 
   -- the caller once it found the core taken
-  abbrev pub turned_away : CallerState C → CallerState C
-  turned_away caller = record caller { account = lost_one caller.account }
+  abbrev pub turned_away : LockView → CallerState C → CallerState C
+  turned_away lock caller = record caller { account = lost_one caller.account; lock = lock }
 
 -- the seat of a thread that has made no step, at a stax and at a mutex
 abbrev pub new_stax : ℕ → Home → SeatState
@@ -68,7 +70,7 @@ new_mutex t h = record { table = h.table; mutex = record { 0 = h.number }; numbe
 
 -- the caller of a thread that has made no call, and those of the first n threads
 abbrev pub newcomer_of : {C : Type 0} → MachineState C → ℕ → CallerState C
-newcomer_of m t = caller_of m (newcomer m.first.history t) (map (new_stax t) m.staxes) (map (new_mutex t) m.mutexes)
+newcomer_of m t = caller_of m (newcomer m.first.history t) new_lock (map (new_stax t) m.staxes) (map (new_mutex t) m.mutexes)
 
 abbrev pub newcomers_of : {C : Type 0} → MachineState C → ℕ → List (CallerState C)
 newcomers_of m n = map (newcomer_of m) (range_with_len 0 n)

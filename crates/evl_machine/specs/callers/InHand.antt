@@ -8,7 +8,7 @@ use Rattle.evl_core.specs.accounts.Accounts.{Fits, IsAccount, lost_one, saw, up_
 use Rattle.evl_machine.specs.callers.Actors.{AreHeldAt, IsActor, SeatedActor, acting}
 use Rattle.evl_core.specs.accounts.Seats.{IsCaller, IsHeld, account_of, resting}
 use Rattle.evl_core.specs.worlds.Events.{FailsToTake, Gives, Takes}
-use Rattle.evl_core.specs.rule.Known.{ComesFrom, KernelMe, first_of, seen}
+use Rattle.evl_core.specs.rule.Known.{ComesFrom, KernelMe, first_of, lock_in, seen}
 use Rattle.evl_core.specs.words.Noted.{HasTaken, IsSettled}
 
 module _ {C : Type 0} where
@@ -33,7 +33,7 @@ module _ {C : Type 0} where
     pub opens : Opens (first_of old.me.0) (account_of (seen old.me)) old.thread new.me k
     pub holder : HasTaken (account_of (seen old.me)).thread k.history new.me.0
     pub own : IsActor new
-    pub event : Takes (first_of old.me.0) (account_of (seen old.me)) (account_of (seen new.me))
+    pub event : Takes (first_of old.me.0) (account_of (seen old.me)) (lock_in old.me.0) (account_of (seen new.me)) (lock_in new.me.0)
 
   -- it found that another one has the kernel
   pub record HasMissed (old new : SeatedActor C) : Type 0 where
@@ -41,7 +41,7 @@ module _ {C : Type 0} where
     pub thread : new.thread ≡ old.thread
     pub lost : seen new.me ≡ resting (lost_one (account_of (seen old.me)))
     pub own : IsActor new
-    pub event : FailsToTake (first_of old.me.0) (account_of (seen old.me)) (account_of (seen new.me))
+    pub event : FailsToTake (first_of old.me.0) (account_of (seen old.me)) (lock_in old.me.0) (account_of (seen new.me)) (lock_in new.me.0)
 
   -- It may put this kernel into the table: the kernel goes on from the one that it took, by calls of its one thread, and what stands of each mutex's word is tied to what the kernel records
   pub record MayShut (table : TableId) (a : SeatedActor C) (k : KernelView C) : Type 0 where
@@ -56,4 +56,4 @@ module _ {C : Type 0} where
     pub rests : IsCaller (seen new.me) new.thread
     pub held : AreHeldAt new.stage new.staxes
     pub account : account_of (seen new.me) ≡ up_to_date k.history (account_of (seen old.me))
-    pub event : Gives (first_of old.me.0) (account_of (seen old.me)) k (account_of (seen new.me))
+    pub event : Gives (first_of old.me.0) (account_of (seen old.me)) (lock_in old.me.0) k (account_of (seen new.me)) (lock_in new.me.0)

@@ -12,6 +12,7 @@ use Rattle.evl_words.specs.MutexCalls.{MutexSeatState}
 use Rattle.evl_kernel.specs.state.KernelViews.{KernelView, Adds, entry_of, refusal_enters}
 use Rattle.evl_core.specs.declared.views.Account.{Account}
 use Rattle.evl_core.specs.accounts.Accounts.{BeginsWith, IsAccount, lost_one}
+use Rattle.evl_core.specs.lock.Lock.{LockView}
 use Rattle.evl_core.specs.worlds.Events.{FailsToTake, Gives, LosesTakes, Takes}
 use Rattle.evl_core.specs.worlds.QuietCore.{IsQuiet}
 use Rattle.evl_core.specs.rule.Known.{ComesFrom}
@@ -56,9 +57,9 @@ pub record Answered (limit : ℕ) (a : Account) (c : Call) (r : Result Reply Ref
   pub memory : r ≡ Err NoMemory → (a'.found ≡ a.found ++ 0 ∷ []) × (length a'.seen.entries ≢ limit)
 
 -- What the call did at the core: CoreBusy comes of a take that found it taken, and every other answer of a take that found it free and the give behind it
-pub record ActsOnCore {C : Type 0} (first : KernelView C) (a : Account) (r : Result Reply Refusal) (a' : Account) : Type 0 where
-  pub busy : r ≡ Err CoreBusy → FailsToTake first a a'
-  pub free : r ≢ Err CoreBusy → (held : Account) × (k : KernelView C) × Takes first a held × Gives first held k a'
+pub record ActsOnCore {C : Type 0} (first : KernelView C) (a : Account) (l : LockView) (r : Result Reply Refusal) (a' : Account) (l' : LockView) : Type 0 where
+  pub busy : r ≡ Err CoreBusy → FailsToTake first a l a' l'
+  pub free : r ≢ Err CoreBusy → (held : Account) × (between : LockView) × (k : KernelView C) × Takes first a l held between × Gives first held between k a' l'
 
 -- the answer of a call that comes back where another caller has the kernel
 abbrev pub answer_of : Result (Result Reply Refusal) Call → Result Reply Refusal
@@ -71,7 +72,7 @@ AreOwnedAsRecorded thread seats h = (i : ℕ) (s : MutexSeatState) (m : Mutex) �
 
 -- the kernel's history is what the caller has now seen. It is legal, and it begins with all that the caller had seen; of this thread it has just the caller's own calls, and nobody changed the thread's stage. At its end a line is pending out-of-band only while the out-of-band stage is stalled, and no other owner is recorded of a mutex that the caller holds
 pub record TookKernel {C : Type 0} (c : CallerState C) (h : HeldState C) : Type 0 where
-  pub caller : h.caller ≡ shown h.kernel.history h.kernel.room c
+  pub caller : h.caller ≡ shown h.kernel.history h.kernel.room h.caller.lock c
   pub later : BeginsWith h.kernel.history c.account.seen
   pub just : IsAccount h.caller.account
   pub stage : stage_in h.kernel.history c.account.thread ≡ stage_in c.account.seen c.account.thread
@@ -97,7 +98,7 @@ module _ {C : Type 0} where
 
   -- of the caller only what it knows of the kernel changes, by its steps at the core
   abbrev pub KernelCall : ℕ → CallerState C → Call → Result Reply Refusal → CallerState C → Type 0
-  KernelCall limit old c r new = (new ≡ record old { account = new.account }) × Answered limit old.account c r new.account × ActsOnCore old.machine.first old.account r new.account
+  KernelCall limit old c r new = (new ≡ record old { account = new.account; lock = new.lock }) × Answered limit old.account c r new.account × ActsOnCore old.machine.first old.account old.lock r new.account new.lock
 
   -- an own answer leaves the caller as it was; every other one is the kernel's
   abbrev pub Called : ℕ → CallerState C → Call → Result Reply Refusal → CallerState C → Type 0
@@ -105,7 +106,7 @@ module _ {C : Type 0} where
 
   -- of the caller only what it knows changes, by takes that found the core taken
   abbrev pub IsTurnedAway : CallerState C → CallerState C → Type 0
-  IsTurnedAway old new = (new ≡ record old { account = new.account }) × (lost : List Account) × LosesTakes old.machine.first old.account lost new.account
+  IsTurnedAway old new = (new ≡ record old { account = new.account; lock = new.lock }) × (lost : List (Account × LockView)) × LosesTakes old.machine.first old.account old.lock lost new.account new.lock
 
   -- the same of a call that is made until the core isn't found taken: before the kernel's answer come only takes that were lost
   abbrev pub CalledAtLast : ℕ → CallerState C → Call → Result Reply Refusal → CallerState C → Type 0
@@ -113,4 +114,4 @@ module _ {C : Type 0} where
 
   -- the same of a caller that has the kernel, which goes by what it would know if it gave the kernel back
   abbrev pub CalledHeld : HeldState C → Call → Result Reply Refusal → HeldState C → Type 0
-  CalledHeld old c r new = MatchOption (own_refusal (returned old.kernel.history old.caller) c) ((new.caller ≡ old.caller) × Applied old.kernel old.caller.account.thread c r new.kernel) (λ refusal. (r ≡ Err refusal) × (new ≡ old))
+  CalledHeld old c r new = MatchOption (own_refusal (returned old.kernel.history old.caller.lock old.caller) c) ((new.caller ≡ old.caller) × Applied old.kernel old.caller.account.thread c r new.kernel) (λ refusal. (r ≡ Err refusal) × (new ≡ old))

@@ -4,6 +4,7 @@ use Rattle.evl_base.specs.declared.refusal.Refusal.{Refusal}
 use Rattle.evl_base.specs.declared.refusal.Refusal.TheVariants.{CoreBusy, Invalid}
 use Rattle.evl_kernel.specs.histories.Histories.{History, IsLegal}
 use Rattle.evl_kernel.specs.state.KernelViews.{KernelView}
+use Rattle.evl_core.specs.lock.Lock.{LockView}
 use Rattle.evl_core.specs.declared.views.Account.{Account}
 use Rattle.evl_core.specs.accounts.Accounts.{Fits, HasNoStranger, up_to_date, lost_one, saw, threads_of}
 use Rattle.evl_core.specs.worlds.Events.{FailsToTake, Gives, Takes}
@@ -14,7 +15,7 @@ use Rattle.evl_machine.specs.callers.Handles.{MachineState, CallerState, shown, 
 -- the first of the callers took this kernel
 abbrev pub TakenByFirst : {C : Type 0} → MachineState C → List (CallerState C) → KernelView C → Type 0
 TakenByFirst m [] k = Unit {0}
-TakenByFirst m (first ∷ others) k = Takes m.first first.account (saw k.history k.room first.account)
+TakenByFirst m (first ∷ others) k = (l : LockView) × Takes m.first first.account first.lock (saw k.history k.room first.account) l
 
 -- The machine's kernel, which the first caller took, and whose history is legal. It begins with all that each caller had seen, of each caller's thread it has just that caller's own calls, and it has none of a thread that isn't on the board. There is a caller at least, and there are no fewer than the board has threads
 pub record Closes {C : Type 0} (m : MachineState C) (callers : List (CallerState C)) (k : KernelView C) : Type 0 where
@@ -34,14 +35,16 @@ pub record LacksCaller {C : Type 0} (m : MachineState C) (first : CallerState C)
   pub legal : IsLegal history
   pub strangers : HasNoStranger history
   pub fits : Fits history first.account
-  pub back_is : back ≡ shown history room first ∷ others
-  pub takes : Takes m.first first.account (saw history room first.account)
-  pub gives : (k : KernelView C) × (k.history ≡ history) × Gives m.first (saw history room first.account) k (up_to_date history (saw history room first.account))
+  pub between : LockView
+  pub lock : LockView
+  pub back_is : back ≡ shown history room lock first ∷ others
+  pub takes : Takes m.first first.account first.lock (saw history room first.account) between
+  pub gives : (k : KernelView C) × (k.history ≡ history) × Gives m.first (saw history room first.account) between k (up_to_date history (saw history room first.account)) lock
 
 -- why the machine isn't closed, and the callers that come back: nobody was handed in, the first one found the core taken, which it counts as lost, or one is missing
 abbrev pub KeepsOpen : {C : Type 0} → MachineState C → List (CallerState C) → Refusal → List (CallerState C) → Type 0
 KeepsOpen m [] refusal back = (refusal ≡ Invalid) × (back ≡ [])
-KeepsOpen m (first ∷ others) refusal back = ((refusal ≡ CoreBusy) × (back ≡ turned_away first ∷ others) × FailsToTake m.first first.account (lost_one first.account)) ⊎ ((refusal ≡ Invalid) × LacksCaller m first others back)
+KeepsOpen m (first ∷ others) refusal back = ((refusal ≡ CoreBusy) × ((l : LockView) × (back ≡ turned_away l first ∷ others) × FailsToTake m.first first.account first.lock (lost_one first.account) l)) ⊎ ((refusal ≡ Invalid) × LacksCaller m first others back)
 
 -- the seat once these accounts have come to it
 abbrev pub gathered : {S : Type 0} → CoreMe S → List Account → CoreMe S

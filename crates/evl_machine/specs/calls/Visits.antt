@@ -9,6 +9,7 @@ use Rattle.evl_machine.specs.callers.Actors.{ActorState}
 use Rattle.evl_machine.specs.calls.Calls.{TookKernel, stage_of_caller, wait_of_caller}
 use Rattle.evl_core.specs.worlds.Events.{FailsToTake, Gives, Takes}
 use Rattle.evl_machine.specs.callers.Handles.{CallerState, HeldState, returned, turned_away}
+use Rattle.evl_machine.specs.callers.OneSteps.{StepsOnWords}
 use Rattle.evl_core.specs.rule.Known.{ComesFrom}
 
 module _ {C : Type 0} where
@@ -16,7 +17,7 @@ module _ {C : Type 0} where
   abbrev pub actor_of : CallerState C → ActorState
   actor_of c = record { thread = record { 0 = c.account.thread }; stage = stage_of_caller c; wait = wait_of_caller c; staxes = c.staxes; mutexes = c.mutexes }
 
-  -- The caller took the kernel and gave it back. What it gave goes on from what it took, by calls of its thread alone, which are what is new of its own calls. It has now seen the history that it gave. In between it did this
+  -- The caller took the kernel and gave it back. What it gave goes on from what it took, by calls of its thread alone, which are what is new of its own calls. It has now seen the history that it gave. In between it did this, by steps on the words of mutexes, each from what the one before it left, the first from what the take left
   pub record Visited (old : CallerState C) (deed : ActorState → KernelView C → ActorState → KernelView C → Type 0) (new : CallerState C) : Type 0 where
     pub held : HeldState C
     pub took : TookKernel old held
@@ -25,16 +26,17 @@ module _ {C : Type 0} where
     pub longer : GoesOn held.kernel.history added given.history
     pub own : MadeBy old.account.thread added
     pub comes : ComesFrom held.kernel given
-    pub back : new ≡ record (returned given.history held.caller) { mutexes = new.mutexes }
+    pub back : new ≡ record (returned given.history new.lock held.caller) { mutexes = new.mutexes }
     pub mine : new.account.mine ≡ old.account.mine ++ added
     pub just : IsAccount new.account
     pub does : deed (actor_of old) held.kernel (actor_of new) given
-    pub takes : Takes old.machine.first old.account held.caller.account
-    pub gives : Gives old.machine.first held.caller.account given new.account
+    pub words : StepsOnWords held.caller (record held.caller { mutexes = new.mutexes })
+    pub takes : Takes old.machine.first old.account old.lock held.caller.account held.caller.lock
+    pub gives : Gives old.machine.first held.caller.account held.caller.lock given new.account new.lock
 
   -- another caller has the kernel: one take more is lost, and nothing else changes
   abbrev pub FindsTaken : CallerState C → CallerState C → Type 0
-  FindsTaken old new = (new ≡ turned_away old) × FailsToTake old.machine.first old.account new.account
+  FindsTaken old new = (new ≡ turned_away new.lock old) × FailsToTake old.machine.first old.account old.lock new.account new.lock
 
   -- it takes the kernel and gives it back, or is told that another caller has it
   abbrev pub Visits : Type 0 → CallerState C → (ActorState → KernelView C → ActorState → KernelView C → Type 0) → CallerState C → Type 0

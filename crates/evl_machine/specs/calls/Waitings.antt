@@ -7,6 +7,7 @@ use Rattle.evl_base.specs.declared.refusal.Refusal.TheVariants.{Again}
 use Rattle.evl_base.specs.declared.reply.Reply.{Reply}
 use Rattle.evl_base.specs.declared.reply.Reply.TheVariants.{Begun}
 use Rattle.evl_kernel.specs.waiting.Waits.{has_ended}
+use Rattle.evl_core.specs.lock.Lock.{LockView}
 use Rattle.evl_core.specs.declared.views.Account.{Account}
 use Rattle.evl_core.specs.accounts.Accounts.{BeginsWith, IsAccount, saw}
 use Rattle.evl_machine.specs.callers.Actors.{keeps_stage, stage_in}
@@ -18,7 +19,7 @@ use Rattle.evl_core.specs.words.MutexSeats.{holds_mutex}
 use Rattle.evl_machine.specs.stax_locks.StaxSeats.{holds_stax}
 
 -- A look: the kernel was taken and given back, and no call was made. The history that the caller has now seen begins with what it had seen, nobody has changed the stage of its thread, and its wait goes on there
-pub record Look {C : Type 0} (first : KernelView C) (a a' : Account) : Type 0 where
+pub record Look {C : Type 0} (first : KernelView C) (a : Account) (l : LockView) (a' : Account) (l' : LockView) : Type 0 where
   pub room : ℕ
   pub now : a' ≡ saw a'.seen room a
   pub later : BeginsWith a'.seen a.seen
@@ -26,9 +27,10 @@ pub record Look {C : Type 0} (first : KernelView C) (a a' : Account) : Type 0 wh
   pub goes_on : has_ended a'.seen.state a.thread ≡ false
   pub account : IsAccount a'
   pub held : Account
+  pub between : LockView
   pub kernel : KernelView C
-  pub takes : Takes first a held
-  pub gives : Gives first held kernel a'
+  pub takes : Takes first a l held between
+  pub gives : Gives first held between kernel a' l'
 
 -- whether an answer begins a wait
 abbrev pub begins_wait : Result Reply Refusal → Bool
@@ -37,20 +39,20 @@ begins_wait answer = false
 
 module _ {C : Type 0} where
   -- looks, and takes that found the core taken, one after another, each from where the one before it ended
-  abbrev pub LooksBy : KernelView C → Account → List Account → Account → Type 0
-  LooksBy first a [] a' = a' ≡ a
-  LooksBy first a (next ∷ looks) a' = (Look first a next ⊎ FailsToTake first a next) × LooksBy first next looks a'
+  abbrev pub LooksBy : KernelView C → Account → LockView → List (Account × LockView) → Account → LockView → Type 0
+  LooksBy first a l [] a' l' = (a' ≡ a) × (l' ≡ l)
+  LooksBy first a l (next ∷ looks) a' l' = (Look first a l next.0 next.1 ⊎ FailsToTake first a l next.0 next.1) × LooksBy first next.0 next.1 looks a' l'
 
-  abbrev pub Looks : KernelView C → Account → Account → Type 0
-  Looks first a a' = (looks : List Account) × LooksBy first a looks a'
+  abbrev pub Looks : KernelView C → Account → LockView → Account → LockView → Type 0
+  Looks first a l a' l' = (looks : List (Account × LockView)) × LooksBy first a l looks a' l'
 
   -- a wait was looked at and goes on, or it was finished with this answer
-  abbrev pub LooksOrFinishes : KernelView C → Bool → Account → Option (Result Reply Refusal) → Account → Type 0
-  LooksOrFinishes first keeps a r a' = MatchOption r (Looks first a a') (λ answer. Answered first.limit a (Finish keeps) answer a')
+  abbrev pub LooksOrFinishes : KernelView C → Bool → Account → LockView → Option (Result Reply Refusal) → Account → LockView → Type 0
+  LooksOrFinishes first keeps a l r a' l' = MatchOption r (Looks first a l a' l') (λ answer. Answered first.limit a (Finish keeps) answer a')
 
   -- of the caller only its account changes, and that by looks
   abbrev pub Looked : CallerState C → CallerState C → Type 0
-  Looked old new = (new ≡ record old { account = new.account }) × Looks old.machine.first old.account new.account
+  Looked old new = (new ≡ record old { account = new.account; lock = new.lock }) × Looks old.machine.first old.account old.lock new.account new.lock
 
   -- the end of a wait, at which the thread keeps its stage where the caller holds a stax or a mutex
   abbrev pub finish_of : CallerState C → Call

@@ -11,6 +11,9 @@ use Rattle.evl_words.specs.MutexCalls.{MutexSeatState}
 use Rattle.evl_words.specs.declared.mutex.MutexPass.{MutexPass}
 use Rattle.evl_words.specs.declared.mutex.Unlock.{Unlock}
 use Rattle.evl_words.specs.declared.mutex.Unlock.TheVariants.{Done, Claimed}
+use Rattle.evl_words.specs.MutexWorld.{tries, unlocks}
+use Rattle.evl_kernel.specs.state.KernelViews.{KernelView}
+use Rattle.evl_core.specs.worlds.OneWorld.{OneKind, on_word}
 use Rattle.evl_machine.specs.declared.locking.Begun.{Begun}
 use Rattle.evl_machine.specs.declared.locking.Begun.TheVariants.{Locked}
 use Rattle.evl_machine.specs.declared.locking.Ended.{Ended}
@@ -19,6 +22,7 @@ use Rattle.evl_machine.specs.declared.unfinished.Unfinished.TheVariants.{Mutex}
 use Rattle.evl_machine.specs.calls.Calls.{stage_of_caller, wait_of_caller}
 use Rattle.evl_core.specs.rule.Ceilings.{has_ceiling}
 use Rattle.evl_machine.specs.callers.Handles.{CallerState}
+use Rattle.evl_machine.specs.callers.OneSteps.{StepsInOne}
 use Rattle.evl_machine.specs.mutex_locks.Locking.{Begins, Finishes, LocksRaised, Releases}
 use Rattle.evl_core.specs.words.MutexSeats.{TriesMutex, UnlocksMutex, depth_at, owner_refusal, unlock_refusal}
 use Rattle.evl_machine.specs.calls.Visits.{Visits}
@@ -58,18 +62,22 @@ module _ {C : Type 0} where
   abbrev pub MutexCall : CallerState C → (List MutexSeatState → List MutexSeatState → Type 0) → CallerState C → Type 0
   MutexCall old does new = (new ≡ record old { mutexes = new.mutexes }) × does old.mutexes new.mutexes
 
+  -- the same, and where a step was made, that was this event of the one world
+  abbrev pub WordCall : Type 0 → OneKind (KernelView C) → CallerState C → (List MutexSeatState → List MutexSeatState → Type 0) → CallerState C → Type 0
+  WordCall stepped kind old does new = (new ≡ record old { mutexes = new.mutexes }) × does old.mutexes new.mutexes × (stepped → StepsInOne kind old new)
+
   abbrev pub kind_of : CallerState C → MutexId → Option MutexKind
   kind_of c mutex = slice_get (kinds_of c) mutex.0
 
   abbrev pub own_lock_refusal : CallerState C → MutexId → Option Refusal
   own_lock_refusal c mutex = lock_refusal (kind_of c mutex) (wait_of_caller c) (stage_of_caller c) (depth_at c.mutexes mutex.0)
 
-  -- A try of a mutex. The kernel is taken for a mutex with a ceiling alone
+  -- A try of a mutex. The kernel is taken for a mutex with a ceiling alone; another one is tried at its word, unless the caller has it
   abbrev pub TriesToLock : CallerState C → MutexId → Result MutexPass Refusal → CallerState C → Type 0
   TriesToLock old mutex r new = MatchOption (own_lock_refusal old mutex)
       (MatchBool (has_ceiling (kind_of old mutex))
       (Visits (r ≡ Err CoreBusy) old (λ a k a' k'. LocksRaised (kinds_of old) a k mutex r a' k') new)
-      (MutexCall old (λ was is. TriesMutex (kinds_of old) was mutex.0 r is) new))
+      (WordCall (depth_at old.mutexes mutex.0 ≡ 0) (on_word mutex.0 tries) old (λ was is. TriesMutex (kinds_of old) was mutex.0 r is) new))
       (λ refusal. (r ≡ Err refusal) × (new ≡ old))
 
   -- The beginning of a lock. An owner has the mutex once more, without the kernel
@@ -86,10 +94,14 @@ module _ {C : Type 0} where
       ((r ≡ Err Invalid) × (new ≡ old))
       (λ mutex. Visits (r ≡ Err CoreBusy) old (λ a k a' k'. Finishes a k mutex r a' k') new)
 
+  -- one pass of a caller's is spent, the last one by a step of the word
+  abbrev pub SpendsAtWord : CallerState C → MutexPass → Unlock → CallerState C → Type 0
+  SpendsAtWord old pass told new = WordCall (depth_at old.mutexes pass.mutex.0 ≡ 1) (on_word pass.mutex.0 unlocks) old (λ was is. UnlocksMutex was pass (Ok told) is) new
+
   -- a pass is spent at the word alone, and comes back where others claim the mutex
   abbrev pub UnlocksFast : CallerState C → MutexPass → Result (Unit {0}) (Refusal × MutexPass) → CallerState C → Type 0
   UnlocksFast old pass r new = MatchOption (fast_refusal (kind_of old pass.mutex) (wait_of_caller old) old.mutexes pass)
-      ((told : Unlock) × FastAnswer r told × MutexCall old (λ was is. UnlocksMutex was pass (Ok told) is) new)
+      ((told : Unlock) × FastAnswer r told × SpendsAtWord old pass told new)
       (λ refusal. (r ≡ Err (refusal, pass)) × (new ≡ old))
 
   -- the kernel hands the mutex of a pass on, and the word follows
@@ -99,8 +111,8 @@ module _ {C : Type 0} where
   -- the word is unlocked, or it is claimed and its mutex is handed on
   abbrev pub UnlocksAtWord : CallerState C → MutexPass → Result (Unit {0}) (Refusal × MutexPass) → CallerState C → Type 0
   UnlocksAtWord old pass r new =
-      ((r ≡ Ok tt) × MutexCall old (λ was is. UnlocksMutex was pass (Ok Done) is) new)
-      ⊎ ((found : CallerState C) × MutexCall old (λ was is. UnlocksMutex was pass (Ok (Claimed pass)) is) found × HandsOn found pass r new)
+      ((r ≡ Ok tt) × SpendsAtWord old pass Done new)
+      ⊎ ((found : CallerState C) × SpendsAtWord old pass (Claimed pass) found × HandsOn found pass r new)
 
   -- A pass is spent. A mutex with a ceiling that is held once is handed on at once
   abbrev pub TriesToUnlock : CallerState C → MutexPass → Result (Unit {0}) (Refusal × MutexPass) → CallerState C → Type 0

@@ -1,4 +1,4 @@
-use Rattle.std.proofs.Common.{refl, ap, sym, ◌∙◌, subst}
+use Rattle.std.proofs.Common.{[], refl, ap, sym, ◌∙◌, subst}
 use Rattle.evl_machine.specs.callers.Actors.{SeatedActor, acting}
 use Rattle.evl_core.specs.rule.Known.{KernelMe, first_of}
 use Rattle.evl_core.specs.words.Noted.{IsSettled}
@@ -10,6 +10,8 @@ use Rattle.evl_machine.proofs.mutex_locks.SeatsAt.{at_table_of, holds_for, won_a
 use Rattle.evl_core.proofs.words.MutexTokens.{core_twice}
 use Rattle.evl_machine.proofs.callers.Visits.{actor_at_mutexes}
 use Rattle.evl_core.proofs.ties.Settling.{taken_holds}
+use Rattle.evl_words.specs.MutexWorld.{claims, settles}
+use Rattle.evl_machine.proofs.callers.OneSteps.{made_then, one_made, two_made}
 use Rattle.evl_machine.proofs.locking.begin.Goals as goal
 
 pub returns-in_err-reserve-clause-along : goal.returns-in_err-reserve-clause-along
@@ -101,3 +103,19 @@ returns-in_ok-apply-in-Queued-clause-begun g c =
 pub returns-in_err-apply-in-Queued-clause-begun : goal.returns-in_err-apply-in-Queued-clause-begun
 returns-in_err-apply-in-Queued-clause-begun g c =
     begins_refused _ _ (ap acting c.actor.view_is) _ _ _ c.args.ceiling _ _ _ _ c.apply.ensures.same _ c.in_ok-reserve.ensures c.in-Queued.owner _ _ c.from_residual-in_err-apply-in-Queued.ensures.1 c.in-Queued.ensures.word.at c.in_err-apply-in-Queued.ensures.applied
+
+pub returns-in_err-reserve-clause-made : goal.returns-in_err-reserve-clause-made
+returns-in_err-reserve-clause-made g c = ([], refl)
+
+pub returns-then-ceiling-clause-made : goal.returns-then-ceiling-clause-made
+returns-then-ceiling-clause-made g c =
+    made_then _ _ _ c.apply-raised.ensures.seat.1 (two_made _ _ c.actor.view_is c.args.mutex.0 c.args.mutex.0 claims settles _ _ c.in-Won.ensures.noted.event c.settle-pass.ensures.noted.event)
+
+pub returns-else-ceiling-clause-made : goal.returns-else-ceiling-clause-made
+returns-else-ceiling-clause-made g c = two_made _ _ c.actor.view_is c.args.mutex.0 c.args.mutex.0 claims settles _ _ c.in-Won.ensures.noted.event c.settle-pass.ensures.noted.event
+
+pub returns-in_err-apply-in-Queued-clause-made : goal.returns-in_err-apply-in-Queued-clause-made
+returns-in_err-apply-in-Queued-clause-made g c = made_then _ _ _ c.apply.ensures.seat.1 (one_made _ _ c.actor.view_is c.args.mutex.0 claims _ c.in-Queued.ensures.noted.event)
+
+pub returns-in_ok-apply-in-Queued-clause-made : goal.returns-in_ok-apply-in-Queued-clause-made
+returns-in_ok-apply-in-Queued-clause-made g c = made_then _ _ _ c.apply.ensures.seat.1 (one_made _ _ c.actor.view_is c.args.mutex.0 claims _ c.in-Queued.ensures.noted.event)

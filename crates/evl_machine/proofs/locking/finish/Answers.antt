@@ -1,4 +1,4 @@
-use Rattle.std.proofs.Common.{refl, ap, sym, ◌∙◌, subst}
+use Rattle.std.proofs.Common.{[], refl, ap, sym, ◌∙◌, subst}
 use Rattle.evl_machine.specs.callers.Actors.{SeatedActor, acting}
 use Rattle.evl_core.specs.rule.Known.{KernelMe, first_of}
 use Rattle.evl_core.specs.words.Noted.{IsSettled}
@@ -8,6 +8,8 @@ use Rattle.evl_machine.proofs.mutex_locks.LockingCalls.{finishes_late, finishes_
 use Rattle.evl_machine.proofs.mutex_locks.SeatsAt.{at_table_of, holds_for}
 use Rattle.evl_machine.proofs.callers.Visits.{actor_at_mutexes}
 use Rattle.evl_core.proofs.ties.Settling.{taken_holds}
+use Rattle.evl_words.specs.MutexWorld.{accepts, awaits, forgets}
+use Rattle.evl_machine.proofs.callers.OneSteps.{made_then, one_made, two_made}
 use Rattle.evl_machine.proofs.locking.finish.Goals as goal
 
 pub returns-then-not-finished-clause-along : goal.returns-then-not-finished-clause-along
@@ -91,3 +93,17 @@ returns-clause-settled g c =
     let entered = enters_made _ _ c.end_wait-over.new.kernel _ _ _ _ c.in_ok-reserve.ensures c.end_wait-over.ensures.applied in
     subst (λ (m : KernelMe _). IsSettled m.0 c.end_wait-over.new.kernel.history.state) (sym c.end_wait-over.ensures.seat.1)
     (got_settled _ _ just c.args.mutex (count_as _ _ c.actor.view_is c.args.mutex.0 c.actor.invariant c.requires.there) (ap (λ (a : SeatedActor _). a.wait) c.actor.view_is ∙ c.requires.waits) (is_ended _ _ _ _ c.kernel.ensures c.finished.ensures.ended c.if-not-finished.false) _ _ c.end_wait-over.new.kernel _ _ c.in-Ok-accept.ensures.noted.1 c.in-Ok-accept.ensures.noted.2 entered)
+
+pub returns-then-not-finished-clause-made : goal.returns-then-not-finished-clause-made
+returns-then-not-finished-clause-made g c = ([], refl)
+
+pub returns-in_err-reserve-clause-made : goal.returns-in_err-reserve-clause-made
+returns-in_err-reserve-clause-made g c = ([], refl)
+
+pub returns-then-timed_out-clause-made : goal.returns-then-timed_out-clause-made
+returns-then-timed_out-clause-made g c = made_then _ _ _ c.end_wait-ended.ensures.seat.1 (one_made _ _ c.actor.view_is c.args.mutex.0 forgets _ c.in-Ok.ensures.noted.event)
+
+pub returns-clause-made : goal.returns-clause-made
+returns-clause-made g c =
+    made_then _ _ _ c.end_wait-over.ensures.seat.1
+    (two_made _ _ c.actor.view_is c.args.mutex.0 c.args.mutex.0 awaits accepts _ _ c.in-Ok-accept.ensures.noted.1.event c.in-Ok-accept.ensures.noted.2.event)

@@ -1,4 +1,4 @@
-use Rattle.std.proofs.Common.{Ok, refl, ap, sym, ◌∙◌, subst}
+use Rattle.std.proofs.Common.{[], Ok, refl, ap, sym, ◌∙◌, subst}
 use Rattle.evl_machine.specs.callers.Actors.{SeatedActor, acting}
 use Rattle.evl_machine.proofs.mutex_locks.LockingLaws.{along_call, along_none, answers_roomier, enters_made, locks_raised, the_same}
 use Rattle.evl_machine.proofs.mutex_locks.LockingTies.{just_as, lost_settled, may_raise, same_settled, won_accepted, won_settled}
@@ -12,6 +12,8 @@ use Rattle.evl_core.specs.words.Noted.{IsSettled}
 use Rattle.evl_machine.proofs.callers.Visits.{actor_at_mutexes, same_core}
 use Rattle.evl_machine.proofs.mutex_locks.WordCalls.{tries_so}
 use Rattle.evl_core.proofs.ties.Settling.{taken_holds}
+use Rattle.evl_words.specs.MutexWorld.{tries}
+use Rattle.evl_machine.proofs.callers.OneSteps.{made_then, one_made}
 use Rattle.evl_machine.proofs.locking.lock_raised.Goals as goal
 
 pub returns-in_err-reserve-clause-along : goal.returns-in_err-reserve-clause-along
@@ -66,3 +68,12 @@ returns-in_err-reserve-clause-settled g c = same_settled _ _ c.requires.taken _ 
 
 pub returns-in_err-pass-clause-settled : goal.returns-in_err-pass-clause-settled
 returns-in_err-pass-clause-settled g c = lost_settled _ _ (just_as _ _ c.actor.view_is _ c.requires.taken) _ _ _ c.in_err-pass.ensures.noted c.reserve.ensures.same.history
+
+pub returns-in_err-reserve-clause-made : goal.returns-in_err-reserve-clause-made
+returns-in_err-reserve-clause-made g c = ([], refl)
+
+pub returns-in_err-pass-clause-made : goal.returns-in_err-pass-clause-made
+returns-in_err-pass-clause-made g c = one_made _ _ c.actor.view_is c.args.mutex.0 tries _ c.in_err-pass.ensures.noted.event
+
+pub returns-clause-made : goal.returns-clause-made
+returns-clause-made g c = made_then _ _ _ c.apply-raised.ensures.seat.1 (one_made _ _ c.actor.view_is c.args.mutex.0 tries _ c.in_ok-pass.ensures.noted.event)

@@ -13,6 +13,8 @@ use Rattle.evl_machine.proofs.mutex_locks.LockingTies.{given_settled, owner_once
 use Rattle.evl_core.proofs.words.MutexTokens.{core_twice}
 use Rattle.evl_machine.proofs.callers.Visits.{same_core}
 use Rattle.evl_core.proofs.ties.Settling.{taken_holds}
+use Rattle.evl_machine.specs.callers.OneSteps.{MakesSome}
+use Rattle.evl_machine.proofs.callers.OneSteps.{given_made, none_made}
 use Rattle.evl_machine.proofs.locking.release.Goals as goal
 use Rattle.evl_machine.proofs.locking.release.Goals.{in-Ok-Handed, in-Err}
 
@@ -62,4 +64,11 @@ returns-clause-settled g c = elim c.match-apply.branch [
   | in-Err w ↦ subst (λ (z : SeatedActor _). IsSettled z.me.0 c.apply.new.kernel.history.state) (sym w.actor-is)
       (subst (λ (m : KernelMe _). IsSettled m.0 c.apply.new.kernel.history.state) (sym c.apply.ensures.seat.1)
       (same_settled _ _ c.requires.taken _ (releases_not _ _ c.apply.ensures.same _ _ c.args.pass _ c.mutex-mutex.ensures _ c.apply.ensures.applied w.in-Err.refusal w.in-Err.is (λ entered. let both = owner_once _ c.args.pass c.requires.own c.requires.once in let accepted = release_accepted _ _ c.requires.taken c.args.pass.mutex c.apply.new.kernel _ both.0 both.1 c.requires.idle entered in absurd (let e = accepted.1 in cc))).0))
+]
+
+pub returns-clause-made : goal.returns-clause-made
+returns-clause-made g c = elim c.match-apply.branch [
+  | in-Ok-Handed w ↦ subst (λ (z : SeatedActor _). MakesSome c.args.actor.now.me.0 z.me.0) (sym w.actor-is)
+      (subst (λ (m : KernelMe _). MakesSome m.0 w.hand_on.new.actor.me.0) c.apply.ensures.seat.1 (given_made c.args.pass.mutex.0 w.in-Ok-Handed.next w.in-Ok-Handed.more _ _ w.hand_on.ensures.noted))
+  | in-Err w ↦ subst (λ (z : SeatedActor _). MakesSome c.args.actor.now.me.0 z.me.0) (sym w.actor-is) (none_made _ _ c.apply.ensures.seat.1)
 ]

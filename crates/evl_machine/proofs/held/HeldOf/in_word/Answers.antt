@@ -6,7 +6,7 @@ use Rattle.evl_machine.specs.callers.Callers.{HasInHand}
 use Rattle.evl_machine.specs.callers.Handles.{HeldState, MachineState, caller_of}
 use Rattle.evl_core.specs.accounts.Seats.{account_of}
 use Rattle.evl_machine.specs.mutex_locks.InWord.{Agrees, SaysTied}
-use Rattle.evl_core.specs.rule.Known.{ceilings_of, seen}
+use Rattle.evl_core.specs.rule.Known.{ceilings_of, lock_in, seen}
 use Rattle.evl_machine.proofs.mutex_locks.InWords.{agreed_if, tied_if}
 use Rattle.evl_machine.proofs.held.HeldOf.in_word.Goals as goal
 
@@ -17,7 +17,7 @@ pub invariant_of-self : goal.invariant_of-self
 invariant_of-self g c = subst (λ (a : SeatedActor _). HasInHand c.self.inside.machine.now a c.self.inside.kernel) (sym c.look.ensures.same) c.self.invariant
 
 pub returns-clause-same : goal.returns-clause-same
-returns-clause-same g c = ap (λ (a : SeatedActor _). record { caller = caller_of c.self.inside.machine.now (account_of (seen a.me)) a.staxes (acting a).mutexes; kernel = c.self.inside.kernel }) c.look.ensures.same ∙ c.self.view_is
+returns-clause-same g c = ap (λ (a : SeatedActor _). record { caller = caller_of c.self.inside.machine.now (account_of (seen a.me)) (lock_in a.me.0) a.staxes (acting a).mutexes; kernel = c.self.inside.kernel }) c.look.ensures.same ∙ c.self.view_is
 
 pub returns-clause-agrees : goal.returns-clause-agrees
 returns-clause-agrees g c =

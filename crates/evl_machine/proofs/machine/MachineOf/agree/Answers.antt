@@ -1,7 +1,7 @@
 use Rattle.std.proofs.Common.{ap, subst, ◌∙◌}
 use Rattle.evl_machine.specs.callers.Callers.{caller_by}
 use Rattle.evl_machine.specs.callers.Handles.{CallerState, MachineState}
-use Rattle.evl_core.specs.accounts.OneHistory.{AgreeOnMutexes, AgreeOnStaxes, OneHistory}
+use Rattle.evl_core.specs.accounts.OneHistory.{AgreeOnLock, AgreeOnMutexes, AgreeOnStaxes, OneHistory}
 use Rattle.evl_machine.proofs.machine.MachineOf.agree.Goals as goal
 
 pub agree_by-requires-clause-machine : goal.agree_by-requires-clause-machine
@@ -27,3 +27,6 @@ returns-clause-mutexes g c = subst (λ (z : CallerState g.row.C.Denot × CallerS
 
 pub returns-clause-staxes : goal.returns-clause-staxes
 returns-clause-staxes g c = subst (λ (z : CallerState g.row.C.Denot × CallerState g.row.C.Denot). AgreeOnStaxes z.0.staxes z.1.staxes) (λ i. (c.one.view_is i, c.other.view_is i)) c.agree_by.ensures.staxes
+
+pub returns-clause-lock : goal.returns-clause-lock
+returns-clause-lock g c = subst (λ (z : CallerState g.row.C.Denot × CallerState g.row.C.Denot). AgreeOnLock z.0.account.thread z.0.lock z.1.account.thread z.1.lock) (λ i. (c.one.view_is i, c.other.view_is i)) c.agree_by.ensures.lock

@@ -7,7 +7,7 @@ use Rattle.evl_core.specs.accounts.OneHistory.{AgreeOnStaxes, AreTogether}
 use Rattle.evl_machine.proofs.callers.Gathering.{joins_known}
 use Rattle.evl_machine.proofs.callers.Seating.{splits_known}
 use Rattle.evl_core.proofs.accounts.OneHistory.{two_known}
-use Rattle.evl_machine.proofs.callers.Together.{kernel_together, mutexes_together}
+use Rattle.evl_machine.proofs.callers.Together.{kernel_together, lock_together, mutexes_together}
 use Rattle.evl_machine.proofs.machine.MachineOf.agree_by.Goals as goal
 
 pub look_together-requires-clause-splits : goal.look_together-requires-clause-splits
@@ -22,6 +22,13 @@ look_together-requires-clause-tells g c = two_known c.self.inside.core.shared.ke
 pub returns-clause-kernel : goal.returns-clause-kernel
 returns-clause-kernel g c =
     kernel_together c.args.one.now c.args.other.now c.requires.rests.0 c.requires.rests.1
+    (subst (λ (a : SeatedActor _). AreItsPlaces a.me.0 a.places) c.one.view_is c.one.invariant.places.its)
+    (subst (λ (a : SeatedActor _). AreItsPlaces a.me.0 a.places) c.other.view_is c.other.invariant.places.its)
+    (subst (λ (z : SeatedActor g.row.C.Denot × SeatedActor g.row.C.Denot). looks.AreTogether AreTogether z.0.me.0 z.1.me.0) (λ i. (c.one.view_is i, c.other.view_is i)) c.look_together.ensures.together)
+
+pub returns-clause-lock : goal.returns-clause-lock
+returns-clause-lock g c =
+    lock_together c.args.one.now c.args.other.now
     (subst (λ (a : SeatedActor _). AreItsPlaces a.me.0 a.places) c.one.view_is c.one.invariant.places.its)
     (subst (λ (a : SeatedActor _). AreItsPlaces a.me.0 a.places) c.other.view_is c.other.invariant.places.its)
     (subst (λ (z : SeatedActor g.row.C.Denot × SeatedActor g.row.C.Denot). looks.AreTogether AreTogether z.0.me.0 z.1.me.0) (λ i. (c.one.view_is i, c.other.view_is i)) c.look_together.ensures.together)

@@ -6,7 +6,7 @@ use Rattle.evl_machine.specs.callers.Actors.{ActorState, acting, call_refusal}
 use Rattle.evl_machine.specs.callers.Callers.{machine_by}
 use Rattle.evl_machine.specs.callers.Handles.{CallerState, MachineState}
 use Rattle.evl_core.specs.accounts.Seats.{account_of}
-use Rattle.evl_core.specs.rule.Known.{seen}
+use Rattle.evl_core.specs.rule.Known.{seen, lock_in}
 use Rattle.evl_core.specs.words.MutexSeats.{holds_mutex}
 use Rattle.evl_machine.specs.stax_locks.StaxSeats.{holds_stax}
 use Rattle.evl_machine.specs.calls.Visits.{actor_of}
@@ -27,7 +27,7 @@ call_with-requires-clause-board g c =
 pub call_with-requires-clause-free : goal.call_with-requires-clause-free
 call_with-requires-clause-free g c =
     let x = c.caller.inside.actor in
-    let is = ap actor_of (sym c.caller.view_is) ∙ same_actor (machine_by x) (account_of (seen x.me)) (acting x) c.caller.invariant.0.own c.caller.invariant.0.account c.caller.invariant.1 in
+    let is = ap actor_of (sym c.caller.view_is) ∙ same_actor (machine_by x) (account_of (seen x.me)) (lock_in x.me.0) (acting x) c.caller.invariant.0.own c.caller.invariant.0.account c.caller.invariant.1 in
     ap (λ (a : ActorState). call_refusal a.wait (holds_stax a.staxes) (holds_mutex a.mutexes) c.args.call) (sym is) ∙ c.requires.free
 
 pub returns-clause-stage : goal.returns-clause-stage

@@ -30,7 +30,7 @@ begin-result-requires-clause-kind g c = its_kind c.args.caller.now c.requires.ma
 
 -- what was done with the kernel
 done : (g : _) (c : After-begin-result g) → HasDone c.open.new.actor c.in-Some.kernel c.begin-result.new.actor c.begin-result.new.kernel
-done g c = let does = c.begin-result.ensures in record { core = does.core.0; table = does.core.1; along = does.along; settled = does.settled }
+done g c = let does = c.begin-result.ensures in record { core = does.core.0; table = does.core.1; along = does.along; settled = does.settled; made = does.made }
 
 pub shut-requires : goal.shut-requires
 shut-requires g c = may_shut c.in-Some.ensures c.caller.invariant.1 (done g (goal.at.shut-requires g c).After-begin-result) (its_id c.args.caller.now c.requires.machine refl c.caller.inside.actor c.caller.view_is)

@@ -26,7 +26,7 @@ pub returns-in_default-clause-called : goal.returns-in_default-clause-called
 returns-in_default-clause-called g c = called_none _ _ _ _ c.args.call c.requires.caller.1 c.in_default.ensures.lost
 
 pub returns-in_default-clause-acted : goal.returns-in_default-clause-acted
-returns-in_default-clause-acted g c = found_taken _ _ _ c.in_default.ensures.event
+returns-in_default-clause-acted g c = found_taken _ _ _ _ _ c.in_default.ensures.event
 
 pub apply-reply-requires-clause-by_plan : goal.apply-reply-requires-clause-by_plan
 apply-reply-requires-clause-by_plan g c = opened_answers c.in-Some.ensures refl c.requires.by_plan

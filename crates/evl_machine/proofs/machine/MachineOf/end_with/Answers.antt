@@ -26,7 +26,7 @@ pub returns-in_default-clause-suits : goal.returns-in_default-clause-suits
 returns-in_default-clause-suits g c = suits_lost c.in_default.ensures c.requires.suits
 
 pub returns-in_default-clause-looked : goal.returns-in_default-clause-looked
-returns-in_default-clause-looked g c = look_lost _ _ _ c.in_default.ensures.event
+returns-in_default-clause-looked g c = look_lost _ _ _ _ _ c.in_default.ensures.event
 
 pub returns-in_default-clause-held : goal.returns-in_default-clause-held
 returns-in_default-clause-held g c = c.in_default.ensures.own.held
@@ -51,7 +51,7 @@ returns-then-not-finished-clause-held g c = c.shut.ensures.held
 
 pub returns-then-not-finished-clause-looked : goal.returns-then-not-finished-clause-looked
 returns-then-not-finished-clause-looked g c =
-    look_opened _ _ _ c.open.new.actor.me c.in-Some.kernel c.in-Some.ensures.opens (subst (λ (t : ThreadId). has_ended c.in-Some.kernel.history.state t.0 ≡ false) c.in-Some.ensures.thread (goes_on _ _ _ _ _ c.actor.view_is c.kernel.ensures c.finished.ensures.ended c.if-not-finished.true)) _ c.shut.ensures.account c.in-Some.ensures.event c.shut.ensures.event
+    look_opened _ _ _ _ c.open.new.actor.me c.in-Some.kernel c.in-Some.ensures.opens (subst (λ (t : ThreadId). has_ended c.in-Some.kernel.history.state t.0 ≡ false) c.in-Some.ensures.thread (goes_on _ _ _ _ _ c.actor.view_is c.kernel.ensures c.finished.ensures.ended c.if-not-finished.true)) _ _ c.shut.ensures.account c.in-Some.ensures.event c.shut.ensures.event
 
 pub apply-reply-requires-clause-by_plan : goal.apply-reply-requires-clause-by_plan
 apply-reply-requires-clause-by_plan g c = opened_answers c.in-Some.ensures refl c.requires.by_plan

@@ -25,7 +25,7 @@ finish-result-requires-clause-waits g c = opened_wait c.caller.inside.actor c.op
 
 -- what was done with the kernel
 done : (g : _) (c : After-finish-result g) → HasDone c.open.new.actor c.in-Some.kernel c.finish-result.new.actor c.finish-result.new.kernel
-done g c = let does = c.finish-result.ensures in record { core = does.core.0; table = does.core.1; along = does.along; settled = does.settled }
+done g c = let does = c.finish-result.ensures in record { core = does.core.0; table = does.core.1; along = does.along; settled = does.settled; made = does.made }
 
 pub shut-requires : goal.shut-requires
 shut-requires g c = may_shut c.in-Some.ensures c.caller.invariant.1 (done g (goal.at.shut-requires g c).After-finish-result) (its_id c.args.caller.now c.requires.machine refl c.caller.inside.actor c.caller.view_is)

@@ -3,9 +3,10 @@ use mathlib.Core.Option.{none}
 use Rattle.atomic_table.specs.Table.{step}
 use Rattle.evl_kernel.specs.state.KernelViews.{KernelView}
 use Rattle.evl_core.specs.worlds.Events.{Gives}
+use Rattle.evl_core.specs.lock.Lock.{LockView}
 use Rattle.evl_machine.specs.callers.Handles.{MachineState}
 use Rattle.evl_core.specs.accounts.Seats.{account_of}
-use Rattle.evl_core.specs.rule.Known.{ComesFrom, past_of, room_of, seen}
+use Rattle.evl_core.specs.rule.Known.{ComesFrom, lock_in, past_of, room_of, seen}
 use Rattle.evl_core.specs.words.MutexTokens.{KeepsPlaces}
 use Rattle.evl_core.specs.words.Noted.{IsSettled}
 use Rattle.evl_core.proofs.accounts.Knowing.{gives_known, gave_places, gave_seen, first_in_me, hand_in_me}
@@ -31,7 +32,7 @@ pub returns-clause-event : goal.returns-clause-event
 returns-clause-event g c =
     let is = is_loaded past_of room_of (account_of (seen c.args.seat.now.me)) c.args.kernel (seen c.args.seat.now.me) (seen c.exchange.new.seat.me) c.requires.kernel.0 (ap seen c.exchange.ensures.3) in
     let told = gave_seen (step 0 0 0 0 none) 0 _ _ _ c.args.kernel is c.store.ensures.2 in
-    subst (λ (first : KernelView _). Gives first (account_of (seen c.args.seat.now.me)) c.args.kernel (account_of (seen c.store.new.seat.me))) (ap first_in_me c.exchange.ensures.3) told.2
+    subst (λ (z : KernelView _ × LockView). Gives z.0 (account_of (seen c.args.seat.now.me)) z.1 c.args.kernel (account_of (seen c.store.new.seat.me)) (lock_in c.store.new.seat.me.0)) (λ i. (ap first_in_me c.exchange.ensures.3 i, ap (λ m. lock_in (hand_in_me m)) c.exchange.ensures.3 i)) told.2
 
 pub returns-clause-given : goal.returns-clause-given
 returns-clause-given g c =

@@ -34,7 +34,7 @@ release-result-requires-clause-own g c = c.in-Some.ensures.own
 
 -- what was done with the kernel
 done : (g : _) (c : After-release-result g) → HasDone c.open.new.actor c.in-Some.kernel c.release-result.new.actor c.release-result.new.kernel
-done g c = let does = c.release-result.ensures in record { core = does.core.0; table = does.core.1; along = does.along; settled = does.settled }
+done g c = let does = c.release-result.ensures in record { core = does.core.0; table = does.core.1; along = does.along; settled = does.settled; made = does.made }
 
 pub shut-requires : goal.shut-requires
 shut-requires g c = may_shut c.in-Some.ensures c.caller.invariant.1 (done g (goal.at.shut-requires g c).After-release-result) (its_id c.args.caller.now c.requires.machine refl c.caller.inside.actor c.caller.view_is)

@@ -31,7 +31,8 @@ returns-clause-unlocked g c =
     let was : caller_by X ≡ _ = ap (λ (x : Inside _ _). caller_by x.actor) c.caller-inside.view_is ∙ c.caller.view_is in
     let machine = c.requires.machine ∙ sym c.self.view_is in
     let held = ap (λ (s : CallerState _). Rattle.evl_core.specs.words.MutexSeats.depth_at s.mutexes c.args.pass.mutex.0) was in
-    caller_stepped X X.table X.me c.spend.new.self (no_step X.me) refl (same_at_depth X.table X.me.0 c.args.pass.mutex.0 less X.places c.spend.new.self c.spend.ensures.spent) c.args.caller.now was (λ a b. UnlocksMutex a c.args.pass (Ok Done) b) (unlocks_so (acting X).mutexes (seats_at X.table X.me.0 c.spend.new.self) c.args.pass Done (ap (λ (s : CallerState _). unlock_refusal s.mutexes c.args.pass) was ∙ c.requires.own) (spends_so X.table X.me.0 X.places c.spend.new.self c.args.pass (λ e. c.requires.more (sym held ∙ e)) c.spend.ensures.spent))
+    let call = caller_stepped X X.table X.me c.spend.new.self (no_step X.me) refl (same_at_depth X.table X.me.0 c.args.pass.mutex.0 less X.places c.spend.new.self c.spend.ensures.spent) c.args.caller.now was (λ a b. UnlocksMutex a c.args.pass (Ok Done) b) (unlocks_so (acting X).mutexes (seats_at X.table X.me.0 c.spend.new.self) c.args.pass Done (ap (λ (s : CallerState _). unlock_refusal s.mutexes c.args.pass) was ∙ c.requires.own) (spends_so X.table X.me.0 X.places c.spend.new.self c.args.pass (λ e. c.requires.more (sym held ∙ e)) c.spend.ensures.spent)) in
+    (call.0, call.1, λ once. absurd (c.requires.more once))
 
 pub returns-clause-seats : goal.returns-clause-seats
 returns-clause-seats g c =

@@ -5,7 +5,8 @@ use Rattle.evl_core.specs.declared.views.Account.{Account}
 use Rattle.evl_core.specs.worlds.Events.{FailsToTake, Takes}
 use Rattle.evl_machine.specs.callers.Handles.{CallerState, MachineState, turned_away}
 use Rattle.evl_core.specs.accounts.Seats.{account_of}
-use Rattle.evl_core.specs.rule.Known.{seen}
+use Rattle.evl_core.specs.rule.Known.{lock_in, seen}
+use Rattle.evl_core.specs.lock.Lock.{LockView}
 use Rattle.evl_machine.proofs.callers.Opened.{owned_seats}
 use Rattle.evl_machine.proofs.callers.Visits.{caller_lost, has_taken_it, took_it}
 use Rattle.evl_machine.proofs.machine.MachineOf.take.Goals as goal
@@ -24,13 +25,15 @@ pub returns-in-Some-clause-event : goal.returns-in-Some-clause-event
 returns-in-Some-clause-event g c =
     let first = ap (λ (s : CallerState _). s.machine.first) c.caller.view_is ∙ ap (λ (m : MachineState _). m.first) c.requires in
     let account = ap (λ (s : CallerState _). s.account) c.caller.view_is in
-    subst (λ (z : KernelView _ × Account). Takes z.0 z.1 (account_of (seen c.open.new.actor.me))) (λ i. (first i, account i)) c.in-Some.ensures.event
+    let lock = ap (λ (s : CallerState _). s.lock) c.caller.view_is in
+    subst (λ (z : KernelView _ × Account × LockView). Takes z.0 z.1 z.2 (account_of (seen c.open.new.actor.me)) (lock_in c.open.new.actor.me.0)) (λ i. (first i, account i, lock i)) c.in-Some.ensures.event
 
 pub returns-in-None-clause-taken : goal.returns-in-None-clause-taken
-returns-in-None-clause-taken g c = caller_lost c.in-None.ensures ∙ ap turned_away c.caller.view_is
+returns-in-None-clause-taken g c = caller_lost c.in-None.ensures ∙ ap (turned_away (lock_in c.open.new.actor.me.0)) c.caller.view_is
 
 pub returns-in-None-clause-event : goal.returns-in-None-clause-event
 returns-in-None-clause-event g c =
     let first = ap (λ (s : CallerState _). s.machine.first) c.caller.view_is ∙ ap (λ (m : MachineState _). m.first) c.requires in
     let account = ap (λ (s : CallerState _). s.account) c.caller.view_is in
-    subst (λ (z : KernelView _ × Account). FailsToTake z.0 z.1 (account_of (seen c.open.new.actor.me))) (λ i. (first i, account i)) c.in-None.ensures.event
+    let lock = ap (λ (s : CallerState _). s.lock) c.caller.view_is in
+    subst (λ (z : KernelView _ × Account × LockView). FailsToTake z.0 z.1 z.2 (account_of (seen c.open.new.actor.me)) (lock_in c.open.new.actor.me.0)) (λ i. (first i, account i, lock i)) c.in-None.ensures.event

@@ -6,7 +6,8 @@ use Rattle.evl_core.specs.accounts.Seats.{CoreMe, account_of}
 use Rattle.evl_machine.specs.callers.Handles.{MachineState}
 use Rattle.evl_core.specs.declared.views.Account.{Account}
 use Rattle.evl_core.specs.worlds.Events.{Takes}
-use Rattle.evl_core.specs.rule.Known.{first_of, past_of, room_of, seen}
+use Rattle.evl_core.specs.lock.Lock.{LockView}
+use Rattle.evl_core.specs.rule.Known.{first_of, lock_in, past_of, room_of, seen}
 use Rattle.evl_core.specs.words.MutexTokens.{KeepsPlaces}
 use Rattle.evl_core.specs.words.Noted.{HasTaken}
 use Rattle.evl_core.proofs.accounts.Knowing.{takes_known, took_holds, took_places, took_seen, first_in_me, hand_in_me}
@@ -39,7 +40,7 @@ returns-clause-event g c =
     let found = c.if-compare_exchange-ne0.false in
     let same = ap (λ m. account_of (seen m)) c.exchange.ensures.3 in
     comes_out past_of room_of _ (seen c.args.seat.now.me) (seen c.compare_exchange.new.seat.me) _ _ _ (told.0 found) c.exchange.ensures.2
-    (subst (λ (a : Account). Takes (first_of c.args.seat.now.me.0) (account_of (seen c.args.seat.now.me)) a) (sym same) (told.3 found))
+    (subst (λ (z : Account × LockView). Takes (first_of c.args.seat.now.me.0) (account_of (seen c.args.seat.now.me)) (lock_in c.args.seat.now.me.0) z.0 z.1) (λ i. (sym same i, sym (ap (λ m. lock_in (hand_in_me m)) c.exchange.ensures.3) i)) (told.3 found))
 
 pub returns-then-compare_exchange-ne0-clause-event : goal.returns-then-compare_exchange-ne0-clause-event
 returns-then-compare_exchange-ne0-clause-event g c = (took_seen (step 0 0 0 1 none) _ _ _ _ c.requires.1 c.compare_exchange.ensures.2).4 c.if-compare_exchange-ne0.true

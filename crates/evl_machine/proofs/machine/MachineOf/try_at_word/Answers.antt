@@ -61,7 +61,8 @@ returns-clause-tried g c =
     let machine = c.requires.machine ∙ sym c.self.view_is in
     let kinds = ap (λ (m : MachineState _). m.first.history.board.mutexes.items) (c.self.view_is ∙ sym c.requires.machine) in
     let may = lock_open X X _ c.args.mutex was refl _ _ _ (ap (λ (s : CallerState _). s.machine.mutexes) was ∙ ap (λ (m : MachineState _). m.mutexes) machine) (ap (λ (s : CallerState _). s.machine.first) was ∙ ap (λ (m : MachineState _). m.first) machine) c.self.invariant.3 c.requires.unrefused in
-    caller_stepped X c.try_there.new.seat.table_id c.try_there.new.seat.me c.try_there.new.places c.try_there.ensures.word.core (c.try_there.ensures.word.table.same ∙ sym (ap (λ (s : CallerState _). s.machine.id) was ∙ ap (λ (m : MachineState _). m.id) machine)) c.try_there.ensures.word.seats c.args.caller.now was (λ a b. TriesMutex (kinds_of c.args.caller.now) a c.args.mutex.0 c.try_there.result b) (subst (λ ks. TriesMutex ks (acting X).mutexes c.args.mutex.0 c.try_there.result (seats_at c.try_there.new.seat.table_id c.try_there.new.seat.me.0 c.try_there.new.places)) kinds (tries_so c.self.inside.core.shared.key.value.history.board.mutexes.items (acting X).mutexes (seats_at c.try_there.new.seat.table_id c.try_there.new.seat.me.0 c.try_there.new.places) c.args.mutex.0 c.try_there.result may (c.try_there.ensures.pass, c.try_there.ensures.word.at)))
+    let call = caller_stepped X c.try_there.new.seat.table_id c.try_there.new.seat.me c.try_there.new.places c.try_there.ensures.word.core (c.try_there.ensures.word.table.same ∙ sym (ap (λ (s : CallerState _). s.machine.id) was ∙ ap (λ (m : MachineState _). m.id) machine)) c.try_there.ensures.word.seats c.args.caller.now was (λ a b. TriesMutex (kinds_of c.args.caller.now) a c.args.mutex.0 c.try_there.result b) (subst (λ ks. TriesMutex ks (acting X).mutexes c.args.mutex.0 c.try_there.result (seats_at c.try_there.new.seat.table_id c.try_there.new.seat.me.0 c.try_there.new.places)) kinds (tries_so c.self.inside.core.shared.key.value.history.board.mutexes.items (acting X).mutexes (seats_at c.try_there.new.seat.table_id c.try_there.new.seat.me.0 c.try_there.new.places) c.args.mutex.0 c.try_there.result may (c.try_there.ensures.pass, c.try_there.ensures.word.at))) in
+    (call.0, call.1, λ _. steps_in_one X (record X { table = c.try_there.new.seat.table_id; me = c.try_there.new.seat.me; places = c.try_there.new.places }) _ was (on_word c.args.mutex.0 tries) c.try_there.ensures.event)
 
 pub returns-clause-stage : goal.returns-clause-stage
 returns-clause-stage g c =
@@ -69,9 +70,3 @@ returns-clause-stage g c =
     let was : caller_by X ≡ _ = ap (λ (x : Inside _ _). caller_by x.actor) c.caller-inside.view_is ∙ c.caller.view_is in
     let machine = c.requires.machine ∙ sym c.self.view_is in
     stage_resting (record X { table = c.try_there.new.seat.table_id; me = c.try_there.new.seat.me; places = c.try_there.new.places }) c.caller-inside.invariant.held (resting_stepped X c.try_there.new.seat.table_id c.try_there.new.seat.me c.try_there.new.places c.try_there.ensures.word.core (c.try_there.ensures.word.table.same ∙ sym (ap (λ (s : CallerState _). s.machine.id) was ∙ ap (λ (m : MachineState _). m.id) machine)) (subst (λ (x : Inside _ _). IsResting x.actor) (sym c.caller-inside.view_is) c.caller.invariant))
-
-pub returns-clause-event : goal.returns-clause-event
-returns-clause-event g c =
-    let X = actor_in c.caller-inside.invariant in
-    let was : caller_by X ≡ _ = ap (λ (x : Inside _ _). caller_by x.actor) c.caller-inside.view_is ∙ c.caller.view_is in
-    steps_in_one X (record X { table = c.try_there.new.seat.table_id; me = c.try_there.new.seat.me; places = c.try_there.new.places }) _ was (on_word c.args.mutex.0 tries) c.try_there.ensures.event

@@ -57,7 +57,8 @@ returns-clause-unlocked g c =
     let X = actor_in c.caller-inside.invariant in
     let was : caller_by X ≡ _ = ap (λ (x : Inside _ _). caller_by x.actor) c.caller-inside.view_is ∙ c.caller.view_is in
     let machine = c.requires.machine ∙ sym c.self.view_is in
-    caller_stepped X c.unlock_there.new.seat.table_id c.unlock_there.new.seat.me c.unlock_there.new.places c.unlock_there.ensures.word.core (c.unlock_there.ensures.word.table.same ∙ sym (ap (λ (s : CallerState _). s.machine.id) was ∙ ap (λ (m : MachineState _). m.id) machine)) c.unlock_there.ensures.word.seats c.args.caller.now was (λ a b. UnlocksMutex a c.args.pass (Ok c.unlock_there.result) b) (unlocks_so (acting X).mutexes (seats_at c.unlock_there.new.seat.table_id c.unlock_there.new.seat.me.0 c.unlock_there.new.places) c.args.pass c.unlock_there.result (ap (λ (s : CallerState _). unlock_refusal s.mutexes c.args.pass) was ∙ c.requires.own) c.unlock_there.ensures.word.at)
+    let call = caller_stepped X c.unlock_there.new.seat.table_id c.unlock_there.new.seat.me c.unlock_there.new.places c.unlock_there.ensures.word.core (c.unlock_there.ensures.word.table.same ∙ sym (ap (λ (s : CallerState _). s.machine.id) was ∙ ap (λ (m : MachineState _). m.id) machine)) c.unlock_there.ensures.word.seats c.args.caller.now was (λ a b. UnlocksMutex a c.args.pass (Ok c.unlock_there.result) b) (unlocks_so (acting X).mutexes (seats_at c.unlock_there.new.seat.table_id c.unlock_there.new.seat.me.0 c.unlock_there.new.places) c.args.pass c.unlock_there.result (ap (λ (s : CallerState _). unlock_refusal s.mutexes c.args.pass) was ∙ c.requires.own) c.unlock_there.ensures.word.at) in
+    (call.0, call.1, λ _. steps_in_one X (record X { table = c.unlock_there.new.seat.table_id; me = c.unlock_there.new.seat.me; places = c.unlock_there.new.places }) _ was (on_word c.args.pass.mutex.0 unlocks) c.unlock_there.ensures.event)
 
 pub returns-clause-seats : goal.returns-clause-seats
 returns-clause-seats g c =
@@ -72,9 +73,3 @@ returns-clause-stage g c =
     let was : caller_by X ≡ _ = ap (λ (x : Inside _ _). caller_by x.actor) c.caller-inside.view_is ∙ c.caller.view_is in
     let machine = c.requires.machine ∙ sym c.self.view_is in
     stage_resting (record X { table = c.unlock_there.new.seat.table_id; me = c.unlock_there.new.seat.me; places = c.unlock_there.new.places }) c.caller-inside.invariant.held (resting_stepped X c.unlock_there.new.seat.table_id c.unlock_there.new.seat.me c.unlock_there.new.places c.unlock_there.ensures.word.core (c.unlock_there.ensures.word.table.same ∙ sym (ap (λ (s : CallerState _). s.machine.id) was ∙ ap (λ (m : MachineState _). m.id) machine)) (subst (λ (x : Inside _ _). IsResting x.actor) (sym c.caller-inside.view_is) c.caller.invariant))
-
-pub returns-clause-event : goal.returns-clause-event
-returns-clause-event g c =
-    let X = actor_in c.caller-inside.invariant in
-    let was : caller_by X ≡ _ = ap (λ (x : Inside _ _). caller_by x.actor) c.caller-inside.view_is ∙ c.caller.view_is in
-    steps_in_one X (record X { table = c.unlock_there.new.seat.table_id; me = c.unlock_there.new.seat.me; places = c.unlock_there.new.places }) _ was (on_word c.args.pass.mutex.0 unlocks) c.unlock_there.ensures.event

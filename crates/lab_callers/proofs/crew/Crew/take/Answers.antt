@@ -16,8 +16,8 @@ returns-in-Ok-put_back-clause-taken g c =
     let is = c.self.view_is in
     record {
       apart = c.in_ok-place.ensures.apart;
-      made = subst (λ k. StepsAt xs k (λ before after. after ≡ turned_away before) later) there.0
-          (back_at xs c.remove-caller.new.self.items later place caller c.in-Err.caller (λ before after. after ≡ turned_away before) there.1
+      made = subst (λ k. StepsAt xs k (λ before after. after ≡ turned_away after.lock before) later) there.0
+          (back_at xs c.remove-caller.new.self.items later place caller c.in-Err.caller (λ before after. after ≡ turned_away after.lock before) there.1
           (c.remove-caller.ensures.value ∙ ap (λ (crew : CrewState _). slice_index_or crew.callers place caller) is)
           (c.remove-caller.ensures.items ∙ ap (λ (crew : CrewState _). remove crew.callers place) is) c.in-Ok-put_back.ensures.back c.in-Err.ensures.taken);
       machine = c.in-Ok-put_back.ensures.machine ∙ ap (λ (crew : CrewState _). crew.machine) is;
