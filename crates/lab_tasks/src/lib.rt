@@ -1,0 +1,21 @@
+//! Task sets, read from text: threads that compute for stated times over a board, with interrupts at stated dates.
+//! What names no source is this profile's own.
+#![tactic(auto)]
+
+mod acts;
+mod durations;
+mod faults;
+mod hyperperiods;
+mod interrupts;
+mod names;
+mod ranks;
+mod reading;
+mod sets;
+mod short_forms;
+mod tasks;
+
+pub use acts::Act;
+pub use durations::duration_of;
+pub use faults::{FaultKind, FaultPlace, TasksFault};
+pub use reading::read_tasks;
+pub use sets::{Interrupt, Rules, Task, TaskSet, idle_of};
