@@ -114,8 +114,6 @@ static evlsim_status draw(uint8_t form, const struct text *text) {
 
 static evlsim_status draw_down(void) { return draw(EVLSIM_SVG_DOWN, &played); }
 static evlsim_status draw_across(void) { return draw(EVLSIM_SVG_ACROSS, &played); }
-static evlsim_status draw_lanes(void) { return draw(EVLSIM_LANES, &played); }
-static evlsim_status draw_table(void) { return draw(EVLSIM_CSV, &played); }
 static evlsim_status draw_events(void) { return draw(EVLSIM_EVENTS, &played); }
 
 static evlsim_status order(size_t outcome) {
@@ -312,7 +310,7 @@ static int is_same(const struct work *work) {
 static const struct work works[] = {
     {"play", play},           {"play lines", play_lines},   {"faults", check_faults}, {"warnings", check_warnings},
     {"check orders", check_asked}, {"check callers", check_callers}, {"down", draw_down},    {"across", draw_across},
-    {"lanes", draw_lanes},    {"table", draw_table},        {"events", draw_events},  {"orders", orders},
+    {"events", draw_events},  {"orders", orders},
     {"an order", order_2},    {"callers", callers},
 };
 

@@ -205,7 +205,7 @@ LABS = [
     (lambda: evlsim.check("\ud800"), evlsim.BadText, "UTF-8"),
     (lambda: evlsim.check(SMALL, bank=[3]), TypeError, "plan 0 of the bank is 3"),
     (lambda: evlsim.draw(None), TypeError, "text is None"),
-    (lambda: evlsim.draw(SMALL, "png"), ASK, "form is 'png': one of 'svg', 'lanes'"),
+    (lambda: evlsim.draw(SMALL, "png"), ASK, "form is 'png': one of 'svg', 'perfetto'"),
     (lambda: evlsim.draw(SMALL, "svgs"), ASK, 'did you mean "svg"?'),
     (lambda: evlsim.draw(SMALL, 3), TypeError, "form is 3"),
     (lambda: evlsim.draw(SMALL, page=0), ASK, "page is 0"),

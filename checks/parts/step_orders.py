@@ -1,6 +1,6 @@
 """Counts the orders of callers' atomic steps on staxes and mutexes by itself, and compares them with a report of `lab orders`.
 
-Words are plain numbers here, written again by the pages CALLERS_TEXT and STEP_ORDERS: a stax's word has how many hold it in its
+Words are plain numbers here, written again by the pages CALLERS_TEXT and ORDERS: a stax's word has how many hold it in its
 low half, bit 30 for the stage of the last ones in and bit 31 for the mark; a mutex's has one more than its owner's number.
 Nobody claims in a text, so no mark is ever set; and nobody waits, so the kernel refuses each `finish`, in a visit."""
 import collections

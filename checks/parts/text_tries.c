@@ -115,7 +115,7 @@ static void try_forms(void) {
       drawn.length = 7;
       evlsim_status status =
           evlsim_draw((uint8_t)form, page, texts[0].bytes, texts[0].length, 0, out, ROOM, &drawn);
-      int is_there = form <= EVLSIM_EVENTS && page != 0 && (page == 1 || form >= EVLSIM_LANES);
+      int is_there = form <= EVLSIM_EVENTS && page != 0 && (page == 1 || form >= EVLSIM_EVENTS);
       require(evlsim_status_is(status, is_there ? EVLSIM_OK : EVLSIM_BAD_NUMBER), "another answer", "forms");
       require(is_there == (drawn.length != 0) && is_there == (out[0] != MARK), "another buffer", "forms");
       require(drawn.pages == (size_t)(form <= EVLSIM_EVENTS && page != 0) && drawn.line == 0, "other pages", "forms");

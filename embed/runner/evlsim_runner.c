@@ -10,6 +10,7 @@
 #define EVLSIM_RUNNER
 #include <errno.h>
 #include <evl/evl.h>
+#include <evl/kthread.h>
 #include <evl/stax.h>
 #include <evl/work.h>
 #include <evlsim/runner.h>
@@ -17,6 +18,7 @@
 #include <linux/interrupt.h>
 #include <linux/irq_pipeline.h>
 #include <linux/irqstage.h>
+#include <linux/spinlock.h>
 #include <malloc.h>
 #include <pthread.h>
 #include <signal.h>
@@ -24,10 +26,13 @@
 #include <stdio.h>
 #include <stdlib.h>
 #include <string.h>
+#include <sched.h>
 #include <sys/mman.h>
+#include <sys/prctl.h>
 #include <sys/wait.h>
 #include <time.h>
 #include <unistd.h>
+#include <unwind.h>
 
 /* Valgrind is told of the stacks, where its header is there. */
 #if defined(__has_include)
@@ -83,11 +88,16 @@ static void look_at_refusal(evlsim_call call, evlsim_answer answer);
 static void look_at_waits(void);
 static uint64_t late_date(uint64_t due);
 __attribute__((noreturn)) static void fail_misplaced(void);
+static void expect_no_spin(int who, const char *what);
+static void begin_jobs(void);
+static void end_jobs(void);
+static bool explore_by_jobs(void);
 
 #include "parts/coroutines.c"
 #include "parts/output.c"
 #include "parts/seen.c"
 #include "parts/machine.c"
+#include "parts/names.c"
 #include "parts/schedule.c"
 #include "parts/refusals.c"
 #include "parts/errors.c"
@@ -100,6 +110,7 @@ __attribute__((noreturn)) static void fail_misplaced(void);
 #include "parts/clocks.c"
 #include "parts/lines.c"
 #include "parts/works.c"
+#include "parts/kernel_names.c"
 #include "parts/footprints.c"
 #include "parts/moments.c"
 #include "parts/choices.c"
@@ -108,5 +119,7 @@ __attribute__((noreturn)) static void fail_misplaced(void);
 #include "parts/reports.c"
 #include "parts/ends.c"
 #include "parts/runs.c"
+#include "parts/divisions.c"
 #include "parts/explorations.c"
+#include "parts/jobs.c"
 #include "parts/hooks.c"

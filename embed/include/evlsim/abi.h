@@ -174,9 +174,7 @@ typedef struct evlsim_checked {
 #define EVLSIM_SVG 0u        /* down, a line for each mark, up to 60 marks; else across */
 #define EVLSIM_SVG_DOWN 1u
 #define EVLSIM_SVG_ACROSS 2u
-#define EVLSIM_LANES 3u      /* in characters */
-#define EVLSIM_CSV 4u
-#define EVLSIM_EVENTS 5u     /* trace events for Perfetto, as JSON */
+#define EVLSIM_EVENTS 3u     /* trace events for Perfetto, as JSON */
 
 /* What came of drawing. */
 typedef struct evlsim_drawn {

@@ -47,7 +47,14 @@ typedef struct evlsim_limits {
   bool stays_oob;    /* an out-of-band call of what may send its thread in-band fails the run: printf, malloc, read .. */
   bool refusals_fail; /* Deadlock, NotOwner, WrongStage, Invalid, a thread that isn't attached, Busy at a detach */
   bool nobody_waits; /* a thread that waits when the body ends, and may not by evlsim_may_wait_at_rest, fails the run */
+  bool names;        /* a failure's trace has the names of threads and elements, and each lock that makes no entry */
+  uint32_t part;     /* which of `parts` parts of all lists is tried, 1 to parts; also by EVLSIM_PART=3/16 */
+  uint32_t parts;    /* in how many parts: 1, at most 65,536 */
+  uint32_t jobs;     /* in how many processes lists are run: 1, at most 256; not if `prints` is set */
 } evlsim_limits;
+
+/* For limits.jobs: as many processes as this one may have processors. */
+#define EVLSIM_ALL_PROCESSORS UINT32_MAX
 
 /* What came of an exploration. */
 typedef struct evlsim_explored {
@@ -62,6 +69,9 @@ typedef struct evlsim_explored {
   bool sees_accesses; /* whether all loads and stores were seen, or of some handler or thread its calls alone */
   uint64_t not_tried; /* moments within out-of-band handlers, which only limits.in_handlers tries */
   uint64_t waited;   /* lists at whose end a thread waited, and nothing said that it may */
+  uint64_t others;   /* runs of lists that count in other parts, for those that they lead to and what events touch */
+  uint64_t touched;  /* a sum of all places that events were seen to touch: if all parts have the same, they are all
+                        lists; with limits.whole 0 */
 } evlsim_explored;
 
 /*
@@ -80,6 +90,9 @@ typedef struct evlsim_explored {
 int evlsim_test_as(void (*body)(void), const char *name);
 int evlsim_explore_as(void (*body)(void), const char *name, const evlsim_limits *limits, evlsim_explored *explored);
 int evlsim_replay_as(void (*body)(void), const char *name, const char *choices);
+
+/* For evlsim/runner.hpp: the next body is an object, so a failure prints its list in a call of evlsim::replay. */
+void evlsim_body_is_nameless(void);
 
 /* The outcomes of the last exploration, each with how many lists led there and the first of them; null past the end. */
 const char *evlsim_outcome(uint32_t place, uint64_t *lists, const char **choices);

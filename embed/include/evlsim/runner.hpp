@@ -64,6 +64,7 @@ struct explored : evlsim_explored {
 inline explored explore(const char *name, std::function<void()> body, evlsim_limits limits = {}) {
   explored told{};
   inside::body() = &body;
+  evlsim_body_is_nameless();
   (void)evlsim_explore_as(inside::run_body, name, &limits, &told);
   std::uint64_t lists = 0;
   const char *choices = nullptr;
@@ -76,11 +77,13 @@ inline explored explore(const char *name, std::function<void()> body, evlsim_lim
 
 inline bool test(const char *name, std::function<void()> body) {
   inside::body() = &body;
+  evlsim_body_is_nameless();
   return evlsim_test_as(inside::run_body, name) == 0;
 }
 
 inline bool replay(const char *name, std::function<void()> body, const char *choices) {
   inside::body() = &body;
+  evlsim_body_is_nameless();
   return evlsim_replay_as(inside::run_body, name, choices) == 0;
 }
 

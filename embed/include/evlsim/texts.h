@@ -77,8 +77,7 @@ EVLSIM_CHECKED static inline evlsim_status evlsim_check_over(const evlsim_plan *
  * into `out`, as many bytes as there are and as fit (evlsim_written). The picture of a scenario also shows how the
  * machine stands after each call. A text of callers is not drawn. The rest of `out` stays; no 0 is added.
  *
- * form: EVLSIM_SVG, EVLSIM_SVG_DOWN, EVLSIM_SVG_ACROSS, EVLSIM_LANES, EVLSIM_CSV or
- *       EVLSIM_EVENTS.
+ * form: EVLSIM_SVG, EVLSIM_SVG_DOWN, EVLSIM_SVG_ACROSS or EVLSIM_EVENTS.
  * page: of SVG, from 1: a page has 2,000 marks. The other forms have all marks at once.
  * text: may be null if text_length is 0; the empty text is a trace without lines.
  * out:  may be null if out_length is 0, to get the length alone.

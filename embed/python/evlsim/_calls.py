@@ -118,7 +118,7 @@ class Words(Calls):
 
         `delta`: nanoseconds, up to 18,446,744,073,709,551,615
 
-        Answers done. Refusals: Range: the date would pass 18,446,744,073,709,551,615.
+        Answers done. Refusals: Range: the date would exceed 18,446,744,073,709,551,615.
         """
         if wrong or delta is MISSING:
             no_key("tick", wrong, delta=delta)

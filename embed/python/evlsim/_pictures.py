@@ -10,10 +10,10 @@ from ._errors import BadPlan, BadQuestion, BadText, Refused, one_of, whole
 from ._kernel import Plan, read_bank
 from ._texts import text_bytes
 
-FORMS = ("svg", "lanes", "csv", "perfetto")
-Form = Literal["svg", "lanes", "csv", "perfetto"]
+FORMS = ("svg", "perfetto")
+Form = Literal["svg", "perfetto"]
 # their numbers in embed/include/evlsim/abi.h
-NUMBERS = {"svg": 0, "lanes": 3, "csv": 4, "perfetto": 5}
+NUMBERS = {"svg": 0, "perfetto": 3}
 FAULTS = {1: "bad text", 2: "a bad board", 3: "a bad step"}
 
 
@@ -33,17 +33,13 @@ class Picture(str):
 
 def draw(what: Any, form: Form = "svg", page: int = 1, bank: Optional[Iterable[Plan]] = None) -> Picture:
     """A picture of a scenario, played over the bank, or of a trace, as a text of either, or of what has one: a played
-    text, a kernel, a machine, an outcome (each over its own bank), what callers did. The form is "svg", "lanes" (characters),
-    "csv" or "perfetto" (docs/use/LAB.md); more than 2,000 marks make more than one page of SVG. Raises BadText for
-    other texts, BadQuestion where there is no such page, BadPlan and MemoryError.
+    text, a kernel, a machine, an outcome (each over its own bank), what callers did. The form is "svg", or "perfetto" for trace
+    events (docs/use/LAB.md); more than 2,000 marks make more than one page of SVG. Raises BadText for other texts,
+    BadQuestion where there is no such page, BadPlan and MemoryError.
 
     >>> put = '[[step]]\\ndo = "put"\\nwho = 0\\nsem = 0\\n'
-    >>> print(draw("[board]\\nthreads = 1\\nsems = [0]\\n" + put, "lanes"), end="")
-    T0          o
-    sem 0       .
-    <BLANKLINE>
-    o answered  ( a wait begins  ) a wait ends  x refused  # played  - not handled
-    . named by the call above  ! an event is pending  ? it is spurious
+    >>> draw("[board]\\nthreads = 1\\nsems = [0]\\n" + put).count("<title>")
+    1
     """
     text, over = what._drawn() if hasattr(what, "_drawn") else (what, bank)
     one_of(BadQuestion, "form", form, FORMS)

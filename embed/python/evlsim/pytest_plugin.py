@@ -86,8 +86,7 @@ def _parts(made: Made) -> Iterator[Tuple[str, str]]:
     """What a report has of a kernel or a machine."""
     try:
         yield "trace", made.lines() if isinstance(made, Kernel) else made.trace()
-        yield "picture", draw(made, "lanes")
-    except (Refused, MemoryError):  # another caller has the core, or there is no memory for a picture
+    except (Refused, MemoryError):  # another caller has the core, or there is no memory
         return
 
 

@@ -3,7 +3,6 @@
  */
 
 int evl_create_xbuf(size_t in_size, size_t out_size, int flags, const char *format, ...) {
-  (void)format;
   expect_run("evl_create_xbuf");
   if (in_size == 0 || in_size > 256 || out_size == 0 || out_size > 256) return invalid();
   unsigned place = run->made.xbufs;
@@ -13,6 +12,10 @@ int evl_create_xbuf(size_t in_size, size_t out_size, int flags, const char *form
   if (place < XBUFS) kept->known.rings[place] = rings;
   int number = note_element(&run->made.xbufs, &kept->known.xbufs, run->opened.xbufs, XBUFS, is_same);
   if (number < 0) return -EMFILE;
+  va_list values;
+  va_start(values, format);
+  note_name(AN_XBUF, number, format, values);
+  va_end(values);
   run->blocks[number] = (flags & EVL_CLONE_NONBLOCK) == 0;
   return fd_of(FD_XBUF, number);
 }

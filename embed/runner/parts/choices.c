@@ -23,7 +23,8 @@ static unsigned answer_of(uint32_t kind, unsigned answers, const void *from) {
   }
   uint32_t chosen = kept->choices[run->choices_made].source;
   if ((chosen & (IS_ANSWER | IS_LATE)) != (IS_ANSWER | kind) || (chosen & ANSWER_BITS) >= answers) fail_misplaced();
-  kept->place[run->choices_made++] = place_here(from);
+  note_place(from, from == NULL);
+  run->choices_made++;
   return chosen & ANSWER_BITS;
 }
 

@@ -8,7 +8,7 @@ static size_t length_at(size_t at, size_t size) { return size - at < WORD ? size
 
 /* A word of a copy. */
 static void see_word(const char *word, size_t at, size_t size, bool is_write, const void *place) {
-  struct access access = {word + at, length_at(at, size), is_write, at > 0, place};
+  struct access access = {word + at, length_at(at, size), is_write, at > 0, false, place};
   see(access);
 }
 

@@ -1,5 +1,5 @@
 /*
- * Part of evlsim_runner.c: which refusal of the kernel is which errno (docs/use/DRIVERS.md has the table).
+ * Part of evlsim_runner.c: which refusal of the kernel is which errno (docs/use/DRIVER_CALLS.md has the table).
  */
 static int error_of(evlsim_answer answer) {
   if (evlsim_is_timed_out(answer)) return -ETIMEDOUT;

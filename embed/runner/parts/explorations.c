@@ -9,22 +9,29 @@ static uint64_t digest_of(const char *text) {
   return digest;
 }
 
+/* An outcome that was seen before, or null. */
+static struct outcome *known_outcome(uint64_t digest, const char *text) {
+  for (uint32_t each = 0; each < kept->outcomes; each++) {
+    struct outcome *it = &kept->outcome[each];
+    if (it->digest == digest && strcmp(it->text, text) == 0) return it;
+  }
+  return NULL;
+}
+
 /* Counts the outcome of a run. */
 static void note_outcome(enum ending ending) {
   char text[OUTCOME_BYTES];
+  if (kept->is_others) return;
   memcpy(text, run->said, sizeof text);
   size_t length = strlen(text);
   if (ending == FAILED) {
     snprintf(text + length, sizeof text - length, "FAILED: %.*s", (int)(sizeof text - length - 9), run->why);
   }
   uint64_t digest = digest_of(text);
-  for (uint32_t each = 0; each < kept->outcomes; each++) {
-    if (kept->outcome[each].digest != digest || strcmp(kept->outcome[each].text, text) != 0) continue;
-    kept->outcome[each].lists++;
-    return;
-  }
-  if (kept->outcomes == OUTCOMES) return;
-  struct outcome *outcome = &kept->outcome[kept->outcomes++];
+  struct outcome *outcome = known_outcome(digest, text);
+  if (outcome != NULL) outcome->lists++;
+  if (outcome != NULL || kept->outcomes == OUTCOMES) return;
+  outcome = &kept->outcome[kept->outcomes++];
   outcome->digest = digest;
   outcome->lists = 1;
   memcpy(outcome->text, text, sizeof text);
@@ -42,17 +49,21 @@ static void conclude(enum ending ending) {
 /* The list of a node. */
 static void take_choices(uint32_t at) {
   kept->choice_count = kept->node[at].depth;
+  unsigned same = kept->choice_count; /* how many events begin this list and the last one */
   for (unsigned each = kept->choice_count; each > 0; each--) {
-    struct choice choice = {kept->node[at].step, kept->node[at].source, ""};
-    kept->choices[each - 1] = choice;
+    struct choice choice = {kept->node[at].step, kept->node[at].source, ""}, *last = &kept->choices[each - 1];
+    if (last->step != choice.step || last->source != choice.source) same = each - 1;
+    *last = choice;
     at = kept->node[at].parent;
   }
+  for (unsigned each = same; each < kept->limits.arrivals; each++) kept->place[each].codes = 0;
 }
 
 static bool add_node(uint32_t parent, uint32_t step, uint32_t source) {
   if (kept->nodes == NODES) return false;
   struct node node = {parent, step, source, kept->node[parent].depth + 1};
-  kept->node[kept->nodes++] = node;
+  *kept->added++ = node;
+  kept->nodes++;
   return true;
 }
 
@@ -82,8 +93,9 @@ static bool add_nodes(uint32_t parent) {
 static void begin_round(void) {
   struct node root = {0, 0, 0, 0};
   kept->node[0] = root;
+  kept->added = kept->node + 1;
   kept->nodes = 1;
-  kept->at = 0;
+  kept->at = kept->alone = 0;
   kept->outcomes = 0;
   kept->has_grown = false;
   kept->explored.lists = 0;
@@ -99,12 +111,24 @@ static bool has_to_begin_again(uint32_t done) {
   return is_level && kept->has_grown && !kept->limits.whole;
 }
 
-/* Runs the next list, and notes those that it leads to. */
-static void explore_next(void) {
+/* Runs a list, and notes those that it leads to. One that counts in another part is run for these alone. */
+static void explore_list(bool is_own) {
+  evlsim_explored before = kept->explored;
+  kept->is_others = !is_own;
   take_choices(kept->at);
   kept->explored.lists++;
   run_whole(conclude);
   if (!add_nodes(kept->at)) kept->explored.is_cut = true;
+  if (is_own) return;
+  before.others += kept->explored.runs - before.runs;
+  before.failed |= kept->explored.failed;
+  before.is_cut |= kept->explored.is_cut;
+  kept->explored = before;
+}
+
+/* Runs the next list, unless another part alone has it. */
+static void explore_next(void) {
+  if (is_run_here(kept->at)) explore_list(is_in_part(kept->at));
   kept->at++;
   bool is_over = kept->explored.failed && !kept->limits.goes_on;
   if (!is_over && has_to_begin_again(kept->at)) begin_round();
@@ -115,9 +139,10 @@ static void explore_part(void) {
   size_t before = own_memory();
   for (uint32_t runs = 1; kept->at < kept->nodes && (kept->limits.goes_on || !kept->explored.failed); runs++) {
     kept->is_large = runs % 16 == 0 && own_memory() > before + MOST_GROWTH;
-    kept->explored.is_cut |= kept->explored.runs >= kept->limits.runs;
-    if (kept->is_large || kept->explored.runs >= kept->limits.runs) return;
-    explore_next();
+    bool is_cut = kept->explored.runs + kept->explored.others >= kept->limits.runs;
+    kept->explored.is_cut |= is_cut;
+    if (kept->is_large || is_cut) return;
+    if (!explore_by_jobs()) explore_next();
   }
 }
 
@@ -142,8 +167,10 @@ static void explore_apart(void) {
 
 static void explore_all(void) {
   begin_round();
+  begin_jobs();
   explore_part();
   while (kept->is_large) explore_apart();
+  end_jobs();
 }
 
 static void print_explored(void) {
@@ -156,6 +183,7 @@ static void print_explored(void) {
   if (it->not_tried != 0) {
     fprintf(stderr, "; %llu moments within handlers not tried", (unsigned long long)it->not_tried);
   }
+  print_part();
   if (!has_hooks || kept->unseen[0] != 0) {
     fprintf(stderr, "; moments at calls alone%s%s, without -fsanitize=thread", has_hooks ? " in " : "", kept->unseen);
   }
@@ -204,11 +232,15 @@ static int end_exploring(evlsim_explored *explored) {
   restore_output();
   restore_variables();
   kept->explored.outcomes = kept->outcomes;
+  kept->explored.touched = kept->limits.whole ? 0 : digest_of_touched();
   if (kept->unseen[0] != 0) kept->explored.sees_accesses = false;
   if (explored != NULL) *explored = kept->explored;
   drop_variables();
+  has_nameless_body = false;
   return kept->explored.failed ? EXIT_FAILURE : EXIT_SUCCESS;
 }
+
+void evlsim_body_is_nameless(void) { has_nameless_body = true; }
 
 int evlsim_test_as(void (*body)(void), const char *name) {
   begin(body, name, NULL);
@@ -224,7 +256,7 @@ static int replay(void (*body)(void), const char *name, const char *choices, con
   if (limits != NULL) {
     own.history = limits->history, own.steps = limits->steps, own.until = limits->until, own.starts = limits->starts;
     own.in_handlers = limits->in_handlers, own.stays_oob = limits->stays_oob;
-    own.refusals_fail = limits->refusals_fail, own.nobody_waits = limits->nobody_waits;
+    own.refusals_fail = limits->refusals_fail, own.nobody_waits = limits->nobody_waits, own.names = limits->names;
   }
   begin(body, name, &own);
   if (read_choices(choices)) {
@@ -247,6 +279,7 @@ int evlsim_explore_as(void (*body)(void), const char *name, const evlsim_limits 
   const char *replayed = getenv("EVLSIM_REPLAY");
   if (replayed != NULL) return replay(body, name, replayed, limits, explored);
   begin(body, name, limits);
+  take_part();
   kept->offers = true;
   keep_output();
   explore_all();

@@ -4,7 +4,7 @@
  */
 
 int evl_create_mutex(struct evl_mutex *mutex, int clockfd, unsigned ceiling, int flags, const char *format, ...) {
-  (void)clockfd, (void)format;
+  (void)clockfd;
   expect_run("evl_create_mutex");
   if (ceiling > 99) return invalid();
   bool is_recursive = (flags & EVL_MUTEX_RECURSIVE) != 0;
@@ -20,6 +20,10 @@ int evl_create_mutex(struct evl_mutex *mutex, int clockfd, unsigned ceiling, int
   run->words[number] = word;
   mutex->magic = EVLSIM_MADE;
   mutex->number = number;
+  va_list values;
+  va_start(values, format);
+  note_name(A_MUTEX, number, format, values);
+  va_end(values);
   return fd_of(FD_MUTEX, number);
 }
 
@@ -57,6 +61,7 @@ static int take_free(struct word *word, int number) {
     if (!evlsim_is_done(answer)) return error_of(answer);
   }
   own(word);
+  if (!word->has_ceiling) note_quiet(A_MUTEX, number, true);
   go_on();
   return 0;
 }
@@ -71,6 +76,7 @@ static int before_lock(struct word *word) {
   if (!word->is_recursive) return refuse("Deadlock", -EDEADLK);
   if (word->depth == 255) return -EAGAIN;
   word->depth++;
+  note_quiet(A_MUTEX, word - run->words, true);
   return 0;
 }
 
@@ -127,12 +133,14 @@ int evl_unlock_mutex(struct evl_mutex *mutex) {
   if (word->owner != run->now) return refuse("NotOwner", -EPERM);
   if (word->depth > 1) {
     word->depth--;
+    note_quiet(A_MUTEX, number, false);
     return 0;
   }
   if (word->is_claimed || word->has_ceiling) return hand_on(word, number);
   word->owner = -1;
   word->depth = 0;
   tasks[run->now].held--;
+  note_quiet(A_MUTEX, number, false);
   return 0;
 }
 
@@ -158,6 +166,7 @@ static bool enter_gate(struct gate *gate, bool is_oob) {
   if (gate->count > 0 && gate->is_oob != is_oob) return false;
   gate->is_oob = is_oob;
   gate->count++;
+  note_quiet(A_STAX, gate - run->gates, true);
   if (!in_handler()) {
     tasks[run->now].held++;
     tasks[run->now].staxes |= 1u << (gate - run->gates);
@@ -206,6 +215,7 @@ void evl_unlock_stax(struct evl_stax *stax) {
     tasks[run->now].staxes &= ~(1u << (gate - run->gates));
   }
   gate->count--;
+  note_quiet(A_STAX, gate - run->gates, false);
   for (; gate->count == 0 && gate->waiting > 0; gate->waiting--) {
     (void)do_call(caller(), evlsim_call_put((uint16_t)gate->sem));
   }

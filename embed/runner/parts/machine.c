@@ -119,6 +119,7 @@ static int caller(void) { return in_handler() ? IDLE : run->now; }
 
 /* Who has stalled a stage, a thread or (-1) a handler, has to unstall it first. */
 static void expect_no_stall(int who, const char *what) {
+  expect_no_spin(who, what);
   for (int stage = 0; stage < 2; stage++) {
     const struct stall *stall = &run->stalls[stage];
     if (!stall->is_on || stall->by != who) continue;

@@ -161,14 +161,27 @@ struct access {
   const char *address;
   size_t size;
   bool is_write, is_further;
+  bool is_nowhere; /* whether it is no step of the driver's code */
   const void *place;
 };
 
-static struct place place_here(const void *code) {
+static _Unwind_Reason_Code note_frame(struct _Unwind_Context *context, void *place) {
+  struct place *here = place;
+  if (here->codes == FRAMES) return _URC_END_OF_STACK;
+  here->code[here->codes++] = (const void *)(uintptr_t)_Unwind_GetIP(context);
+  return _URC_NO_REASON;
+}
+
+/* Notes where the next chosen event comes: at a place, or, where that is null, in the calls up to this one. The note of
+   an earlier run whose list began with the same events still holds. */
+static void note_place(const void *code, bool is_nowhere) {
   bool is_handlers = run->in_oob_handler && !run->in_device;
-  struct place here = {code, run->now, run->entries, run->in_device, is_handlers, false, 0};
-  if (is_handlers) here.is_timer = run->handled->is_timer, here.element = run->handled->element;
-  return here;
+  struct place *here = &kept->place[run->choices_made];
+  here->task = run->now, here->entries = run->entries, here->in_device = run->in_device, here->in_handler = is_handlers;
+  here->is_timer = is_handlers && run->handled->is_timer;
+  here->element = is_handlers ? run->handled->element : 0;
+  if (code != NULL) here->code[0] = code, here->codes = 1;
+  if (here->codes == 0 && !is_nowhere) (void)_Unwind_Backtrace(note_frame, here);
 }
 
 /* Whether the code that runs has moments: hardware has none, an out-of-band handler only by its limit. */
@@ -179,7 +192,7 @@ static bool has_moments(void) {
 /* A moment of the code that runs, before an access (with a size) or a call. */
 static void at_moment(struct access access, bool is_call_relevant) {
   while (is_chosen(++run->step)) {
-    kept->place[run->choices_made] = place_here(access.place);
+    note_place(access.place, access.is_nowhere);
     if ((kept->choices[run->choices_made].source & IS_ANSWER) != 0) fail_misplaced();
     unsigned source = source_of(&kept->choices[run->choices_made++]);
     if (!run->sources_open || (ready_sources() >> source & 1) == 0) {
@@ -216,7 +229,7 @@ static void note_device_call(void) {
 
 /* Before a call, before an out-of-band handler returns, and when all tasks wait. An act of hardware before the call of
    such a handler is the same after it, unless hardware makes calls. */
-static const struct access a_call = {NULL, 0, false, false, NULL};
+static const struct access a_call = {NULL, 0, false, false, false, NULL}, no_call = {NULL, 0, false, false, true, NULL};
 static void at_call(void) {
   mend_torn();
   note_device_call();
@@ -225,9 +238,9 @@ static void at_call(void) {
 }
 static void at_return(void) {
   mend_torn();
-  has_moments() ? at_moment(a_call, true) : pass_over();
+  has_moments() ? at_moment(no_call, true) : pass_over();
 }
-static void at_idle(void) { at_moment(a_call, true); }
+static void at_idle(void) { at_moment(no_call, true); }
 
 static void see(struct access access) {
   if (run == NULL || !run->is_on || access.size == 0) return;
@@ -240,7 +253,7 @@ static void see(struct access access) {
 
 /* An access of the driver's code. */
 static void see_access(const void *at, size_t size, bool is_write, const void *place) {
-  struct access access = {at, size, is_write, false, place};
+  struct access access = {at, size, is_write, false, false, place};
   see(access);
 }
 

@@ -34,16 +34,19 @@ static const char *element_name(int number, char *text, size_t size) {
   static const struct {
     evlsim_awaited on;
     evlsim_way way;
+    enum named_kind kind;
     const char *name;
-  } queues[] = {{EVLSIM_ON_SEM, EVLSIM_IN, "sem"},         {EVLSIM_ON_FLAGS, EVLSIM_IN, "flags"},
-                {EVLSIM_ON_MUTEX, EVLSIM_IN, "mutex"},     {EVLSIM_ON_READING, EVLSIM_IN, "bytes of xbuf"},
-                {EVLSIM_ON_WRITING, EVLSIM_OUT, "room in xbuf"}};
+  } queues[] = {{EVLSIM_ON_SEM, EVLSIM_IN, A_SEM, "sem"},         {EVLSIM_ON_FLAGS, EVLSIM_IN, A_FLAG_GROUP, "flags"},
+                {EVLSIM_ON_MUTEX, EVLSIM_IN, A_MUTEX, "mutex"},   {EVLSIM_ON_READING, EVLSIM_IN, AN_XBUF, "bytes of xbuf"},
+                {EVLSIM_ON_WRITING, EVLSIM_OUT, AN_XBUF, "room in xbuf"}};
+  char quoted[NAME_BYTES + 4];
   snprintf(text, size, "an element of the core");
   for (size_t each = 0; each < 5 * ELEMENTS; each++) {
     size_t queue = each / ELEMENTS;
     unsigned element = (unsigned)(each % ELEMENTS);
     if (!is_in_queue(number, queues[queue].on, element, queues[queue].way)) continue;
-    snprintf(text, size, "%s %u", queues[queue].name, element);
+    snprintf(text, size, "%s %u%s", queues[queue].name, element,
+             quoted_name(queues[queue].kind, element, quoted, sizeof quoted));
     if (queues[queue].on == EVLSIM_ON_MUTEX) {
       size_t length = strlen(text);
       snprintf(text + length, size - length, ", which T%d has", run->words[element].owner);
@@ -115,22 +118,46 @@ static bool is_position_independent(void) {
   return (uintptr_t)__executable_start > 0x10000000u;
 }
 
-/* A place in the driver's code, after a word, by the program addr2line where it is there. */
-static void print_place(const char *word, const void *place) {
+/* What asks addr2line for the lines of places, those of inlined code before those where it is; empty if there is none. */
+static void write_question(char *command, size_t size, const void *const *place, unsigned places) {
   extern char __executable_start[] __attribute__((weak));
-  char command[512], executable[256], line[256] = "";
+  char executable[256];
   ssize_t length = readlink("/proc/self/exe", executable, sizeof executable - 1);
-  if (place == NULL || length <= 0 || __executable_start == NULL) return;
+  command[0] = 0;
+  if (places == 0 || length <= 0 || __executable_start == NULL) return;
   executable[length] = 0;
-  uintptr_t at = (uintptr_t)place - 1;
-  if (is_position_independent()) at -= (uintptr_t)__executable_start;
-  snprintf(command, sizeof command, "addr2line -s -e '%s' 0x%lx 2>/dev/null", executable, (unsigned long)at);
-  FILE *answer = popen(command, "r");
-  if (answer == NULL) return;
-  bool is_known = fgets(line, sizeof line, answer) != NULL && line[0] != '?';
-  if (is_known) fprintf(stderr, ", %s %.*s", word, (int)strcspn(line, " \n"), line);
-  pclose(answer);
+  snprintf(command, size, "addr2line -i -e '%s'", executable);
+  for (unsigned each = 0; each < places; each++) {
+    uintptr_t at = (uintptr_t)place[each] - 1;
+    size_t before = strlen(command);
+    if (is_position_independent()) at -= (uintptr_t)__executable_start;
+    snprintf(command + before, size - before, " 0x%lx", (unsigned long)at);
+  }
+  snprintf(command + strlen(command), size - strlen(command), " 2>/dev/null");
 }
+
+/* Whether a line of addr2line's is in the code of driver or test. */
+static bool is_drivers(const char *line) {
+  return line[0] != '?' && strstr(line, "runner/parts/") == NULL && strstr(line, "evlsim_runner.c") == NULL &&
+         strstr(line, "evlsim/compat/") == NULL && strstr(line, ":?") == NULL;
+}
+
+/* The first of these places that is in the driver's code, after a word, by addr2line where it is there. */
+static void print_places(const char *word, const void *const *place, unsigned places) {
+  char command[1024], line[512];
+  write_question(command, sizeof command, place, places);
+  FILE *answer = command[0] == 0 ? NULL : popen(command, "r");
+  bool is_found = false;
+  while (answer != NULL && fgets(line, sizeof line, answer) != NULL) {
+    if (is_found || !is_drivers(line)) continue;
+    const char *folder = strrchr(line, '/'), *name = folder == NULL ? line : folder + 1;
+    fprintf(stderr, ", %s %.*s", word, (int)strcspn(name, " \n"), name);
+    is_found = true;
+  }
+  if (answer != NULL) pclose(answer);
+}
+
+static void print_place(const char *word, const void *place) { print_places(word, &place, place != NULL); }
 
 static void print_events(void) {
   char name[2 * NAME_BYTES];
@@ -144,7 +171,7 @@ static void print_events(void) {
     } else {
       fprintf(stderr, "T%d %s", place->task, tasks[place->task].name);
     }
-    print_place("before", place->code);
+    print_places("before", place->code, place->codes);
     fputc('\n', stderr);
   }
 }
@@ -242,9 +269,30 @@ static bool has_own_limits(void) {
   return is_longer || it->in_handlers || it->stays_oob || it->refusals_fail || it->nobody_waits;
 }
 
+static void print_trace(void) {
+  size_t length = 0;
+  uint8_t *trace = kept->limits.names ? whole_trace(&length) : NULL;
+  fprintf(stderr, "trace:\n");
+  if (trace == NULL) put_text(evlsim_trace, stderr);
+  if (trace != NULL) print_named_trace((const char *)trace, length);
+  free(trace);
+}
+
+/* A main for the file of the test: the body of C++'s explore has no name. */
+static void print_own_test(const char *choices) {
+  if (has_nameless_body) {
+    fprintf(stderr, "as a test of its own, with the same body:\n"
+            "  int main() { return evlsim::replay(\"%s\", body, \"%s\") ? 0 : 1; }\n", kept->name, choices);
+  } else {
+    fprintf(stderr, "as a test of its own:\n  int main(void) { return evlsim_replay(%s, \"%s\"); }\n", kept->name,
+            choices);
+  }
+}
+
 /* All that there is to say of a run that failed. */
 static void report_failure(void) {
   char choices[CHOICES_BYTES];
+  if (kept->is_job) return;
   write_choices(choices, sizeof choices);
   print_output();
   fprintf(stderr, "%s FAILED: %s", kept->name, run->why);
@@ -252,13 +300,11 @@ static void report_failure(void) {
   fputc('\n', stderr);
   if (run->choices_made > 0) fprintf(stderr, "events:\n");
   print_events();
-  fprintf(stderr, "trace:\n");
-  put_text(evlsim_trace, stderr);
+  print_trace();
   if (kept->choice_count > 0 && has_own_limits()) {
     fprintf(stderr, "once more, with these limits: EVLSIM_REPLAY=\"%s\"\n", choices);
   } else if (kept->choice_count > 0) {
-    fprintf(stderr, "as a test of its own:\n  int main(void) { return evlsim_replay(%s, \"%s\"); }\n", kept->name,
-            choices);
+    print_own_test(choices);
   }
   write_files();
   fflush(stderr);

@@ -191,9 +191,10 @@ static void begin(void (*body)(void), const char *name, const evlsim_limits *lim
   if (run != NULL && run->is_on) {
     fail("evlsim_explore, evlsim_test or evlsim_replay of %s is called within a run: call one after the other", name);
   }
-  if (kept != NULL) munmap(kept, sizeof *kept);
+  if (kept != NULL) munmap(kept->node, NODES * sizeof *kept->node), munmap(kept, sizeof *kept);
   bool is_first = run == NULL;
   kept = pages(sizeof *kept, MAP_SHARED);
+  kept->node = pages(NODES * sizeof *kept->node, MAP_SHARED);
   if (is_first) {
     run = pages(sizeof *run, MAP_PRIVATE);
     tasks = pages(TASKS * sizeof *tasks, MAP_PRIVATE);

@@ -14,13 +14,21 @@ enum {
   SOURCES = 16,
   CHOICES = 64,
   ANSWERS = 256,
-  NAME_BYTES = 32,      /* of a source's name, with its end */
+  FRAMES = 16,          /* of a call, from the runner's own to that of the driver */
+  NAME_BYTES = 32,      /* of a source's or an element's name, with its end */
+  QUIET_STEPS = 1 << 12, /* locks and unlocks of a run that are noted */
   CHOICES_BYTES = 4096, /* of a list of so many events, as text */
   QUEUE = 1 << 12,
   MOST_TORN = 4096, /* bytes of a copy of which each word has a moment */
   MOST_GROWTH = 1 << 28, /* bytes by which a process may grow in an exploration */
   CANDIDATES = 1 << 20,
   NODES = 1 << 24,
+  MOST_JOBS = 256,
+  SPINS = 16, /* that are held at once */
+  MOST_PARTS = 1 << 16,
+  SAMPLE = 1 << 8, /* lists that each part runs, for what their events touch */
+  FEWEST = 32,   /* lists for which processes are worth their while */
+  SLICE = 1 << 11, /* lists of one process, at most */
   TOUCHED = 1 << 16,
   OUTCOMES = 1 << 12,
   OUTCOME_BYTES = 512,
@@ -85,6 +93,7 @@ struct task {
   bool has_begun;
   bool may_wait; /* at the end of a run, as its test says */
   bool is_seen; /* whether its code calls in, as -fsanitize=thread has it */
+  struct evl_kthread *kthread; /* of the core's threads */
   char name[24];
 };
 
@@ -160,9 +169,11 @@ struct choice {
   uint32_t source;
   char name[NAME_BYTES]; /* of its source, where a list was read that has it */
 };
-/* Where a chosen event came. */
+/* Where a chosen event came: before an access, at the first place; before a call, at the first that is no code of the
+   runner's. */
 struct place {
-  const void *code;
+  const void *code[FRAMES];
+  unsigned codes;
   int task;
   unsigned entries;
   bool in_device;
@@ -181,6 +192,26 @@ struct node {
   uint32_t step;
   uint32_t source; /* as a choice has it */
   uint32_t depth;
+};
+
+/* A process that runs lists for another one: from the first up to the last, which isn't among them. */
+struct job {
+  struct kept *own;   /* what it found */
+  struct node *added; /* the lists that its lists lead to */
+  pid_t process;
+  uint32_t first, last;
+};
+
+/* What has a name by which libevl made it. */
+enum named_kind { A_SEM, A_FLAG_GROUP, A_MUTEX, AN_XBUF, A_STAX, NAMED_KINDS };
+
+/* A lock or an unlock that makes no entry, after so many entries. */
+struct quiet_step {
+  uint32_t entries;
+  uint16_t task;
+  uint16_t number;
+  enum named_kind kind;
+  bool is_lock;
 };
 
 /* How a run ended. */
@@ -209,6 +240,8 @@ struct run {
   uint32_t raised;               /* the sources whose interrupts came within it, a bit for each */
   bool is_seen; /* whether the code of the handler that runs calls in */
   struct stall stalls[2]; /* of the in-band stage and of the out-of-band one */
+  struct evlsim_spin *spin[SPINS];
+  unsigned spins_held;
   enum ending ending;
   int now;           /* the task that runs */
   int inband;        /* the task that has the in-band stage */
@@ -236,6 +269,7 @@ struct run {
   uint32_t step;
   unsigned entries;
   unsigned choices_made;
+  unsigned quiet_steps; /* how many are noted */
   char why[512];
   const void *blamed; /* where the call is made that ends the run, if that is known */
   char said[OUTCOME_BYTES];
@@ -274,6 +308,10 @@ struct kept {
   bool devices_call; /* whether hardware makes calls: it then differs where it comes before those of a handler */
   enum ending ending;
   uint32_t at;   /* the node that is run next */
+  uint32_t alone; /* up to this node this process runs the lists itself, though it has jobs */
+  uint32_t slice; /* how many lists each job has next */
+  bool is_job;    /* whether this is a process that runs lists for another, and reports nothing */
+  bool is_others; /* whether the list that runs counts in another part */
   bool is_large; /* whether this process ended its part of the exploration, since its memory has grown */
   int output; /* the program's standard output, while that of runs is kept */
   bool is_output_kept;
@@ -284,10 +322,14 @@ struct kept {
   uint32_t outcomes;
   struct torn torn;
   struct place place[CHOICES];
+  char names[NAMED_KINDS][ELEMENTS][NAME_BYTES];
+  struct quiet_step quiet_step[QUIET_STEPS];
   struct touched touched[TOUCHED];
   struct outcome outcome[OUTCOMES];
   struct candidate candidate[CANDIDATES];
-  struct node node[NODES];
+  struct node *node;  /* all, with room for NODES */
+  struct node *added; /* where the next goes: after the others, or to a job's own */
+  struct job *job;    /* limits.jobs of them, or null */
 };
 
 static struct run *run;
@@ -297,4 +339,5 @@ static void *outside; /* where the stack of whoever began the run stands */
 static const void *outside_stack;
 static size_t outside_bytes;
 static void *outside_fake;
+static bool has_nameless_body; /* whether the next exploration's body is a C++ object */
 static bool has_hooks; /* whether the driver is compiled with -fsanitize=thread */

@@ -66,13 +66,17 @@ static int make_flags(uint32_t bits) {
 
 /* Semaphores. */
 int evl_create_sem(struct evl_sem *sem, int clockfd, int initval, int flags, const char *format, ...) {
-  (void)clockfd, (void)flags, (void)format;
+  (void)clockfd, (void)flags;
   expect_run("evl_create_sem");
   if (initval < 0) return invalid();
   int number = make_sem((uint32_t)initval);
   if (number < 0) return -EMFILE;
   sem->magic = EVLSIM_MADE;
   sem->number = number;
+  va_list values;
+  va_start(values, format);
+  note_name(A_SEM, number, format, values);
+  va_end(values);
   return fd_of(FD_SEM, number);
 }
 
@@ -125,12 +129,16 @@ int evl_peek_sem(struct evl_sem *sem, int *value) {
 
 /* Flag groups. */
 int evl_create_flags(struct evl_flags *group, int clockfd, int initval, int flags, const char *format, ...) {
-  (void)clockfd, (void)flags, (void)format;
+  (void)clockfd, (void)flags;
   expect_run("evl_create_flags");
   int number = make_flags((uint32_t)initval);
   if (number < 0) return -EMFILE;
   group->magic = EVLSIM_MADE;
   group->number = number;
+  va_list values;
+  va_start(values, format);
+  note_name(A_FLAG_GROUP, number, format, values);
+  va_end(values);
   return fd_of(FD_FLAGS, number);
 }
 

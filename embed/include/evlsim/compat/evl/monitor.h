@@ -1,2 +1,2 @@
 /* Not in this profile. */
-#error "<evl/monitor.h>: the profile has no monitors: use a mutex and a flag group (docs/use/DRIVERS.md)"
+#error "<evl/monitor.h>: the profile has no monitors: use a mutex and a flag group (docs/use/DRIVER_CALLS.md)"

@@ -4,6 +4,7 @@
 
 #include <evl/clock.h>
 #include <evl/profile.h>
+#include <evl/timeout.h>
 
 #define EVL_MUTEX_NORMAL (0 << 0)
 #define EVL_MUTEX_RECURSIVE (1 << 0)
@@ -47,6 +48,11 @@ static inline void evl_init_kmutex(struct evl_kmutex *kmutex) {
 static inline void evl_destroy_kmutex(struct evl_kmutex *kmutex) { (void)evl_close_mutex(&kmutex->mutex); }
 static inline int evl_lock_kmutex(struct evl_kmutex *kmutex) { return evl_lock_mutex(&kmutex->mutex); }
 static inline int evl_trylock_kmutex(struct evl_kmutex *kmutex) { return evl_trylock_mutex(&kmutex->mutex); }
+static inline int evl_lock_kmutex_timeout(struct evl_kmutex *kmutex, ktime_t timeout, enum evl_tmode mode) {
+  if (timeout < 0) return evl_trylock_kmutex(kmutex);
+  struct timespec date = evlsim_date_of(timeout, mode);
+  return evl_timedlock_mutex(&kmutex->mutex, &date);
+}
 static inline void evl_unlock_kmutex(struct evl_kmutex *kmutex) { (void)evl_unlock_mutex(&kmutex->mutex); }
 
 #ifdef __cplusplus

@@ -1,2 +1,2 @@
 /* Not in this profile. */
-#error "<evl/observable.h>: the profile has no observables: use a flag group (docs/use/DRIVERS.md)"
+#error "<evl/observable.h>: the profile has no observables: use a flag group (docs/use/DRIVER_CALLS.md)"

@@ -1,2 +1,2 @@
 /* Not in this profile. */
-#error "<evl/rwlock.h>: the profile has no read-write locks: use a mutex (docs/use/DRIVERS.md)"
+#error "<evl/rwlock.h>: the profile has no read-write locks: use a mutex (docs/use/DRIVER_CALLS.md)"

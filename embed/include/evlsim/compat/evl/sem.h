@@ -4,6 +4,7 @@
 
 #include <evl/clock.h>
 #include <evl/profile.h>
+#include <evl/timeout.h>
 
 struct evl_sem {
   unsigned magic;
@@ -42,6 +43,13 @@ static inline void evl_init_ksem(struct evl_ksem *ksem, int value) {
 static inline void evl_destroy_ksem(struct evl_ksem *ksem) { (void)evl_close_sem(&ksem->sem); }
 static inline int evl_down(struct evl_ksem *ksem) { return evl_get_sem(&ksem->sem); }
 static inline int evl_trydown(struct evl_ksem *ksem) { return evl_tryget_sem(&ksem->sem); }
+static inline int evl_down_timeout(struct evl_ksem *ksem, ktime_t timeout) {
+  if (timeout < 0) return evl_trydown(ksem);
+  struct timespec date = evlsim_date_of(timeout, EVL_REL);
+  return evl_timedget_sem(&ksem->sem, &date);
+}
+EVLSIM_NOT_HERE("the profile has no broadcast: call evl_up once for each waiter")
+int evl_broadcast(struct evl_ksem *ksem);
 static inline void evl_up(struct evl_ksem *ksem) { (void)evl_put_sem(&ksem->sem); }
 
 #ifdef __cplusplus

@@ -7,6 +7,7 @@
 
 #include <evl/clock.h>
 #include <evl/profile.h>
+#include <evl/timeout.h>
 #include <evl/xbuf.h>
 
 /* A timer of the core: its handler runs out-of-band when the timer fires. */
@@ -15,8 +16,6 @@ struct evl_timer {
   void (*handler)(struct evl_timer *timer);
 };
 struct itimerspec;
-typedef int64_t ktime_t;
-#define EVL_INFINITE 0
 
 #ifdef __cplusplus
 extern "C" {

@@ -27,6 +27,8 @@ bool evlsim_is_stalled(bool is_oob);
 
 static inline void unstall_oob(void) { evlsim_unstall_stage(true); }
 static inline bool oob_irqs_disabled(void) { return evlsim_is_stalled(true); }
+static inline bool hard_irqs_disabled(void) { return evlsim_is_stalled(true); }
+static inline bool irqs_disabled(void) { return evlsim_is_stalled(false); }
 static inline void oob_irq_enable(void) { evlsim_unstall_stage(true); }
 static inline void hard_local_irq_enable(void) { evlsim_unstall_stage(true); }
 static inline void local_irq_enable(void) { evlsim_unstall_stage(false); }
