@@ -98,7 +98,7 @@ export function damaged(roll, text) {
     bytes.splice(roll(bytes.length || 1), roll(5), ...Array.from({ length: roll(3) }, byte));
   return Buffer.from(bytes);
 }
-const WAYS = [['play'], ['play', '--json'], ['draw'], ['draw', '--csv'], ['draw', '--lanes'], ['draw', '--perfetto'],
+const WAYS = [['play'], ['play', '--json'], ['draw'], ['draw', '--perfetto'],
   ['check'], ['live'], ['callers'], ['play', '--limit', '3'], ['convert', '--lines'], ['convert', '--toml']];
 const INPUT = 'ps\nT0 put sem=0\nT0 pick\nT1 begin_get sem=1\nT0 tick delta=7\n? claim\nT9 now\nT0 putt\nscenario\n';
 

@@ -23,7 +23,7 @@ def text_of(name: str) -> str:
 
 
 Error = TypeVar("Error", bound=Exception)
-FORMS: Tuple[evlsim.Form, ...] = ("svg", "lanes", "csv", "perfetto")
+FORMS: Tuple[evlsim.Form, ...] = ("svg", "perfetto")
 
 
 def refused(function: Callable[[], Any], error: Type[Error], part: str) -> Error:
@@ -54,7 +54,7 @@ def test_pictures() -> None:
     with evlsim.Kernel(threads=2, sems=[0]) as kernel:
         kernel.put(0, sem=0)
         assert kernel._repr_svg_() == evlsim.draw(kernel.scenario()) == evlsim.draw(kernel)
-        assert "sem 0" in evlsim.draw(kernel, "lanes") and evlsim.draw(kernel, "csv").count("\n") >= 2
+        assert "put sem=0" in evlsim.draw(kernel, "perfetto")
     assert kernel._repr_svg_() is None
     bank = [evlsim.Plan(2, (1, "post_sem", 0))]
     own = evlsim.Kernel(threads=1, sems=[0], bank=bank)
@@ -72,11 +72,10 @@ def test_pictures() -> None:
     refused(lambda: evlsim.draw(many, page=3), evlsim.BadQuestion, "the last one is 2")
     neither = "line 1 is no line of a trace, and as a scenario it has a bad board"
     refused(lambda: evlsim.draw("x = 1"), evlsim.BadText, neither)
-    assert evlsim.draw("", "csv").count("\n") == 1
     refused(lambda: evlsim.draw(BOARD + "[[step]]\n"), evlsim.BadText, "it has a bad step 1: line 1, byte 1: ")
     refused(lambda: evlsim.draw(b"\xff"), evlsim.BadText, "no UTF-8")
     wrong: Any = "png"
-    refused(lambda: evlsim.draw(text, wrong), evlsim.BadQuestion, "'svg', 'lanes'")
+    refused(lambda: evlsim.draw(text, wrong), evlsim.BadQuestion, "'svg', 'perfetto'")
 
 
 LAB = os.environ.get("EVLSIM_LAB") or shutil.which("lab")

@@ -10,15 +10,13 @@ use Rattle.lab_traces.specs.Says.{IsLine, IsMisread, read_of, says_some, text_of
 use Rattle.lab_traces.specs.declared.traces.Misread.TheVariants as misread
 use Rattle.lab_traces.specs.declared.traces.TraceLine.{TraceLine}
 use Rattle.lab_drawing.specs.Pictures.{going_text, shown_with}
-use Rattle.lab_drawing.specs.Rows.{rows_text}
-use Rattle.lab_drawing.specs.Tables.{table_text}
 use Rattle.lab_drawing.specs.declared.frames.Goes.{Goes}
 use Rattle.lab_drawing.specs.declared.frames.Shows.TheVariants.{Words}
 use Rattle.lab_drawing.specs.declared.marks.Mark.{Mark}
 use Rattle.lab_drawing.specs.declared.moments.Moment.{Moment}
 use Rattle.lab_reports.specs.Events.{events_text}
 use Rattle.evl_c.specs.Given.{IsUnreadAs}
-use Rattle.evl_c.specs.Pictures.{AreLinesOf, AreMomentsOf, DrawsGiven, DrawsPage, DrawsPlayed, Ends, IsPicture, Origin, Outcome, callers, events_of, goes_for, moments_at, of_fault, origin_of, outcome_of, page_at, picture, picture_text, rows_of, scenario, table_of, trace}
+use Rattle.evl_c.specs.Pictures.{AreLinesOf, AreMomentsOf, DrawsGiven, DrawsPage, DrawsPlayed, Ends, IsPicture, Origin, Outcome, callers, events_of, goes_for, moments_at, of_fault, origin_of, outcome_of, page_at, picture, picture_text, scenario, trace}
 use Rattle.evl_c.specs.declared.pictures.Form.{Form}
 use Rattle.evl_c.specs.declared.pictures.Picture.{Picture}
 use Rattle.evl_c.specs.declared.pictures.Source.{Source}
@@ -33,14 +31,6 @@ ends_as Was Is r same e = by (outcome_of r) e
     by : (end : Option Outcome) → IfSome end Was → IfSome end Is
     by (Some o) e = same o e
     by None e = tt
-
-pub rows_is : (marks : List Mark) → rows_text marks ≡ rows_of marks
-unfolding rows_of
-rows_is marks = refl
-
-pub table_is : (marks : List Mark) → table_text marks ≡ table_of marks
-unfolding table_of
-table_is marks = refl
 
 pub events_is : (marks : List Mark) → events_text marks ≡ events_of marks
 unfolding events_of

@@ -6,12 +6,12 @@ use Rattle.evl_c.specs.Plays as plays
 use Rattle.evl_c.specs.Windows.{window}
 use Rattle.evl_c.specs.declared.draws.Drawn.{Drawn}
 use Rattle.evl_c.specs.declared.pictures.Form.{Form}
-use Rattle.evl_c.specs.declared.pictures.Form.TheVariants.{Svg, Rows, Table, Events}
+use Rattle.evl_c.specs.declared.pictures.Form.TheVariants.{Svg, Events}
 use Rattle.evl_c.specs.declared.pictures.Way.TheVariants.{Down, Across, Fitting}
 
--- whether a form is one of the six, and a page is counted from 1
+-- whether a form is one of the four, and a page is counted from 1
 abbrev pub is_asked : ℕ → ℕ → Bool
-is_asked form page = nat_le form 5 && nat_le 1 page
+is_asked form page = nat_le form 3 && nat_le 1 page
 
 -- the form of a number
 abbrev pub form_of : ℕ → Form
@@ -19,8 +19,6 @@ form_of number =
     if nat_eq number 0 then Svg Fitting else
     if nat_eq number 1 then Svg Down else
     if nat_eq number 2 then Svg Across else
-    if nat_eq number 3 then Rows else
-    if nat_eq number 4 then Table else
     Events
 
 -- the status that an outcome tells; where memory ran out there is none

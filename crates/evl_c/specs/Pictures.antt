@@ -14,9 +14,7 @@ use Rattle.lab_traces.specs.declared.traces.TraceLine.{TraceLine}
 use Rattle.lab_drawing.specs.Lanes.{AreLanesOf}
 use Rattle.lab_drawing.specs.Marks.{all_marked, is_entry, told_of}
 use Rattle.lab_drawing.specs.Pictures.{going_text, shown_with}
-use Rattle.lab_drawing.specs.Rows.{rows_text}
 use Rattle.lab_drawing.specs.Standings.{all_told, told_at}
-use Rattle.lab_drawing.specs.Tables.{table_text}
 use Rattle.lab_drawing.specs.declared.frames.Goes.{Goes}
 use Rattle.lab_drawing.specs.declared.frames.Goes.TheVariants as goes
 use Rattle.lab_drawing.specs.declared.frames.Shows.TheVariants.{Words}
@@ -28,7 +26,7 @@ use Rattle.lab_reports.specs.Events.{events_text}
 use Rattle.lab_lines.specs.Kinds.{IsPlain}
 use Rattle.evl_c.specs.Given.{IsUnreadAs}
 use Rattle.evl_c.specs.declared.pictures.Form.{Form}
-use Rattle.evl_c.specs.declared.pictures.Form.TheVariants.{Svg, Rows, Table, Events}
+use Rattle.evl_c.specs.declared.pictures.Form.TheVariants.{Svg, Events}
 use Rattle.evl_c.specs.declared.pictures.Picture.{Picture}
 use Rattle.evl_c.specs.declared.pictures.Source.{Source}
 use Rattle.evl_c.specs.declared.pictures.Source.TheVariants as source
@@ -110,13 +108,7 @@ picture_text way callers marks moments = going_text way Words moments marks
 picture_text way (scenario text) marks moments = going_text way (shown_with moments) moments marks
 picture_text way trace marks moments = going_text way (shown_with moments) moments marks
 
--- all marks at once, in characters, as a table, and as trace events
-unfoldable pub rows_of : List Mark → List ℕ
-rows_of marks = rows_text marks
-
-unfoldable pub table_of : List Mark → List ℕ
-table_of marks = table_text marks
-
+-- all marks at once, as trace events
 unfoldable pub events_of : List Mark → List ℕ
 events_of marks = events_text marks
 
@@ -162,8 +154,6 @@ module _ (bank : List Handler) where
     -- in any form
     abbrev pub DrawsMarks : Form → Origin → List Mark → Outcome → Type 0
     DrawsMarks (Svg way) origin marks outcome = DrawsSvg way origin marks outcome
-    DrawsMarks Rows origin marks outcome = outcome ≡ picture (rows_of marks) 1
-    DrawsMarks Table origin marks outcome = outcome ≡ picture (table_of marks) 1
     DrawsMarks Events origin marks outcome = outcome ≡ picture (events_of marks) 1
 
     module _ (form : Form) where

@@ -35,11 +35,11 @@ const NOTHING: Drawn = Drawn {
     step: 0,
 };
 
-// Whether a form is one of the six, and a page is counted from 1.
+// Whether a form is one of the four, and a page is counted from 1.
 fn is_asked(form: u8, page: u32) -> bool
     ensures { result ≡ is_asked form page }
 {
-    form <= 5 && 1 <= page
+    form <= 3 && 1 <= page
 }
 
 // The form of a number.
@@ -50,8 +50,6 @@ fn form_of(number: u8) -> Form
         0 => Form::Svg(Way::Fitting),
         1 => Form::Svg(Way::Down),
         2 => Form::Svg(Way::Across),
-        3 => Form::Rows,
-        4 => Form::Table,
         _ => Form::Events,
     }
 }
@@ -143,7 +141,7 @@ fn draw_over(
 
 /// Puts the picture of a trace, of a scenario over the program's callbacks, or of what `lab callers` tells, from the
 /// byte `start` on, into the buffer, as much as there is room for. `form`: 0 to 2 SVG (fitting, down, across), 3
-/// characters, 4 CSV, 5 trace events; `page`: of SVG, from 1.
+/// trace events; `page`: of SVG, from 1.
 ///
 /// 0: done. 1: no text. 2: bad board. 3: bad step. 4: no memory. 7: no such form or page. But for 0 no byte is put.
 #[unsafe(no_mangle)]

@@ -14,7 +14,7 @@ use evl_plans::{Planned, trace_plans};
 use evl_scenario::Fault;
 use lab_drawing::{
     Goes, Mark, Moment, lanes_of, marks_of, page, page_count, page_moments, told_moments,
-    write_down, write_rows, write_svg, write_table, write_told, write_told_down,
+    write_down, write_svg, write_told, write_told_down,
 };
 use lab_moments::moments_of;
 use lab_reports::write_events;
@@ -33,8 +33,6 @@ pub enum Way {
 #[derive(Clone, Copy, PartialEq, Eq)]
 pub enum Form {
     Svg(Way),
-    Rows,
-    Table,
     Events,
 }
 
@@ -207,29 +205,6 @@ fn draw_svg(
     }
 }
 
-// Marks in characters.
-fn draw_rows(alloc: Global, marks: &[Mark<'_>]) -> Result<Picture, Undrawn>
-    ensures { Ends (λ o. o ≡ pictures.picture (pictures.rows_of marks.now) 1) result }
-{
-    match write_rows(alloc, marks) {
-        Ok(rows) => Ok(Picture {
-            text: rows.into_bytes(),
-            pages: 1,
-        }),
-        Err(_) => Err(Undrawn::Memory),
-    }
-}
-
-// Marks as a table.
-fn draw_table(alloc: Global, marks: &[Mark<'_>]) -> Result<Picture, Undrawn>
-    ensures { Ends (λ o. o ≡ pictures.picture (pictures.table_of marks.now) 1) result }
-{
-    match write_table(alloc, marks) {
-        Ok(text) => Ok(Picture { text, pages: 1 }),
-        Err(_) => Err(Undrawn::Memory),
-    }
-}
-
 // Marks as trace events.
 fn draw_events(alloc: Global, marks: &[Mark<'_>]) -> Result<Picture, Undrawn>
     ensures { Ends (λ o. o ≡ pictures.picture (pictures.events_of marks.now) 1) result }
@@ -254,8 +229,6 @@ fn draw_marks(
 {
     match asked.form {
         Form::Svg(way) => draw_svg(alloc, asked, marks, source, way),
-        Form::Rows => draw_rows(alloc, marks),
-        Form::Table => draw_table(alloc, marks),
         Form::Events => draw_events(alloc, marks),
     }
 }

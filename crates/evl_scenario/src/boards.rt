@@ -24,7 +24,7 @@ pub fn read_board(table: &Table) -> Option<Board>
     read_elements(table, at(table, "threads")?)
 }
 
-/// The board that the lists of a table stand for, with so many threads, where all of its numbers are in their ranges.
+/// The board that the lists of a table are, with so many threads, where all of its numbers are in their ranges.
 pub fn read_elements(table: &Table, threads: u16) -> Option<Board>
     ensures { result ≡ elements_of threads (table_view table.now) }
 {

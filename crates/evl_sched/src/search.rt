@@ -34,7 +34,7 @@ pub fn has_budget(groups: &[Group], group: Option<u16>) -> bool
     }
 }
 
-/// What is left of a group's budget, if there is such a group.
+/// A group's budget that is left, if there is such a group.
 pub fn budget_at(groups: &[Group], group: u16) -> Option<u64>
     ensures budget { result ≡ budget_at groups.now group }
 {

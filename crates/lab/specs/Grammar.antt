@@ -18,10 +18,6 @@ text_rule name = record (new_rule name) { long = Some name; action = Some Set; v
 abbrev pub number_rule : Text → ℤ → Rule
 number_rule name most = record (new_rule name) { long = Some name; value_names = 1; parser = Some (Signed (pos 1) most) }
 
--- so does the text of a folder, and there are words that it doesn't go with
-abbrev pub folder_rule : Text → Rule
-folder_rule name = record (text_rule name) { is_free = false }
-
 -- nothing stands behind it, and there are words that it doesn't go with, or doesn't go without
 abbrev pub mark_rule : Text → Rule
 mark_rule name = record (new_rule name) { long = Some name; action = Some SetTrue; is_free = false }
@@ -57,13 +53,11 @@ check_part = part (codes "check") (bank_rule ∷ free_rule (codes "json") ∷ re
 
 unfoldable pub draw_part : Shape
 draw_part =
-    part (codes "draw") (bank_rule ∷ number_rule (codes "outcome") (pos 1000000) ∷ mark_rule (codes "svg") ∷ mark_rule (codes "html") ∷ mark_rule (codes "perfetto") ∷ mark_rule (codes "csv") ∷ mark_rule (codes "lanes")
-    ∷ mark_rule (codes "down") ∷ mark_rule (codes "across") ∷ number_rule (codes "upto") (pos 1000000) ∷ number_rule (codes "page") (pos 1000000) ∷ file_rule ∷ [])
+    part (codes "draw") (bank_rule ∷ number_rule (codes "outcome") (pos 1000000) ∷ mark_rule (codes "svg") ∷ mark_rule (codes "perfetto") ∷ mark_rule (codes "down") ∷ mark_rule (codes "across") ∷ number_rule (codes "upto") (pos 1000000) ∷ number_rule (codes "page") (pos 1000000) ∷ file_rule ∷ [])
 
 unfoldable pub play_part : Shape
 play_part =
-    part (codes "play") (bank_rule ∷ limit_rule ∷ mark_rule (codes "json") ∷ mark_rule (codes "states") ∷ folder_rule (codes "against") ∷ mark_rule (codes "all")
-    ∷ folder_rule (codes "record") ∷ mark_rule (codes "force") ∷ several_rule (codes "FILE") ∷ [])
+    part (codes "play") (bank_rule ∷ limit_rule ∷ mark_rule (codes "json") ∷ mark_rule (codes "states") ∷ text_rule (codes "against") ∷ several_rule (codes "FILE") ∷ [])
 
 unfoldable pub convert_part : Shape
 convert_part = part (codes "convert") (mark_rule (codes "lines") ∷ mark_rule (codes "toml") ∷ file_rule ∷ [])
@@ -74,10 +68,14 @@ live_part = part (codes "live") (bank_rule ∷ limit_rule ∷ free_rule (codes "
 unfoldable pub orders_part : Shape
 orders_part =
     part (codes "orders") (bank_rule ∷ number_rule (codes "most") (pos 100000000) ∷ number_rule (codes "outcome") (pos 1000000) ∷ number_rule (codes "state") (pos 1000000)
-    ∷ free_rule (codes "ask") ∷ free_rule (codes "first") ∷ text_rule (codes "order") ∷ free_rule (codes "answers") ∷ free_rule (codes "json") ∷ file_rule ∷ [])
+    ∷ free_rule (codes "ask") ∷ text_rule (codes "order") ∷ free_rule (codes "answers") ∷ free_rule (codes "json") ∷ file_rule ∷ [])
 
 unfoldable pub callers_part : Shape
 callers_part = part (codes "callers") (bank_rule ∷ limit_rule ∷ file_rule ∷ [])
+
+unfoldable pub run_part : Shape
+run_part =
+    part (codes "run") (bank_rule ∷ free_rule (codes "json") ∷ free_rule (codes "csv") ∷ free_rule (codes "trace") ∷ free_rule (codes "scenario") ∷ free_rule (codes "svg") ∷ file_rule ∷ [])
 
 unfoldable pub help_part : Shape
 help_part = part (codes "help") (free_rule (codes "json") ∷ one_rule (codes "WORD") ∷ [])
@@ -92,7 +90,7 @@ program parts = record {
 }
 
 abbrev pub grammar : App
-grammar = program (check_part ∷ draw_part ∷ play_part ∷ convert_part ∷ live_part ∷ orders_part ∷ callers_part ∷ help_part ∷ [])
+grammar = program (check_part ∷ draw_part ∷ play_part ∷ convert_part ∷ live_part ∷ orders_part ∷ callers_part ∷ run_part ∷ help_part ∷ [])
 
 -- ---- of commands
 

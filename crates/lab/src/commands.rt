@@ -3,10 +3,11 @@ ghost use Rattle.std.specs.Prelude.{◌≡◌, true, map, pos, codes, IfOk, IfEr
 ghost use Rattle.clap.specs.Words.{app_of, kind_of, subcommand_of, subcommand_rows_of, takes};
 ghost use Rattle.clap.specs.declared.builder.value_parser.ValueParser.TheVariants.{Signed};
 ghost use Rattle.clap.specs.declared.error.kind.ErrorKind.TheVariants.{OutOfMemory};
-ghost use Rattle.lab.specs.Grammar.{IsPart, IsWord, callers_part, check_part, convert_part, file_rule, folder_rule, free_rule, grammar, help_part, live_part, mark_rule, number_rule, one_rule, orders_part, play_part, several_rule, text_rule};
+ghost use Rattle.lab.specs.Grammar.{IsPart, IsWord, callers_part, check_part, convert_part, file_rule, free_rule, grammar, help_part, live_part, mark_rule, number_rule, one_rule, orders_part, play_part, several_rule, text_rule};
 
 use crate::draw_commands::draw_command;
 use crate::options::{bank_word, limit_word, to_a_million};
+use crate::run_commands::run_command;
 use clap::builder::ValueParser;
 use clap::{Arg, ArgAction, ArgMatches, Command, Error, value_parser};
 use std::alloc::{AllocError, Global};
@@ -43,8 +44,7 @@ fn json_word<'a>(alloc: Global) -> Result<Arg<'a>, AllocError>
         .long("json")
         .action(ArgAction::SetTrue)
         .help("A line of JSON for each entry, with its plays")
-        .conflicts_with("against")?
-        .conflicts_with("record")
+        .conflicts_with("against")
 }
 
 // How the machine stands is told.
@@ -56,8 +56,7 @@ fn states_word<'a>(alloc: Global) -> Result<Arg<'a>, AllocError>
         .action(ArgAction::SetTrue)
         .help("A line of JSON for how the machine stands before the first step, and one after each")
         .conflicts_with("json")?
-        .conflicts_with("against")?
-        .conflicts_with("record")
+        .conflicts_with("against")
 }
 
 // What is told as JSON, of texts and of calls.
@@ -71,49 +70,14 @@ fn as_json_word<'a>(alloc: Global, help: &'a str) -> Arg<'a>
 }
 
 // The folder of traces that were kept.
-fn against_word<'a>(alloc: Global) -> Result<Arg<'a>, AllocError>
-    ensures { IfOk result (IsWord (folder_rule (codes "against"))) }
+fn against_word<'a>(alloc: Global) -> Arg<'a>
+    ensures { IsWord (text_rule (codes "against")) result }
 {
     Arg::new(alloc, "against")
         .long("against")
         .value_name("FOLDER")
         .action(ArgAction::Set)
         .help("The first difference from the trace that FOLDER has of each file")
-        .conflicts_with("record")
-}
-
-// That each difference is told.
-fn all_word<'a>(alloc: Global) -> Result<Arg<'a>, AllocError>
-    ensures { IfOk result (IsWord (mark_rule (codes "all"))) }
-{
-    Arg::new(alloc, "all")
-        .long("all")
-        .action(ArgAction::SetTrue)
-        .help("With --against: each line that differs")
-        .requires_arg("against")
-}
-
-// The folder in which traces are kept.
-fn record_word<'a>(alloc: Global) -> Result<Arg<'a>, AllocError>
-    ensures { IfOk result (IsWord (folder_rule (codes "record"))) }
-{
-    Arg::new(alloc, "record")
-        .long("record")
-        .value_name("FOLDER")
-        .action(ArgAction::Set)
-        .help("Writes the trace of each file into FOLDER, for --against")
-        .conflicts_with("against")
-}
-
-// That traces replace those that differ.
-fn force_word<'a>(alloc: Global) -> Result<Arg<'a>, AllocError>
-    ensures { IfOk result (IsWord (mark_rule (codes "force"))) }
-{
-    Arg::new(alloc, "force")
-        .long("force")
-        .action(ArgAction::SetTrue)
-        .help("With --record: also in place of a trace that differs")
-        .requires_arg("record")
 }
 
 // The files of `play`.
@@ -135,11 +99,8 @@ fn play_command<'a>(alloc: Global) -> Result<Command<'a>, AllocError>
     let with_limit = over_bank.arg(limit_word(alloc))?;
     let as_json = with_limit.arg(json_word(alloc)?)?;
     let with_states = as_json.arg(states_word(alloc)?)?;
-    let against = with_states.arg(against_word(alloc)?)?;
-    let with_all = against.arg(all_word(alloc)?)?;
-    let recorded = with_all.arg(record_word(alloc)?)?;
-    let with_force = recorded.arg(force_word(alloc)?)?;
-    let with_files = with_force.arg(played_files(alloc))?;
+    let against = with_states.arg(against_word(alloc))?;
+    let with_files = against.arg(played_files(alloc))?;
     Ok(with_files)
 }
 
@@ -281,18 +242,6 @@ fn state_word<'a>(alloc: Global) -> Arg<'a>
         )
 }
 
-// Whether the first order that is against what is asked is looked for.
-fn first_word<'a>(alloc: Global) -> Arg<'a>
-    ensures { IsWord (free_rule (codes "first")) result }
-{
-    Arg::new(alloc, "first")
-        .long("first")
-        .action(ArgAction::SetTrue)
-        .help(
-            "Ends at the first order that is against what is asked, and prints its scenario alone",
-        )
-}
-
 // Whether only what is asked is looked for.
 fn ask_word<'a>(alloc: Global) -> Arg<'a>
     ensures { IsWord (free_rule (codes "ask")) result }
@@ -350,8 +299,7 @@ fn orders_command<'a>(alloc: Global) -> Result<Command<'a>, AllocError>
     let with_outcome = with_most.arg(outcome_word(alloc))?;
     let with_state = with_outcome.arg(state_word(alloc))?;
     let with_ask = with_state.arg(ask_word(alloc))?;
-    let with_first = with_ask.arg(first_word(alloc))?;
-    let with_order = with_first.arg(order_word(alloc))?;
+    let with_order = with_ask.arg(order_word(alloc))?;
     let with_answers = with_order.arg(answers_word(alloc))?;
     let with_json = with_answers.arg(orders_json_word(alloc))?;
     let with_file = with_json.arg(callers_file(alloc))?;
@@ -416,7 +364,8 @@ fn command_line<'a>(alloc: Global) -> Result<Command<'a>, AllocError>
     let lives = converts.subcommand(live_command(alloc)?)?;
     let orders = lives.subcommand(orders_command(alloc)?)?;
     let steps = orders.subcommand(steps_command(alloc)?)?;
-    let all = steps.subcommand(help_command(alloc)?)?;
+    let runs = steps.subcommand(run_command(alloc)?)?;
+    let all = runs.subcommand(help_command(alloc)?)?;
     Ok(all)
 }
 

@@ -6,68 +6,8 @@ use crate::options::{bank_word, to_a_million};
 use clap::{Arg, ArgAction, Command};
 use std::alloc::{AllocError, Global};
 
-// A form of a picture, which goes with no other.
-fn form_word<'a>(
-    alloc: Global,
-    name: &'a str,
-    others: (&'a str, &'a str, &'a str, &'a str),
-    help: &'a str,
-) -> Result<Arg<'a>, AllocError>
-    ensures { IfOk result (IsWord (mark_rule name.entry.now)) }
-{
-    Arg::new(alloc, name)
-        .long(name)
-        .action(ArgAction::SetTrue)
-        .help(help)
-        .conflicts_with(others.0)?
-        .conflicts_with(others.1)?
-        .conflicts_with(others.2)?
-        .conflicts_with(others.3)
-}
-
-// The form that is drawn where none is named.
-fn svg_word<'a>(alloc: Global) -> Result<Arg<'a>, AllocError>
-    ensures { IfOk result (IsWord (mark_rule (codes "svg"))) }
-{
-    let help = "As SVG, which is the form where none is named";
-    form_word(alloc, "svg", ("html", "perfetto", "csv", "lanes"), help)
-}
-
-// The form for a projector.
-fn html_word<'a>(alloc: Global) -> Result<Arg<'a>, AllocError>
-    ensures { IfOk result (IsWord (mark_rule (codes "html"))) }
-{
-    let help =
-        "As a page for a browser: the SVG, a slider over its steps, and the machine behind each";
-    form_word(alloc, "html", ("svg", "perfetto", "csv", "lanes"), help)
-}
-
-// The form for viewers of timelines.
-fn perfetto_word<'a>(alloc: Global) -> Result<Arg<'a>, AllocError>
-    ensures { IfOk result (IsWord (mark_rule (codes "perfetto"))) }
-{
-    let help = "As trace events in JSON, for a viewer of timelines";
-    form_word(alloc, "perfetto", ("svg", "html", "csv", "lanes"), help)
-}
-
-// The form for tables.
-fn csv_word<'a>(alloc: Global) -> Result<Arg<'a>, AllocError>
-    ensures { IfOk result (IsWord (mark_rule (codes "csv"))) }
-{
-    let help = "As comma-separated values";
-    form_word(alloc, "csv", ("svg", "html", "perfetto", "lanes"), help)
-}
-
-// The form for a terminal.
-fn lanes_word<'a>(alloc: Global) -> Result<Arg<'a>, AllocError>
-    ensures { IfOk result (IsWord (mark_rule (codes "lanes"))) }
-{
-    let help = "As rows of characters";
-    form_word(alloc, "lanes", ("svg", "html", "perfetto", "csv"), help)
-}
-
-// Which way a picture goes, which goes with no other.
-fn way_word<'a>(
+// A word that doesn't go with another.
+fn either_word<'a>(
     alloc: Global,
     name: &'a str,
     other: &'a str,
@@ -82,12 +22,28 @@ fn way_word<'a>(
         .conflicts_with(other)
 }
 
+// The form that is drawn where none is named.
+fn svg_word<'a>(alloc: Global) -> Result<Arg<'a>, AllocError>
+    ensures { IfOk result (IsWord (mark_rule (codes "svg"))) }
+{
+    let help = "As SVG, which is the form where none is named";
+    either_word(alloc, "svg", "perfetto", help)
+}
+
+// The form for viewers of timelines.
+fn perfetto_word<'a>(alloc: Global) -> Result<Arg<'a>, AllocError>
+    ensures { IfOk result (IsWord (mark_rule (codes "perfetto"))) }
+{
+    let help = "As trace events in JSON, for a viewer of timelines";
+    either_word(alloc, "perfetto", "svg", help)
+}
+
 // A row for each line.
 fn down_word<'a>(alloc: Global) -> Result<Arg<'a>, AllocError>
     ensures { IfOk result (IsWord (mark_rule (codes "down"))) }
 {
     let help = "An SVG with a row for each line; without it, of at most 60 lines";
-    way_word(alloc, "down", "across", help)
+    either_word(alloc, "down", "across", help)
 }
 
 // A column for each line.
@@ -95,7 +51,7 @@ fn across_word<'a>(alloc: Global) -> Result<Arg<'a>, AllocError>
     ensures { IfOk result (IsWord (mark_rule (codes "across"))) }
 {
     let help = "An SVG with a column for each line; without it, of more than 60 lines";
-    way_word(alloc, "across", "down", help)
+    either_word(alloc, "across", "down", help)
 }
 
 // How many lines are drawn.
@@ -149,12 +105,9 @@ pub fn draw_command<'a>(alloc: Global) -> Result<Command<'a>, AllocError>
     );
     let over_bank = command.arg(bank_word(alloc))?;
     let of_outcome = over_bank.arg(drawn_word(alloc))?;
-    let with_one = of_outcome.arg(svg_word(alloc)?)?;
-    let with_html = with_one.arg(html_word(alloc)?)?;
-    let with_two = with_html.arg(perfetto_word(alloc)?)?;
-    let with_three = with_two.arg(csv_word(alloc)?)?;
-    let with_four = with_three.arg(lanes_word(alloc)?)?;
-    let with_down = with_four.arg(down_word(alloc)?)?;
+    let as_svg = of_outcome.arg(svg_word(alloc)?)?;
+    let as_events = as_svg.arg(perfetto_word(alloc)?)?;
+    let with_down = as_events.arg(down_word(alloc)?)?;
     let with_across = with_down.arg(across_word(alloc)?)?;
     let with_upto = with_across.arg(upto_word(alloc))?;
     let with_page = with_upto.arg(page_word(alloc))?;

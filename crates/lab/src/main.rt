@@ -16,6 +16,8 @@ mod helps;
 mod options;
 mod outcomes;
 mod parts;
+mod run_commands;
+mod runs;
 
 use clap::Error;
 use clap::error::ErrorKind;

@@ -1,4 +1,4 @@
-//! The parts of the program: `check`, `draw`, `play`, `convert`, `live`, `orders`, `callers` and `help`.
+//! The parts of the program: `check`, `draw`, `play`, `convert`, `live`, `orders`, `callers`, `run` and `help`.
 ghost use Rattle.std.specs.Prelude.{IfErr};
 ghost use Rattle.lab_streams.specs.Streams.{EndsEarly};
 
@@ -7,6 +7,7 @@ use crate::explains::{
 };
 use crate::helps::{help, help_json};
 use crate::outcomes::draw_outcome;
+use crate::runs::run;
 use clap::ArgMatches;
 use lab_drives::live;
 use lab_notes::note_files;
@@ -18,7 +19,7 @@ use lab_streams::{
 use std::io;
 use std::rt::Files;
 
-// Whether a word that takes no value stands there.
+// Whether a word without a value is there.
 fn is_set(matches: &ArgMatches<'_>, id: &str) -> bool {
     matches.get_one(id).unwrap_or(false)
 }
@@ -77,6 +78,7 @@ pub fn do_part<R: Files + AllocGlobal, I: Source, O: Stream, E: Stream>(
         }
         Some(("live", inner)) => live(rt, driving_of(inner), input, out, err),
         Some(("orders", inner)) => explained_orders(rt, &asked_of(inner), input, out, err),
+        Some(("run", inner)) => run(rt, inner, input, out, err),
         Some(("callers", inner)) => explained_callers(rt, driving_of(inner), input, out, err),
         Some(("help", inner)) => {
             if is_set(inner, "json") {

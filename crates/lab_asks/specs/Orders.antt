@@ -24,7 +24,7 @@ use Rattle.lab_scenario_orders.specs.declared.texts.TextFault.TheVariants.{Limit
 use Rattle.lab_step_texts.specs.Kinds.{asks_steps}
 pub use Rattle.lab_asks.specs.Asks.{ask_fault_line, impossible_text, line_words}
 use Rattle.lab_asks.specs.Alone.{TellsAlone}
-pub use Rattle.lab_asks.specs.OneOrder.{TellsFirst, TellsOrder, order_of, text_name}
+pub use Rattle.lab_asks.specs.OneOrder.{TellsOrder, order_of, text_name}
 pub use Rattle.lab_asks.specs.Outcomes.{TellsAll, first_against, json_of, json_told, no_state, order_at, order_in, outcomes_told, report_of, report_told, scenario_of, scenario_told, state_told}
 use Rattle.lab_streams.specs.Banks.{Refuses}
 use Rattle.lab_streams.specs.Endings.{as_orders, kinded_words, line_about}
@@ -34,7 +34,7 @@ use Rattle.lab_streams.specs.Readings.{Reading}
 use Rattle.lab_asks.specs.StepOrders.{TellsSteps}
 use Rattle.lab_streams.specs.declared.words.Asked.{Asked}
 use Rattle.lab_streams.specs.declared.words.Shown.{Shown}
-use Rattle.lab_streams.specs.declared.words.Shown.TheVariants.{Report, Json, Outcome, State, Alone, First, Order, Answers}
+use Rattle.lab_streams.specs.declared.words.Shown.TheVariants.{Report, Json, Outcome, State, Alone, Order, Answers}
 use Rattle.lab_asks.specs.declared.orders.View.TheVariants as view
 
 -- the outcomes of all orders, or one order alone
@@ -45,7 +45,6 @@ TellsOutcomes bank most Answers name callers asks output = TellsAll bank most vi
 TellsOutcomes bank most (Outcome number) name callers asks output = TellsAll bank most (view.Outcome number) name callers asks output
 TellsOutcomes bank most (State number) name callers asks output = TellsAll bank most (view.State number) name callers asks output
 TellsOutcomes bank most Alone name callers asks output = TellsAlone bank most name callers asks output
-TellsOutcomes bank most First name callers asks output = TellsFirst bank most name callers asks output
 TellsOutcomes bank most (Order text) name callers asks output = TellsOrder bank text.now name callers output
 
 -- ---- what is asked

@@ -32,7 +32,7 @@ use Rattle.lab_asks.specs.Verdicts.{holds_text, unanswered_text}
 use Rattle.lab_asks.specs.declared.step_found.StepView.{StepView}
 use Rattle.lab_asks.specs.declared.step_found.StepView.TheVariants as view
 use Rattle.lab_streams.specs.declared.words.Shown.{Shown}
-use Rattle.lab_streams.specs.declared.words.Shown.TheVariants.{Report, Json, Outcome, State, Alone, First, Order, Answers}
+use Rattle.lab_streams.specs.declared.words.Shown.TheVariants.{Report, Json, Outcome, State, Alone, Order, Answers}
 
 -- ---- the outcomes
 
@@ -140,7 +140,6 @@ told_for (State number) = Ok (view.State number)
 told_for Answers = Ok view.Answers
 told_for Json = Err (codes "--json is for orders of whole calls")
 told_for Alone = Err (codes "--ask is for orders of whole calls")
-told_for First = Err (codes "--first is for orders of whole calls")
 told_for (Order text) = Err (codes "--order is for orders of whole calls")
 
 abbrev pub TellsGone : ℕ → List ℕ → Crew → Ask → Result StepView (List ℕ) → Output → Type 0

@@ -34,13 +34,6 @@ count_text asks count = codes ": hold in all " ++ (decimal count ++ (codes " ord
 abbrev pub holds_text : List ℕ → Ask → ℕ → List ℕ
 holds_text name asks count = ends_text name asks ++ (moments_text asks ++ count_text asks count)
 
--- or in all orders, of which nobody counted how many there are
-abbrev pub all_text : Ask → List ℕ
-all_text asks = codes ": hold in all orders" ++ (picked_words asks ++ codes "\n")
-
-abbrev pub held_text : List ℕ → Ask → List ℕ
-held_text name asks = ends_text name asks ++ (moments_text asks ++ all_text asks)
-
 -- orders of so many steps were cut off
 abbrev pub unanswered_text : List ℕ → ℕ → List ℕ
 unanswered_text name steps = codes "lab: " ++ (name ++ (codes ": not answered: cut off at orders of " ++ (decimal steps ++ codes " steps\n")))

@@ -11,7 +11,7 @@ use crate::alone::tell_alone;
 use crate::answers::tell_answers;
 use crate::copies::Copies;
 use crate::numbered::{order_at, outcome_at, tell_no_outcome, tell_no_state};
-use crate::one_order::{print_order, tell_first, tell_order};
+use crate::one_order::{print_order, tell_order};
 use crate::order_faults::{tell_ask_fault, tell_impossible, tell_text_fault};
 use crate::step_orders::tell_steps;
 use crate::verdicts::tell_against;
@@ -261,7 +261,6 @@ fn go_through<O: Stream, E: Stream>(
     let bank = Copies { plans };
     match asked.shown {
         Shown::Alone => tell_alone(alloc, asked, callers, ask, &bank, out, err),
-        Shown::First => tell_first(alloc, asked, callers, ask, &bank, out, err),
         Shown::Order(text) => tell_order(alloc, asked, text, callers, &bank, out, err),
         Shown::Report => {
             go_through_all(alloc, asked, View::Report, callers, ask, &bank, out, err)

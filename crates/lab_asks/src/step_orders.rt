@@ -162,7 +162,6 @@ fn told_for(shown: Shown<'_>) -> Result<StepView, &'static str>
         Shown::Answers => Ok(StepView::Answers),
         Shown::Json => Err("--json is for orders of whole calls"),
         Shown::Alone => Err("--ask is for orders of whole calls"),
-        Shown::First => Err("--first is for orders of whole calls"),
         Shown::Order(_) => Err("--order is for orders of whole calls"),
     }
 }

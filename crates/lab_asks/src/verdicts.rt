@@ -2,7 +2,7 @@
 ghost use Rattle.std.specs.Prelude.{◌≡◌, IfErr, IfOk, OnOk, Some, false};
 ghost use Rattle.std.specs.Io.KnownBytes.{Appends};
 ghost use Rattle.lab_streams.specs.Streams.{EndsEarly};
-ghost use Rattle.lab_asks.specs.Verdicts.{all_text, asked_status, asked_text, count_text, count_words, ends_text, ends_words, held_text, holds_text, moments_text, none_status, none_text, number_status, number_text, picked_words, states_status, states_text, unanswered_text};
+ghost use Rattle.lab_asks.specs.Verdicts.{asked_status, asked_text, count_text, count_words, ends_text, ends_words, holds_text, moments_text, none_status, none_text, number_status, number_text, picked_words, states_status, states_text, unanswered_text};
 
 use lab_scenario_orders::{
     Ask, Asked as Answered, Outcomes, asks_anything, is_count_against, state_against,
@@ -108,27 +108,6 @@ pub fn tell_holds<E: Stream>(err: &mut E, name: &str, ask: &Ask, count: u128) ->
     tell_ends(err, name, ask)?;
     tell_moments(err, ask)?;
     tell_count(err, ask, count)?;
-    Ok(0)
-}
-
-// Tells that it holds in all orders, of which nobody counted how many there are.
-fn tell_all<E: Stream>(err: &mut E, ask: &Ask) -> io::Result<()>
-    ensures line { OnOk result (Appends (E.contents err.old) (E.contents err.new) (all_text ask.now)) }
-    ensures early { IfErr result (EndsEarly false false (E.has_failed err.new)) }
-{
-    let picked = picked_words(ask);
-    writeln!(err, ": hold in all orders{picked}")
-}
-
-/// Tells that what is asked holds in all orders, where they weren't counted, and answers the status.
-pub fn tell_held<E: Stream>(err: &mut E, name: &str, ask: &Ask) -> io::Result<u8>
-    ensures status { IfOk result (λ status. status ≡ 0) }
-    ensures line { OnOk result (Appends (E.contents err.old) (E.contents err.new) (held_text name.now ask.now)) }
-    ensures early { IfErr result (EndsEarly false false (E.has_failed err.new)) }
-{
-    tell_ends(err, name, ask)?;
-    tell_moments(err, ask)?;
-    tell_all(err, ask)?;
     Ok(0)
 }
 

@@ -1,13 +1,11 @@
 mod CallLaws
 mod HeadLaws
-mod HtmlLaws
+mod ItemLaws
 mod KeyLaws
 mod LaneLaws
 mod PictureLaws
-mod RowLaws
 mod ShownLaws
 mod StandingLaws
-mod TableLaws
 mod TextLaws
 mod TickLaws
 mod TitleLaws

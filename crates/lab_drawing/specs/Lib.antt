@@ -4,16 +4,13 @@ pub mod Drawings
 pub mod Events
 pub mod Frames
 pub mod Heads
-pub mod Html
 pub mod Lanes
 pub mod Marks
 pub mod Named
 pub mod Pictures
-pub mod Rows
 pub mod Shown
 pub mod Standings
 pub mod Strips
-pub mod Tables
 pub mod Texts
 pub mod Titles
 pub mod Words

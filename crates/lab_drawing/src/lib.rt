@@ -1,4 +1,4 @@
-//! Pictures of a trace: a mark for each entry and play, in lanes, as SVG, as a table, or as text.
+//! Pictures of a trace: a mark for each entry and play, in lanes, as SVG.
 //! What names no source is this profile's own.
 #![tactic(auto)]
 
@@ -11,18 +11,14 @@ mod escapes;
 mod events;
 mod frames;
 mod heads;
-mod html;
 mod labels;
 mod lanes;
 mod marks;
 mod moments;
 mod pages;
 mod ranks;
-mod rows;
-mod snapshots;
 mod strips;
 mod svg;
-mod tables;
 mod texts;
 mod ties;
 mod told;
@@ -30,16 +26,11 @@ mod waits;
 mod words;
 
 pub use callbacks::missing_callback;
-pub use dates::date_text;
 pub use frames::{Goes, lanes_of};
-pub use html::write_html;
 pub use lanes::Lane;
 pub use marks::{Mark, Shape, marks_of};
 pub use moments::{Condition, Moment, Standing};
-pub use pages::{PAGE, page, page_count, page_moments, page_snapshots};
+pub use pages::{PAGE, page, page_count, page_moments};
 pub use ranks::own_rank;
-pub use rows::write_rows;
-pub use snapshots::{Cell, Place, Snapshot, put_cell};
 pub use svg::{write_callers, write_down, write_svg, write_told, write_told_down};
-pub use tables::write_table;
 pub use told::told_moments;

@@ -4,7 +4,6 @@ ghost use Rattle.lab_drawing.specs.Marks.{is_entry};
 
 use crate::marks::{Mark, Shape};
 use crate::moments::Moment;
-use crate::snapshots::Snapshot;
 
 /// The most marks of a page.
 pub const PAGE: usize = 2000;
@@ -77,17 +76,4 @@ pub fn page_moments<'b>(marks: &[Mark<'_>], moments: &'b [Moment], number: usize
 {
     let before = entry_count(marks_before(marks, number));
     moments.get(before..).unwrap_or(&[])
-}
-
-/// The snapshots of a page, from 0, of those before the first step of all marks and behind each: from the one before
-/// its first step on.
-pub fn page_snapshots<'b>(
-    marks: &[Mark<'_>],
-    snapshots: &'b [Snapshot],
-    number: usize,
-) -> &'b [Snapshot]
-    ensures { result.now ≡ drop (count_by is_entry (take (2000 * number) marks.now)) snapshots.now }
-{
-    let before = entry_count(marks_before(marks, number));
-    snapshots.get(before..).unwrap_or(&[])
 }

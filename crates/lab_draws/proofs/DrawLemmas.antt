@@ -15,16 +15,12 @@ use Rattle.lab_traces.specs.Says.{IsLine, IsMisread, read_of, says_some, text_of
 use Rattle.lab_traces.specs.declared.traces.Misread.TheVariants as misread
 use Rattle.lab_traces.specs.declared.traces.TraceLine.{TraceLine}
 use Rattle.lab_drawing.specs.Pictures.{going_text, shown_with}
-use Rattle.lab_drawing.specs.Rows.{rows_text}
-use Rattle.lab_drawing.specs.Tables.{table_text}
 use Rattle.lab_drawing.specs.declared.frames.Goes.{Goes}
 use Rattle.lab_drawing.specs.declared.frames.Shows.TheVariants as shows
-use Rattle.lab_drawing.specs.Html.{html_text}
 use Rattle.lab_drawing.specs.declared.marks.Mark.{Mark}
-use Rattle.lab_drawing.specs.declared.snapshots.Snapshot.{Snapshot}
 use Rattle.lab_drawing.specs.declared.moments.Moment.{Moment}
 use Rattle.lab_reports.specs.Events.{events_text}
-use Rattle.lab_draws.specs.Draws.{AreLinesOf, AreMomentsOf, DrawsCallers, DrawsIf, DrawsKind, DrawsMade, DrawsPage, DrawsPlayed, DrawsRun, DrawsSome, IsDrawn, IsPicture, Origin, SaysFirst, callers, events_of, fault_words, goes_for, html_of, moments_at, undrawn_text, origin_of, page_at, page_text, picture_text, rows_of, scenario, table_of, threads, trace}
+use Rattle.lab_draws.specs.Draws.{AreLinesOf, AreMomentsOf, DrawsCallers, DrawsIf, DrawsKind, DrawsMade, DrawsPage, DrawsPlayed, DrawsRun, DrawsSome, IsPicture, Origin, SaysFirst, callers, events_of, fault_words, goes_for, moments_at, undrawn_text, origin_of, page_at, page_text, picture_text, scenario, threads, trace}
 use Rattle.lab_caller_pictures.specs.declared.plays.CallersRun.{CallersRun}
 use Rattle.lab_caller_pictures.specs.declared.plays.Entered.{Entered}
 use Rattle.lab_kinds.specs.Kinds.{kind_of}
@@ -35,21 +31,11 @@ use Rattle.lab_streams.specs.Outputs.{Output, Writes, refuses}
 use Rattle.lab_draws.specs.declared.draws.Source.{Source}
 use Rattle.lab_draws.specs.declared.draws.Source.TheVariants as source
 use Rattle.lab_streams.specs.declared.words.Drawing.{Drawing}
-use Rattle.lab_streams.specs.declared.words.Form.{Form}
-use Rattle.lab_streams.specs.declared.words.Form.TheVariants.{Svg, Html, Events, Table, Rows}
 use Rattle.lab_streams.proofs.OutputLemmas.{said, said_of, written_as}
 
 pub events_is : (marks : List Mark) → events_text marks ≡ events_of marks
 unfolding events_of
 events_is marks = refl
-
-pub table_is : (marks : List Mark) → table_text marks ≡ table_of marks
-unfolding table_of
-table_is marks = refl
-
-pub rows_is : (marks : List Mark) → rows_text marks ≡ rows_of marks
-unfolding rows_of
-rows_is marks = refl
 
 pub callers_is : (goes : Goes) (marks : List Mark) (moments : List Moment) → going_text goes shows.Words moments marks ≡ picture_text goes callers marks moments
 unfolding picture_text
@@ -83,27 +69,14 @@ picture_by goes o s marks page number known behind text is are page_is behind_is
     same_picture goes (origin_of s) marks page number known behind text are page_is behind_is
     (text_is ∙ ap (λ (from : Origin). picture_text goes from page behind) (sym is))
 
--- a form that has no table of the machine
-pub pictured : (form : Form) (goes : Goes) (origin : Origin) (marks : List Mark) (number : ℕ) (text : List ℕ) → (form ≡ Html → ⊥) → IsPicture goes origin marks number text
-    → IsDrawn form goes origin marks number text
-pictured Svg goes origin marks number text isnt h = h
-pictured Html goes origin marks number text isnt h = absurd (isnt refl)
-pictured Events goes origin marks number text isnt h = h
-pictured Table goes origin marks number text isnt h = h
-pictured Rows goes origin marks number text isnt h = h
-
-pub html_is : (picture : List ℕ) (snapshots : List Snapshot) (marks : List Mark) → html_text picture snapshots marks ≡ html_of picture snapshots marks
-unfolding html_of
-html_is picture snapshots marks = refl
-
 pub is_page : (drawing : Drawing) (origin : Origin) (marks : List Mark) (goes : Goes) (before count all : ℕ) (text printed : List ℕ) → goes ≡ goes_for drawing.way count → count ≡ length marks
-    → before ≡ drawing.page - 1 → printed ≡ text → IsDrawn drawing.form goes origin marks before text
+    → before ≡ drawing.page - 1 → printed ≡ text → IsPicture goes origin marks before text
     → DrawsPage drawing origin marks all (record { printed = printed; said = page_text drawing.page all; status = 0 })
 is_page drawing origin marks goes before count all text printed way many is same h = (
   printed,
-  subst (λ (t : List ℕ). IsDrawn drawing.form (goes_for drawing.way (length marks)) origin marks (drawing.page - 1) t) (sym same)
-      (subst (λ (n : ℕ). IsDrawn drawing.form (goes_for drawing.way (length marks)) origin marks n text) is
-      (subst (λ (g : Goes). IsDrawn drawing.form g origin marks before text) (way ∙ ap (goes_for drawing.way) many) h)),
+  subst (λ (t : List ℕ). IsPicture (goes_for drawing.way (length marks)) origin marks (drawing.page - 1) t) (sym same)
+      (subst (λ (n : ℕ). IsPicture (goes_for drawing.way (length marks)) origin marks n text) is
+      (subst (λ (g : Goes). IsPicture g origin marks before text) (way ∙ ap (goes_for drawing.way) many) h)),
   refl,
 )
 

@@ -24,14 +24,10 @@ use Rattle.lab_callers.specs.Faults as faults
 use Rattle.lab_traces.specs.Says.{IsLine, IsMisread, read_of, says_some, text_of, whole_lines}
 use Rattle.lab_traces.specs.declared.traces.TraceLine.{TraceLine}
 use Rattle.lab_drawing.specs.Callbacks.{missing_callback}
-use Rattle.lab_drawing.specs.Frames.{capped}
-use Rattle.lab_drawing.specs.Html.{html_text}
 use Rattle.lab_drawing.specs.Lanes.{AreLanesOf}
 use Rattle.lab_drawing.specs.Marks.{all_marked, is_entry, told_of}
 use Rattle.lab_drawing.specs.Pictures.{going_text, shown_with}
-use Rattle.lab_drawing.specs.Rows.{rows_text}
 use Rattle.lab_drawing.specs.Standings.{all_told, told_at}
-use Rattle.lab_drawing.specs.Tables.{table_text}
 use Rattle.lab_drawing.specs.Words.{bar}
 use Rattle.lab_drawing.specs.declared.frames.Goes.{Goes}
 use Rattle.lab_drawing.specs.declared.frames.Goes.TheVariants as goes
@@ -39,9 +35,7 @@ use Rattle.lab_drawing.specs.declared.frames.Shows.TheVariants as shows
 use Rattle.lab_drawing.specs.declared.lanes.Lane.{Lane}
 use Rattle.lab_drawing.specs.declared.marks.Mark.{Mark}
 use Rattle.lab_drawing.specs.declared.moments.Moment.{Moment}
-use Rattle.lab_drawing.specs.declared.snapshots.Snapshot.{Snapshot}
 use Rattle.lab_moments.specs.Moments.{moment_shown, shown_of}
-use Rattle.lab_moments.specs.Snapshots.{cells_told, rows_read}
 use Rattle.lab_reports.specs.Events.{events_text}
 use Rattle.lab_streams.specs.Banks.{Refuses}
 use Rattle.lab_streams.specs.Endings.{kinded_words, line_about, words_by}
@@ -55,7 +49,7 @@ use Rattle.lab_streams.specs.declared.words.Drawing.{Drawing}
 use Rattle.lab_streams.specs.declared.words.Way.{Way}
 use Rattle.lab_streams.specs.declared.words.Way.TheVariants.{Down, Across, Fitting}
 use Rattle.lab_streams.specs.declared.words.Form.{Form}
-use Rattle.lab_streams.specs.declared.words.Form.TheVariants.{Svg, Html, Events, Table, Rows}
+use Rattle.lab_streams.specs.declared.words.Form.TheVariants.{Svg, Events}
 
 -- ---- where marks come from
 
@@ -106,37 +100,7 @@ abbrev pub IsPicture : Goes → Origin → List Mark → ℕ → List ℕ → Ty
 IsPicture way origin marks number text =
     (moments : List Moment) × AreMomentsOf origin marks moments × (text ≡ picture_text way origin (page_at marks number) (moments_at marks moments number))
 
--- ---- as a page of HTML
-
--- How the machine stands before the first step and behind each of the first ones, so many at most, as far as that is known: of a scenario over a bank.
-abbrev pub AreSnapshotsOf : Origin → List Mark → ℕ → List Snapshot → Type 0
-AreSnapshotsOf (scenario bank text) marks most snapshots =
-    (lanes : List Lane) × AreLanesOf marks lanes × (map cells_told snapshots ≡ rows_read lanes bank most (scenario_of None text))
-AreSnapshotsOf _ marks most snapshots = snapshots ≡ []
-
--- a page of marks, from 0, and those before it have at most so many steps
-abbrev pub most_steps : ℕ → ℕ
-most_steps number = capped (2000 * (number + 1))
-
--- those before the first step of a page of marks, from 0, and behind each
-abbrev pub snapshots_at : List Mark → List Snapshot → ℕ → List Snapshot
-snapshots_at marks snapshots number = drop (count_by is_entry (take (2000 * number) marks)) snapshots
-
--- a picture, the snapshots and the marks of its steps
-unfoldable pub html_of : List ℕ → List Snapshot → List Mark → List ℕ
-html_of picture snapshots marks = html_text picture snapshots marks
-
-abbrev pub IsHtml : Goes → Origin → List Mark → ℕ → List ℕ → Type 0
-IsHtml way origin marks number text =
-    (picture : List ℕ) × (snapshots : List Snapshot) × IsPicture way origin marks number picture × AreSnapshotsOf origin marks (most_steps number) snapshots
-    × (text ≡ html_of picture (snapshots_at marks snapshots number) (page_at marks number))
-
 -- ---- in pages
-
--- what is drawn of a page in this form
-abbrev pub IsDrawn : Form → Goes → Origin → List Mark → ℕ → List ℕ → Type 0
-IsDrawn Html way origin marks number text = IsHtml way origin marks number text
-IsDrawn _ way origin marks number text = IsPicture way origin marks number text
 
 -- marks take so many pages: one at least
 pub record HasPages (marks : List Mark) (pages : ℕ) : Type 0 where
@@ -155,7 +119,7 @@ page_text number pages =
 -- the page that is asked for, from 1, of so many
 abbrev pub DrawsPage : Drawing → Origin → List Mark → ℕ → Output → Type 0
 DrawsPage drawing origin marks pages output =
-    (picture : List ℕ) × IsDrawn drawing.form (goes_for drawing.way (length marks)) origin marks (drawing.page - 1) picture
+    (picture : List ℕ) × IsPicture (goes_for drawing.way (length marks)) origin marks (drawing.page - 1) picture
     × (output ≡ record { printed = picture; said = page_text drawing.page pages; status = 0 })
 
 -- or that there is no such page
@@ -166,22 +130,13 @@ DrawsSvg drawing origin marks output =
 
 -- ---- in any form
 
--- but as SVG and HTML, all marks at once
+-- as trace events, all marks at once
 unfoldable pub events_of : List Mark → List ℕ
 events_of marks = events_text marks
 
-unfoldable pub table_of : List Mark → List ℕ
-table_of marks = table_text marks
-
-unfoldable pub rows_of : List Mark → List ℕ
-rows_of marks = rows_text marks
-
 abbrev pub DrawsMarks : Form → Drawing → Origin → List Mark → Output → Type 0
 DrawsMarks Svg drawing origin marks output = DrawsSvg drawing origin marks output
-DrawsMarks Html drawing origin marks output = DrawsSvg drawing origin marks output
 DrawsMarks Events drawing origin marks output = output ≡ prints (events_of marks)
-DrawsMarks Table drawing origin marks output = output ≡ prints (table_of marks)
-DrawsMarks Rows drawing origin marks output = output ≡ prints (rows_of marks)
 
 -- the first marks, so many where a number is asked for
 abbrev pub first_of : Option ℕ → List Mark → List Mark

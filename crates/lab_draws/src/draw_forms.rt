@@ -1,10 +1,10 @@
-//! Marks in the forms that have all of them at once.
+//! Marks as trace events.
 ghost use Rattle.std.specs.Prelude.{◌≡◌, IfErr, IfOk, OnOk, false};
 ghost use Rattle.std.specs.Io.KnownBytes.{Appends};
 ghost use Rattle.lab_draws.specs.Draws as draws;
 ghost use Rattle.lab_streams.specs.Streams.{EndsEarly};
 
-use lab_drawing::{Mark, write_rows, write_table};
+use lab_drawing::Mark;
 use lab_reports::write_events;
 use lab_streams::{Stream, put};
 use std::alloc::Global;
@@ -22,34 +22,6 @@ pub(crate) fn draw_events<O: Stream>(
 {
     match write_events(alloc, marks) {
         Ok(events) => put(out, events.as_bytes()),
-        Err(error) => Err(error.into()),
-    }
-}
-
-/// Writes the table of marks.
-pub(crate) fn draw_table<O: Stream>(
-    alloc: Global,
-    marks: &[Mark<'_>],
-    out: &mut O,
-) -> io::Result<u8>
-    ensures status { IfOk result (λ status. status ≡ 0) }
-    ensures text { OnOk result (Appends (O.contents out.old) (O.contents out.new) (draws.table_of marks.now)) }
-    ensures early { IfErr result (EndsEarly false (O.has_failed out.new) false) }
-{
-    match write_table(alloc, marks) {
-        Ok(table) => put(out, table.as_slice()),
-        Err(error) => Err(error.into()),
-    }
-}
-
-/// Writes marks in characters.
-pub(crate) fn draw_rows<O: Stream>(alloc: Global, marks: &[Mark<'_>], out: &mut O) -> io::Result<u8>
-    ensures status { IfOk result (λ status. status ≡ 0) }
-    ensures text { OnOk result (Appends (O.contents out.old) (O.contents out.new) (draws.rows_of marks.now)) }
-    ensures early { IfErr result (EndsEarly false (O.has_failed out.new) false) }
-{
-    match write_rows(alloc, marks) {
-        Ok(rows) => put(out, rows.as_bytes()),
         Err(error) => Err(error.into()),
     }
 }

@@ -13,8 +13,7 @@ ghost use Rattle.lab_streams.specs.Streams.{EndsEarly};
 
 use crate::callers_texts::{draw_unplayed, threads_moments};
 use crate::draw_faults::{tell_missing, tell_no_page, tell_page, tell_undrawn};
-use crate::draw_forms::{draw_events, draw_rows, draw_table};
-use crate::draw_html::drawn_of;
+use crate::draw_forms::draw_events;
 use crate::firsts::first_of;
 use evl_plans::{Planned, trace_plans};
 use lab_caller_pictures::Entered;
@@ -167,7 +166,7 @@ fn draw_page<O: Stream, E: Stream>(
     tell_page(err, drawing.page, all)?;
     let goes = goes_for(drawing.way, marks.len());
     let number = (drawing.page as usize).saturating_sub(1);
-    match drawn_of(alloc, marks, source, drawing.form, goes, number) {
+    match picture_of(alloc, marks, source, goes, number) {
         Ok(picture) => put(out, picture.as_slice()),
         Err(error) => Err(error.into()),
     }
@@ -207,10 +206,7 @@ fn draw_marks<O: Stream, E: Stream>(
 {
     match drawing.form {
         Form::Svg => draw_svg(alloc, marks, source, drawing, out, err),
-        Form::Html => draw_svg(alloc, marks, source, drawing, out, err),
         Form::Events => draw_events(alloc, marks, out),
-        Form::Table => draw_table(alloc, marks, out),
-        Form::Rows => draw_rows(alloc, marks, out),
     }
 }
 

@@ -4,7 +4,6 @@
 mod callers_texts;
 mod draw_faults;
 mod draw_forms;
-mod draw_html;
 mod draws;
 mod firsts;
 mod machines;

@@ -3,5 +3,4 @@ pub mod HandedLaws
 pub mod LenderLaws
 pub mod PendingLaws
 mod RunLaws
-mod SnapLaws
 mod WithinLaws

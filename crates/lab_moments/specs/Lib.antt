@@ -1,5 +1,3 @@
 pub mod Asked
-pub mod Cells
 pub mod Moments
-pub mod Snapshots
 pub mod Standings

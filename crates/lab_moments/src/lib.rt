@@ -2,18 +2,13 @@
 //! What names no source is this profile's own.
 #![tactic(auto)]
 
-mod cells;
 mod handed;
 mod lenders;
 mod moments;
 mod pending;
 mod runs;
-mod snapped;
-mod snapshots;
 mod standings;
 
 pub use moments::moment_of;
 pub use runs::moments_of;
-pub use snapped::snapshots_of;
-pub use snapshots::snapshot_of;
 pub use standings::standing;

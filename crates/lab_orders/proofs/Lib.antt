@@ -3,7 +3,6 @@ pub mod Leads
 pub mod Weighing
 pub mod Fronts
 pub mod Noticing
-pub mod JudgeLaws
 pub mod Going
 pub mod EveryRun
 pub mod Once

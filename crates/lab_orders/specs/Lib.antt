@@ -1,6 +1,5 @@
 pub mod Firsts
 pub mod Fronts
-pub mod Judging
 pub mod Laws
 pub mod Leading
 pub mod Levels

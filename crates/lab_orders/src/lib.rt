@@ -4,7 +4,6 @@
 
 mod exploring;
 mod firsts;
-mod judging;
 mod laws;
 mod leading;
 mod levels;
@@ -14,7 +13,6 @@ mod worlds;
 
 pub use exploring::{Explored, explore};
 pub use firsts::First;
-pub use judging::{Judge, Sought, find_first};
 pub use laws::{
     merges_are_orders, orders_are_merges, orders_end, runs_are_all_runs, runs_are_there_once,
     seen_is_counted,

@@ -1,4 +1,4 @@
--- How differences are told, and how traces are kept.
+-- How differences are told.
 use Rattle.std.proofs.Common.{arith, ◌≡◌, ◌==◌, ◌<◌, ◌+◌, ◌∙◌, ℕ, List, [], ◌∷◌, ◌++◌, append-nil, Bool, true, false, codes, get_or, length, map, take, Option, Result, Ok, Err, IfOk, OnOk, IsSomeAnd, refl, sym, ap, subst}
 use Rattle.std.proofs.lemmas.List.{map-append, map_more}
 use Rattle.std.proofs.lemmas.List.Folds.{concat-append}
@@ -9,7 +9,7 @@ use Rattle.lab_reports.specs.Differences.{Apart, told_apart}
 use Rattle.lab_reports.specs.declared.differences.Difference.{Difference}
 use Rattle.std.specs.Io.KnownBytes.{Appends}
 use Rattle.lab_streams.specs.Endings.{line_about}
-use Rattle.lab_plays.specs.Plays.{Compares, Keeps, Replaces, Tells, Told, apart_text, differences_told, ends_apart, ends_well, unstored_words}
+use Rattle.lab_plays.specs.Plays.{Compares, Tells, Told, apart_text, differences_told, ends_apart, ends_well, unstored_words}
 use Rattle.lab_streams.specs.Readings.{Reading}
 use Rattle.lab_streams.specs.declared.texts.Unread.{Unread}
 use Rattle.lab_plays.proofs.PlayLemmas.{ill_told, is_zero, isnt_zero}
@@ -24,13 +24,13 @@ told_some name [] h = absurd (isnt_zero _ h refl)
 told_some name (d ∷ ds) h = refl
 
 -- a trace that isn't read
-pub unstored : (E : Type 0) (name : List ℕ) (all : Bool) (path : List ℕ) (why : Unread) (trace : List ℕ) (old quiet spoken : Option (List ℕ)) (r : Result ℕ E) → IfOk r (λ s. s ≡ 2)
+pub unstored : (E : Type 0) (name path : List ℕ) (why : Unread) (trace : List ℕ) (old quiet spoken : Option (List ℕ)) (r : Result ℕ E) → IfOk r (λ s. s ≡ 2)
     → OnOk r (IsSomeAnd (unstored_words path why) (λ w. Appends quiet spoken (line_about name w)))
-    → IfOk r (Tells (λ told. (stored : Reading) × Compares name all path stored trace told) old old quiet spoken)
-unstored E name all path why trace old quiet spoken (Ok s) ends says =
-    subst (Tells (λ told. (stored : Reading) × Compares name all path stored trace told) old old quiet spoken) (sym ends)
-    (ill_told (λ told. (stored : Reading) × Compares name all path stored trace told) name (unstored_words path why) old quiet spoken (λ told h. (Err why, h)) says)
-unstored E name all path why trace old quiet spoken (Err e) ends says = tt
+    → IfOk r (Tells (λ told. (stored : Reading) × Compares name path stored trace told) old old quiet spoken)
+unstored E name path why trace old quiet spoken (Ok s) ends says =
+    subst (Tells (λ told. (stored : Reading) × Compares name path stored trace told) old old quiet spoken) (sym ends)
+    (ill_told (λ told. (stored : Reading) × Compares name path stored trace told) name (unstored_words path why) old quiet spoken (λ told h. (Err why, h)) says)
+unstored E name path why trace old quiet spoken (Err e) ends says = tt
 
 -- one difference more
 pub apart_more : (name : List ℕ) (ds : List Difference) (i : ℕ) (d : Difference) → i < length ds
@@ -42,16 +42,3 @@ apart_more name ds i d within =
     let own = apart_text name in
     ap (λ (all : List Apart). concat (map own all)) (map_more told_apart ds i d within) ∙ ap concat (map-append own before (one ∷ []))
     ∙ concat-append (map own before) (own one ∷ []) ∙ ap (λ (text : List ℕ). concat (map own before) ++ text) (append-nil (own one))
-
--- ---- kept
-
--- beside the same trace, and beside another one
-pub same_kept : (name path : List ℕ) (force : Bool) (stored trace : List ℕ) → true ≡ bytes_eq stored trace → Keeps name path force (Ok stored) trace (ends_well name [])
-same_kept name path force stored trace same =
-    let told = ends_well name [] in
-    subst (λ (b : Bool). MatchBool b (told ≡ ends_well name []) (Replaces name path force told)) same refl
-
-pub other_kept : (name path : List ℕ) (force : Bool) (stored trace : List ℕ) (told : Told) → false ≡ bytes_eq stored trace → Replaces name path force told
-    → Keeps name path force (Ok stored) trace told
-other_kept name path force stored trace told other replaces =
-    subst (λ (b : Bool). MatchBool b (told ≡ ends_well name []) (Replaces name path force told)) other replaces

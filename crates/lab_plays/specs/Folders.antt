@@ -1,7 +1,6 @@
 -- Where a folder has the traces of texts.
 use Rattle.std.specs.Prelude.{ℕ, ◌==◌, Bool, not, ◌||◌, List, [], ◌++◌, codes, length, drop, map, nat_eq, nat_lt, if◌then◌else◌, unwrap_or}
 use Rattle.std.specs.Bool.{beq}
-use Rattle.std.specs.Path.{path_parent}
 use Rattle.std.specs.List.{concat, filter, slice_split, starts_with}
 use Rattle.std.specs.Str.{bytes_eq}
 use Rattle.lab_traces.specs.Parts.{before_end}
@@ -51,7 +50,3 @@ base_of folder = if length folder == 0 then codes "." else folder
 -- The trace of a file is in the folders that the file is in, below the folder of traces; a file in that folder has it beside itself.
 abbrev pub trace_path : List ℕ → List ℕ → List ℕ
 trace_path folder file = stem_of (base_of folder ++ concat (map behind_slash (names_below folder file))) ++ codes ".trace"
-
--- the folder of a path's file
-abbrev pub folder_of : List ℕ → List ℕ
-folder_of path = base_of (unwrap_or (path_parent path) [])

@@ -27,7 +27,7 @@ use Rattle.lab_streams.specs.declared.texts.Unread.{Unread}
 use Rattle.lab_streams.specs.declared.texts.Unread.TheVariants.{NoFile, TooLong, Memory}
 use Rattle.lab_streams.specs.declared.words.Playing.{Playing}
 use Rattle.lab_streams.specs.declared.words.Telling.{Telling}
-use Rattle.lab_streams.specs.declared.words.Telling.TheVariants.{Trace, Json, Against, Record}
+use Rattle.lab_streams.specs.declared.words.Telling.TheVariants.{Trace, Json, Against}
 
 -- ---- what is told
 
@@ -84,13 +84,9 @@ abbrev pub differences_told : List ℕ → List Apart → Told
 differences_told name [] = ends_well name []
 differences_told name (d ∷ ds) = ends_apart name (concat (map (apart_text name) (d ∷ ds))) (codes "differs")
 
--- the first difference, or as many as can be counted
-abbrev pub most_told : Bool → ℕ
-most_told all = if all then 2 ^ 64 - 1 else 1
-
--- of a text beside another
-abbrev pub compared_told : List ℕ → Bool → List ℕ → List ℕ → Told
-compared_told name all stored text = differences_told name (take (most_told all) (differing 1 (lines stored) (lines text)))
+-- of a text beside another: the first difference
+abbrev pub compared_told : List ℕ → List ℕ → List ℕ → Told
+compared_told name stored text = differences_told name (take 1 (differing 1 (lines stored) (lines text)))
 
 -- why the one at a path isn't read
 abbrev pub unstored_words : List ℕ → Unread → Option (List ℕ)
@@ -99,27 +95,9 @@ unstored_words path TooLong = Some (path ++ (codes ": " ++ too_long_words))
 unstored_words path Memory = None
 
 -- of a text beside the one at a path, if there is one
-abbrev pub Compares : List ℕ → Bool → List ℕ → Reading → List ℕ → Told → Type 0
-Compares name all path (Ok stored) text told = (length stored ≤ most_bytes) × (told ≡ compared_told name all (text_in stored) text)
-Compares name all path (Err why) text told = IsSomeAnd (unstored_words path why) (λ words. told ≡ ends_ill name words)
-
--- ---- kept
-
--- a trace is written to a path, or can't be
-abbrev pub Writes : List ℕ → List ℕ → Told → Type 0
-Writes name path told = (told ≡ ends_well name []) ⊎ (told ≡ ends_ill name (path ++ codes " can't be written"))
-
--- in place of one that differs only if that is forced
-abbrev pub Replaces : List ℕ → List ℕ → Bool → Told → Type 0
-Replaces name path true told = Writes name path told
-Replaces name path false told = told ≡ ends_apart name [] (path ++ codes " differs; --force replaces it")
-
--- by what was read at the path: the same trace stays
-abbrev pub Keeps : List ℕ → List ℕ → Bool → Reading → List ℕ → Told → Type 0
-Keeps name path force (Ok stored) trace told = MatchBool (bytes_eq stored trace) (told ≡ ends_well name []) (Replaces name path force told)
-Keeps name path force (Err NoFile) trace told = Writes name path told
-Keeps name path force (Err TooLong) trace told = Replaces name path force told
-Keeps name path force (Err Memory) trace told = ⊥
+abbrev pub Compares : List ℕ → List ℕ → Reading → List ℕ → Told → Type 0
+Compares name path (Ok stored) text told = (length stored ≤ most_bytes) × (told ≡ compared_told name (text_in stored) text)
+Compares name path (Err why) text told = IsSomeAnd (unstored_words path why) (λ words. told ≡ ends_ill name words)
 
 -- ---- a scenario
 
@@ -127,8 +105,7 @@ Keeps name path force (Err Memory) trace told = ⊥
 abbrev pub TellsTrace : Telling → List ℕ → List ℕ → Told → Type 0
 TellsTrace Trace name trace told = told ≡ ends_well name trace
 TellsTrace Json name trace told = (json : List ℕ) × IsJsonOf name (text_in trace) json × (told ≡ ends_well name json)
-TellsTrace (Against c) name trace told = (stored : Reading) × Compares name c.all (trace_path c.folder.now name) stored (text_in trace) told
-TellsTrace (Record r) name trace told = (stored : Reading) × Keeps name (trace_path r.folder.now name) r.force stored trace told
+TellsTrace (Against folder) name trace told = (stored : Reading) × Compares name (trace_path folder.now name) stored (text_in trace) told
 
 -- of a text of a kind that has a trace, or is refused for a fault
 abbrev pub TellsPlayed : Telling → List ℕ → TextKind → Result (List ℕ) Fault → Told → Type 0

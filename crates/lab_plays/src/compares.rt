@@ -5,15 +5,13 @@ ghost use Rattle.std.specs.List.{concat};
 ghost use Rattle.lab_reports.specs.Differences.{told_apart};
 ghost use Rattle.lab_streams.specs.Endings.{line_about};
 ghost use Rattle.lab_plays.specs.Folders.{trace_path};
-ghost use Rattle.lab_plays.specs.Plays.{Compares, Tells, apart_text, compared_told, differences_told, most_told, side_text, unstored_words};
+ghost use Rattle.lab_plays.specs.Plays.{Compares, Tells, apart_text, compared_told, differences_told, side_text, unstored_words};
 ghost use Rattle.lab_streams.specs.Readings.{Reading};
 ghost use Rattle.lab_streams.specs.Streams.{EndsEarly};
 
 use crate::folders::trace_path;
 use lab_reports::{Difference, find_differences};
-use lab_streams::{
-    AT_FAULT, Comparing, DIFFERS, Stream, Unread, read_file, tell_done, tell_refused, text_in,
-};
+use lab_streams::{AT_FAULT, DIFFERS, Stream, Unread, read_file, tell_done, tell_refused, text_in};
 use std::alloc::{AllocError, Global};
 use std::io;
 use std::rt::Files;
@@ -111,27 +109,19 @@ fn tell_compared<O: Stream, E: Stream>(
     Ok(DIFFERS)
 }
 
-// How many differences are told at most.
-fn most_told(all: bool) -> usize
-    ensures { result ≡ most_told all }
-{
-    if all { usize::MAX } else { 1 }
-}
-
 // Compares two traces, and answers the status.
 fn compare_texts<O: Stream, E: Stream>(
     alloc: Global,
     name: &str,
-    all: bool,
     stored: &str,
     trace: &str,
     out: &mut O,
     err: &mut E,
 ) -> io::Result<u8>
-    ensures told { IfOk result (Tells (λ told. told ≡ compared_told name.now all stored.now trace.now) (O.contents out.old) (O.contents out.new) (E.contents err.old) (E.contents err.new)) }
+    ensures told { IfOk result (Tells (λ told. told ≡ compared_told name.now stored.now trace.now) (O.contents out.old) (O.contents out.new) (E.contents err.old) (E.contents err.new)) }
     ensures early { IfErr result (EndsEarly false (O.has_failed out.new) (E.has_failed err.new)) }
 {
-    let differences = find_differences(alloc, stored, trace, most_told(all))?;
+    let differences = find_differences(alloc, stored, trace, 1)?;
     tell_compared(name, differences.as_slice(), out, err)
 }
 
@@ -139,19 +129,18 @@ fn compare_texts<O: Stream, E: Stream>(
 fn compare_at<R: Files + AllocGlobal, O: Stream, E: Stream>(
     rt: &R,
     name: &str,
-    all: bool,
     path: &str,
     trace: &str,
     out: &mut O,
     err: &mut E,
 ) -> io::Result<u8>
-    ensures told { IfOk result (Tells (λ told. (stored : Reading) × Compares name.now all path.now stored trace.now told) (O.contents out.old) (O.contents out.new) (E.contents err.old) (E.contents err.new)) }
+    ensures told { IfOk result (Tells (λ told. (stored : Reading) × Compares name.now path.now stored trace.now told) (O.contents out.old) (O.contents out.new) (E.contents err.old) (E.contents err.new)) }
     ensures early { IfErr result (EndsEarly false (O.has_failed out.new) (E.has_failed err.new)) }
 {
     match read_file(rt, path) {
         Ok(bytes) => {
             let stored = text_in(bytes.as_slice());
-            compare_texts(rt.alloc(), name, all, stored, trace, out, err)
+            compare_texts(rt.alloc(), name, stored, trace, out, err)
         }
         Err(why) => tell_unstored(err, name, path, why),
     }
@@ -162,14 +151,14 @@ fn compare_at<R: Files + AllocGlobal, O: Stream, E: Stream>(
 pub fn compare<R: Files + AllocGlobal, O: Stream, E: Stream>(
     rt: &R,
     name: &str,
-    asked: Comparing<'_>,
+    folder: &str,
     trace: &str,
     out: &mut O,
     err: &mut E,
 ) -> io::Result<u8>
-    ensures told { IfOk result (Tells (λ told. (stored : Reading) × Compares name.now asked.entry.all (trace_path asked.entry.folder.now name.now) stored trace.now told) (O.contents out.old) (O.contents out.new) (E.contents err.old) (E.contents err.new)) }
+    ensures told { IfOk result (Tells (λ told. (stored : Reading) × Compares name.now (trace_path folder.now name.now) stored trace.now told) (O.contents out.old) (O.contents out.new) (E.contents err.old) (E.contents err.new)) }
     ensures early { IfErr result (EndsEarly false (O.has_failed out.new) (E.has_failed err.new)) }
 {
-    let path = trace_path(rt.alloc(), asked.folder, name)?;
-    compare_at(rt, name, asked.all, path.as_str(), trace, out, err)
+    let path = trace_path(rt.alloc(), folder, name)?;
+    compare_at(rt, name, path.as_str(), trace, out, err)
 }

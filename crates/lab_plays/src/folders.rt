@@ -6,7 +6,6 @@ ghost use Rattle.lab_plays.specs.Folders as folders;
 ghost use Rattle.lab_plays.specs.Folders.{behind_slash};
 
 use std::alloc::{AllocError, Global};
-use std::path::Path;
 
 // Whether a part of a path leads on.
 fn is_step(part: &str) -> bool
@@ -168,14 +167,4 @@ pub fn trace_path(alloc: Global, folder: &str, file: &str) -> Result<String, All
     let mut whole = String::from_str(alloc, stem_of(path.as_str()))?;
     whole.push_str(".trace")?;
     Ok(whole)
-}
-
-/// The folder of a path's file; `.` where the path is a name alone.
-pub fn folder_of(path: &str) -> &str
-    ensures { result.now ≡ folders.folder_of path.now }
-{
-    match Path::new(path).parent() {
-        Some(folder) => base_of(folder.as_os_str()),
-        None => base_of(""),
-    }
 }

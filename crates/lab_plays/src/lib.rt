@@ -7,7 +7,6 @@ mod compares;
 mod expects;
 mod folders;
 mod plays;
-mod records;
 
 pub use checks::{check_files, warn};
 pub use expects::{Judged, judge};

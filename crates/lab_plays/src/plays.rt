@@ -13,7 +13,6 @@ ghost use Rattle.lab_streams.specs.Streams.{EndsEarly};
 
 use crate::compares::compare;
 use crate::expects::{judge, tell_judged};
-use crate::records::record;
 use evl_plans::{Planned, trace_plans};
 use lab_kinds::kind_of;
 use lab_lines::plain_text;
@@ -101,8 +100,7 @@ fn tell_trace<R: Files + AllocGlobal, O: Stream, E: Stream>(
     match telling {
         Telling::Trace => tell_whole(name, trace, out, err),
         Telling::Json => tell_json(rt.alloc(), name, trace, out, err),
-        Telling::Against(asked) => compare(rt, name, asked, text_in(trace), out, err),
-        Telling::Record(asked) => record(rt, name, asked, trace, err),
+        Telling::Against(folder) => compare(rt, name, folder, text_in(trace), out, err),
     }
 }
 
@@ -240,8 +238,8 @@ fn play_over<R: Files + AllocGlobal, I: Read, O: Stream, E: Stream>(
 }
 
 /// Plays scenarios over a bank, tells of each what is asked for and on `err` how it ended, and answers the worst status: 1
-/// where a trace differs from one that was kept, or a step is answered otherwise than its text expects, 2 where a text is refused or can't be read, such a trace isn't there or
-/// can't be written, or the bank is at fault.
+/// where a trace differs from one that was kept, or a step is answered otherwise than its text expects, 2 where a text is
+/// refused or can't be read, such a trace isn't there, or the bank is at fault.
 pub fn play_files<R: Files + AllocGlobal, I: Read, O: Stream, E: Stream>(
     rt: &R,
     playing: Playing<'_>,

@@ -10,7 +10,6 @@ pub mod OrderTextLaws
 pub mod OutcomeLaws
 pub mod RisingLaws
 pub mod ScenarioLaws
-pub mod SeekLaws
 pub mod ShareLaws
 pub mod TextLaws
 pub mod ToldLaws

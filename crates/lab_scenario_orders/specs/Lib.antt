@@ -15,7 +15,6 @@ pub mod OrderTexts
 pub mod Outcomes
 pub mod Reports
 pub mod Scenarios
-pub mod Seeking
 pub mod Shares
 pub mod Splits
 pub mod Told

@@ -10,12 +10,11 @@ ghost use Rattle.lab_scenario_orders.specs.Outcomes.{CanNotTell};
 ghost use Rattle.lab_scenario_orders.specs.Told.{told_text};
 
 use crate::asking_alone::Alone;
-use crate::asks::{Ask, Never, is_named};
+use crate::asks::{Ask, Never, is_against, is_named};
 use crate::banks::BankMaker;
 use crate::callers::{Caller, Callers};
 use crate::moments::Moment;
-use crate::outcomes::start_of;
-use crate::seeking::{beyond, is_end_against};
+use crate::outcomes::{start_of, told_there};
 use crate::worlds::Driven;
 use lab_orders::{Explored, First, Node, OrdersError, explore};
 use std::alloc::{AllocError, Global};
@@ -65,6 +64,29 @@ fn asked_of(alloc: Global, ask: &Ask, callers: &Callers) -> Result<Vec<bool>, Al
         asked.push(is_asked_of(alloc, ask.never.as_slice(), caller)?)?;
     }
     Ok(asked)
+}
+
+// Whether an end is against what is asked. `AllocError` where memory couldn't grow.
+fn is_end_against<B: BankMaker>(
+    alloc: Global,
+    callers: &Callers,
+    bank: &B,
+    ask: &Ask,
+    end: &Moment,
+) -> Result<bool, AllocError>
+    ensures { IfOk result (λ against. against ≡ is_against ask.now (told_text callers.now (seen_at callers.now (B.bank bank.now) end.now))) }
+{
+    match told_there(alloc, callers, bank, end) {
+        Ok(told) => Ok(is_against(ask, told.as_str())),
+        Err(error) => Err(error),
+    }
+}
+
+// A number of steps that no order of callers has.
+fn beyond(callers: &Callers) -> usize
+    ensures { length callers.now.steps.items < result }
+{
+    callers.steps.len().saturating_add(1)
 }
 
 // With the orders of an end more, which is against what is asked or not.

@@ -6,11 +6,11 @@ use Rattle.clap.specs.Words.{first_value, one_text}
 use Rattle.clap.specs.declared.parser.matches.Found.{Found}
 use Rattle.evl_shell.specs.Arguments.{number_of}
 use Rattle.lab_streams.specs.declared.words.Form.{Form}
-use Rattle.lab_streams.specs.declared.words.Form.TheVariants.{Svg, Html, Events, Table, Rows}
+use Rattle.lab_streams.specs.declared.words.Form.TheVariants.{Svg, Events}
 use Rattle.lab_streams.specs.declared.words.Way.{Way}
 use Rattle.lab_streams.specs.declared.words.Way.TheVariants.{Down, Across, Fitting}
 use Rattle.lab_streams.specs.declared.words.Telling.{Telling}
-use Rattle.lab_streams.specs.declared.words.Telling.TheVariants.{Trace, Json, Against, Record}
+use Rattle.lab_streams.specs.declared.words.Telling.TheVariants.{Trace, Json, Against}
 
 -- a word that takes no value stands there
 abbrev pub is_set : Found → List ℕ → Bool
@@ -20,14 +20,9 @@ is_set found id = option_map_or (λ text. bytes_eq text (codes "true")) (one_tex
 abbrev pub number_at : Found → List ℕ → Option ℕ
 number_at found id = option_and_then number_of (one_text found id)
 
--- the form of a picture, by the first of these words that stands there
+-- the form of a picture
 abbrev pub form_of : Found → Form
-form_of found =
-    if is_set found (codes "perfetto") then Events
-    else if is_set found (codes "csv") then Table
-    else if is_set found (codes "lanes") then Rows
-    else if is_set found (codes "html") then Html
-    else Svg
+form_of found = if is_set found (codes "perfetto") then Events else Svg
 
 -- the way that a picture goes, by the word that stands there
 abbrev pub way_of : Found → Way
@@ -39,10 +34,5 @@ way_of found =
 -- this is asked for of scenarios that are played
 abbrev pub AsksFor : Found → Telling → Type 0
 AsksFor found Json = is_set found (codes "json") ≡ true
-AsksFor found (Against c) =
-    (is_set found (codes "json") ≡ false) × (first_value found (codes "against") ≡ Some c.folder.now) × (c.all ≡ is_set found (codes "all"))
-AsksFor found (Record r) =
-    (is_set found (codes "json") ≡ false) × (first_value found (codes "against") ≡ None)
-    × (first_value found (codes "record") ≡ Some r.folder.now) × (r.force ≡ is_set found (codes "force"))
-AsksFor found Trace =
-    (is_set found (codes "json") ≡ false) × (first_value found (codes "against") ≡ None) × (first_value found (codes "record") ≡ None)
+AsksFor found (Against folder) = (is_set found (codes "json") ≡ false) × (first_value found (codes "against") ≡ Some folder.now)
+AsksFor found Trace = (is_set found (codes "json") ≡ false) × (first_value found (codes "against") ≡ None)

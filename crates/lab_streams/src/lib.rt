@@ -21,6 +21,6 @@ pub use statuses::{
 pub use streams::{Source, Stream, Watched};
 pub use texts::{Unread, called, read_file, read_text, text_in, with_line_feed};
 pub use words::{
-    Asked, Comparing, Converting, Drawing, Driving, Form, Playing, Recording, Shown, Telling, Way,
-    asked_of, converting_of, drawing_of, driving_of, playing_of,
+    Asked, Converting, Drawing, Driving, Form, Playing, Shown, Telling, Way, asked_of,
+    converting_of, drawing_of, driving_of, playing_of,
 };

@@ -11,10 +11,7 @@ use clap::ArgMatches;
 #[derive(Clone, Copy, PartialEq, Eq)]
 pub enum Form {
     Svg,
-    Html,
     Events,
-    Table,
-    Rows,
 }
 
 /// Which way a picture as SVG goes.
@@ -37,24 +34,6 @@ pub struct Drawing {
     pub page: u32,
 }
 
-/// The traces that others are compared with.
-#[derive(Clone, Copy, PartialEq, Eq)]
-pub struct Comparing<'a> {
-    /// Their folder.
-    pub folder: &'a str,
-    /// Whether each difference is told; else the first.
-    pub all: bool,
-}
-
-/// Where traces are kept.
-#[derive(Clone, Copy, PartialEq, Eq)]
-pub struct Recording<'a> {
-    /// Their folder.
-    pub folder: &'a str,
-    /// Whether they replace those that differ.
-    pub force: bool,
-}
-
 /// What is told of a scenario that was played.
 #[derive(Clone, Copy, PartialEq, Eq)]
 pub enum Telling<'a> {
@@ -62,10 +41,8 @@ pub enum Telling<'a> {
     Trace,
     /// A line of JSON for each entry.
     Json,
-    /// Where it differs from a trace that was kept.
-    Against(Comparing<'a>),
-    /// Nothing: its trace is kept.
-    Record(Recording<'a>),
+    /// Where it differs first from the trace that this folder has of it.
+    Against(&'a str),
 }
 
 /// What `play` asks for.
@@ -96,7 +73,7 @@ pub struct Converting {
     pub toml: bool,
 }
 
-// Whether a word that takes no value stands there.
+// Whether a word without a value is there.
 fn is_set(matches: &ArgMatches<'_>, id: &str) -> bool
     ensures { result ≡ words.is_set (found_of matches.now) id.now }
 {
@@ -116,12 +93,6 @@ fn form_of(matches: &ArgMatches<'_>) -> Form
 {
     if is_set(matches, "perfetto") {
         Form::Events
-    } else if is_set(matches, "csv") {
-        Form::Table
-    } else if is_set(matches, "lanes") {
-        Form::Rows
-    } else if is_set(matches, "html") {
-        Form::Html
     } else {
         Form::Svg
     }
@@ -153,8 +124,6 @@ pub enum Shown<'a> {
     State(u32),
     /// What came of what is asked alone: answers of callers of whom nobody asks are forgotten.
     Alone,
-    /// That of the first order that is against what is asked; the search ends there.
-    First,
     /// That of the order that this text tells.
     Order(&'a str),
     /// Which answers came at each step, and in how many orders each.
@@ -202,15 +171,8 @@ fn telling_of<'a>(matches: &ArgMatches<'a>) -> Telling<'a>
     if is_set(matches, "json") {
         return Telling::Json;
     }
-    if let Some(folder) = matches.get_str("against") {
-        let all = is_set(matches, "all");
-        return Telling::Against(Comparing { folder, all });
-    }
-    match matches.get_str("record") {
-        Some(folder) => {
-            let force = is_set(matches, "force");
-            Telling::Record(Recording { folder, force })
-        }
+    match matches.get_str("against") {
+        Some(folder) => Telling::Against(folder),
         None => Telling::Trace,
     }
 }
@@ -250,9 +212,6 @@ fn shown_of<'a>(matches: &ArgMatches<'a>) -> Shown<'a>
     }
     if is_set(matches, "ask") {
         return Shown::Alone;
-    }
-    if is_set(matches, "first") {
-        return Shown::First;
     }
     if let Some(order) = matches.get_str("order") {
         return Shown::Order(order);

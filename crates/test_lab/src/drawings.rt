@@ -1,8 +1,8 @@
 //! Traces that are read and drawn.
 use evl_plans::trace_plans;
 use lab_drawing::{
-    Condition, Lane, Mark, Moment, lanes_of, marks_of, told_moments, write_down, write_rows,
-    write_svg, write_table, write_told, write_told_down,
+    Condition, Lane, Mark, Moment, lanes_of, marks_of, told_moments, write_down, write_svg,
+    write_told, write_told_down,
 };
 use lab_moments::moments_of;
 use lab_reports::{program_plans, write_events};
@@ -18,28 +18,6 @@ const TRACE: &str = "board threads=2 sems=1 flags=0 xbufs=0 mutexes=0 groups=0 l
 4 T1 arrive line=6 -> done
 5 T1 free line=5 stage=oob -> done
 6 T1 arrive line=5 -> done
-";
-
-// The same as a table.
-const TABLE: &str = "row,lane,shows,line
-1,T0,refused,1 T0 try_get sem=0 -> Again
-2,T1,answered,2 T1 request line=5 stage=oob callback=0 tag=7 -> done
-3,T1,arrived,3 T1 arrive line=5 -> done
-4,oob 5,unhandled,line 5 oob count 1 none
-5,T1,spurious,4 T1 arrive line=6 -> done
-6,T1,answered,5 T1 free line=5 stage=oob -> done
-7,T1,spurious,6 T1 arrive line=5 -> done
-";
-
-// The same in characters.
-const ROWS: &str = "T0          x      
-T1           o! ?o?
-sem 0       .      
-oob 5        ..- . 
-in-band         . .
-
-o answered  ( a wait begins  ) a wait ends  x refused  # played  - not handled
-. named by the call above  ! an event is pending  ? it is spurious
 ";
 
 // The same as trace events.
@@ -71,23 +49,10 @@ const TOLD: &str = "board threads=2 sems=0 flags=0 xbufs=0 mutexes=1 groups=0 li
 6 T0 take -> done | core: taken by T0
 ";
 
-// The same in characters.
-const TOLD_ROWS: &str = "T0          o   oo
-T1           x()  
-mutex 0       ..  
-stax 0      ..  . 
-core             .
-
-o answered  ( a wait begins  ) a wait ends  x refused  # played  - not handled
-. named by the call above  ! an event is pending  ? it is spurious
-";
-
 // What is made of marks.
 #[derive(Clone, Copy)]
 enum Form {
-    Table,
     Events,
-    Rows,
     Picture,
     PictureDown,
     // The picture of callers' lines.
@@ -114,9 +79,7 @@ fn told_down(alloc: Global, marks: &[Mark<'_>]) -> Result<Vec<u8>, AllocError> {
 // Marks in a form.
 fn written(alloc: Global, marks: &[Mark<'_>], form: Form) -> Result<Vec<u8>, AllocError> {
     match form {
-        Form::Table => write_table(alloc, marks),
         Form::Events => Ok(write_events(alloc, marks)?.into_bytes()),
-        Form::Rows => Ok(write_rows(alloc, marks)?.into_bytes()),
         Form::Picture => write_svg(alloc, marks, &[]),
         Form::PictureDown => write_down(alloc, marks, &[]),
         Form::TellingDown => told_down(alloc, marks),
@@ -157,11 +120,6 @@ fn is_svg(alloc: Global, trace: &str, form: Form) -> bool {
 }
 
 #[test]
-fn each_line_has_its_row(rt: HostRuntime) {
-    assert!(rt; is_drawn(rt.alloc(), TRACE, Form::Table, TABLE));
-}
-
-#[test]
 fn each_mark_is_an_event(rt: HostRuntime) {
     assert!(rt; is_drawn(rt.alloc(), TRACE, Form::Events, EVENTS));
 }
@@ -179,16 +137,6 @@ fn a_trace_is_drawn_down(rt: HostRuntime) {
 #[test]
 fn callers_are_drawn_down(rt: HostRuntime) {
     assert!(rt; is_svg(rt.alloc(), TOLD, Form::TellingDown));
-}
-
-#[test]
-fn lines_have_their_lanes(rt: HostRuntime) {
-    assert!(rt; is_drawn(rt.alloc(), TRACE, Form::Rows, ROWS));
-}
-
-#[test]
-fn words_have_their_lanes(rt: HostRuntime) {
-    assert!(rt; is_drawn(rt.alloc(), TOLD, Form::Rows, TOLD_ROWS));
 }
 
 #[test]

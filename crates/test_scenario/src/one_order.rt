@@ -1,8 +1,7 @@
 //! One order of a scenario's callers alone.
-use lab_orders::{First, OrdersError};
+use lab_orders::OrdersError;
 use lab_scenario_orders::{
     Callers, NoCallbacks, OrderFault, ask_alone, play_order, read_ask, read_callers, read_order,
-    seek,
 };
 use std::alloc::Global;
 
@@ -42,33 +41,6 @@ fn orders_are_played_as_they_are_written(rt: HostRuntime) {
     assert!(rt; fault_of(rt.alloc(), "T1 T3") == Some(OrderFault::Name(2)));
     assert!(rt; fault_of(rt.alloc(), "T1 T2 T2") == Some(OrderFault::Step(3)));
     assert!(rt; fault_of(rt.alloc(), "T1 T1 T1") == Some(OrderFault::Step(3)));
-}
-
-// How many steps the first order has that is against what is asked of some callers.
-fn first_of(alloc: Global, callers: &Callers, text: &str) -> Result<usize, OrdersError> {
-    let Ok(ask) = read_ask(alloc, callers, text.as_bytes()) else {
-        return Err(OrdersError::Memory);
-    };
-    match seek(alloc, callers, &NoCallbacks, &ask, 100) {
-        Ok(found) => match found.first {
-            First::After(order) => Ok(order.len()),
-            First::Nowhere => Ok(0),
-        },
-        Err(error) => Err(error),
-    }
-}
-
-// The same of those of a text.
-fn first_against(alloc: Global, text: &str) -> Result<usize, OrdersError> {
-    match read_callers(alloc, text.as_bytes()) {
-        Ok(callers) => first_of(alloc, &callers, text),
-        Err(_) => Err(OrdersError::Memory),
-    }
-}
-
-#[test]
-fn the_first_order_against_it_is_found(rt: HostRuntime) {
-    assert!(rt; first_against(rt.alloc(), ONE_LEFT) == Ok(3));
 }
 
 // How many orders there are of some callers, and how many of them are against what is asked.

@@ -5,8 +5,8 @@ ghost use Rattle.evl_sched.specs.Charges.{allowance};
 
 use super::SchedOf;
 use crate::group::Group;
-use crate::seat::Seat;
 use crate::search;
+use crate::seat::Seat;
 use evl_base::{Policy, Refusal, ThreadId};
 use std::alloc::Allocator;
 

@@ -1,7 +1,7 @@
 use Rattle.std.proofs.Common.{◌≡◌, ◌∙◌, [], ◌∷◌, ap, codes, true}
 use Rattle.clap.specs.Simple.{app_of_fields, on_top}
 use Rattle.clap.specs.Words.{app_of, new_app, with_subcommand}
-use Rattle.lab.specs.Grammar.{callers_part, check_part, convert_part, draw_part, help_part, live_part, orders_part, play_part, program}
+use Rattle.lab.specs.Grammar.{callers_part, check_part, convert_part, draw_part, help_part, live_part, orders_part, play_part, program, run_part}
 use Rattle.lab.proofs.commands.command_line.Goals as goal
 
 pub returns : goal.returns
@@ -16,5 +16,6 @@ returns c =
     let lives : app_of c.in_ok-lives.lives ≡ program (check_part ∷ draw_part ∷ play_part ∷ convert_part ∷ live_part ∷ []) = c.in_ok-live_command.ensures _ _ c.in_ok-lives.ensures ∙ ap (λ app. with_subcommand app live_part) converts in
     let orders : app_of c.in_ok-orders.orders ≡ program (check_part ∷ draw_part ∷ play_part ∷ convert_part ∷ live_part ∷ orders_part ∷ []) = c.in_ok-orders_command.ensures _ _ c.in_ok-orders.ensures ∙ ap (λ app. with_subcommand app orders_part) lives in
     let steps : app_of c.in_ok-steps.steps ≡ program (check_part ∷ draw_part ∷ play_part ∷ convert_part ∷ live_part ∷ orders_part ∷ callers_part ∷ []) = c.in_ok-steps_command.ensures _ _ c.in_ok-steps.ensures ∙ ap (λ app. with_subcommand app callers_part) orders in
-    let all : app_of c.in_ok-all.all ≡ program (check_part ∷ draw_part ∷ play_part ∷ convert_part ∷ live_part ∷ orders_part ∷ callers_part ∷ help_part ∷ []) = c.in_ok-help_command.ensures _ _ c.in_ok-all.ensures ∙ ap (λ app. with_subcommand app help_part) steps in
+    let runs : app_of c.in_ok-runs.runs ≡ program (check_part ∷ draw_part ∷ play_part ∷ convert_part ∷ live_part ∷ orders_part ∷ callers_part ∷ run_part ∷ []) = c.in_ok-run_command.ensures _ _ c.in_ok-runs.ensures ∙ ap (λ app. with_subcommand app run_part) steps in
+    let all : app_of c.in_ok-all.all ≡ program (check_part ∷ draw_part ∷ play_part ∷ convert_part ∷ live_part ∷ orders_part ∷ callers_part ∷ run_part ∷ help_part ∷ []) = c.in_ok-help_command.ensures _ _ c.in_ok-all.ensures ∙ ap (λ app. with_subcommand app help_part) runs in
     all

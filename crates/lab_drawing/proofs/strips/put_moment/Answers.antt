@@ -2,7 +2,7 @@ use Rattle.std.proofs.Common.{arith, Bor, option_map}
 use Rattle.lab_drawing.specs.Frames.{layout}
 use Rattle.lab_drawing.specs.Strips.{told_standing}
 use Rattle.lab_drawing.specs.declared.moments.Moment.{Moment}
-use Rattle.lab_drawing.proofs.RowLaws.{item_more}
+use Rattle.lab_drawing.proofs.ItemLaws.{item_more}
 use Rattle.lab_drawing.proofs.strips.put_moment.Goals as goal
 
 pub loop-standing-preserved : goal.loop-standing-preserved

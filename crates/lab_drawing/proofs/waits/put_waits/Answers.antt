@@ -1,7 +1,7 @@
 use Rattle.std.proofs.Common.{arith}
 use Rattle.lab_drawing.specs.Frames.{layout}
 use Rattle.lab_drawing.specs.Pictures.{wait_text}
-use Rattle.lab_drawing.proofs.RowLaws.{item_more}
+use Rattle.lab_drawing.proofs.ItemLaws.{item_more}
 use Rattle.lab_drawing.proofs.waits.put_waits.Goals as goal
 
 pub loop-wait-preserved : goal.loop-wait-preserved

@@ -11,4 +11,4 @@ returns-in-Ok-clause-told g c =
 
 pub returns-in-Err-clause-told : goal.returns-in-Err-clause-told
 returns-in-Err-clause-told g c =
-    unstored _ c.args.name.now c.args.all c.args.path.now c.in-Err.why c.args.trace.now _ _ _ c.tell_unstored.result c.tell_unstored.ensures.status c.tell_unstored.ensures.line
+    unstored _ c.args.name.now c.args.path.now c.in-Err.why c.args.trace.now _ _ _ c.tell_unstored.result c.tell_unstored.ensures.status c.tell_unstored.ensures.line

@@ -9,14 +9,6 @@ pub returns-in-Against-clause-told : goal.returns-in-Against-clause-told
 returns-in-Against-clause-told g c =
     let name = c.args.name.now in
     let trace = c.args.trace.now in
-    let asked = c.in-Against.asked in
     told_as _ _ _ _ _ _ _ c.compare.result
     (λ told h. subst (λ (telling : Telling). TellsTrace telling name trace told) (sym c.in-Against.is)
-    (h.0, subst (λ (t : List ℕ). Compares name asked.all (trace_path asked.folder.now name) h.0 t told) c.text_in.ensures h.1)) c.compare.ensures.told
-
-pub returns-in-Record-clause-told : goal.returns-in-Record-clause-told
-returns-in-Record-clause-told g c =
-    let name = c.args.name.now in
-    let trace = c.args.trace.now in
-    told_as _ _ _ _ _ _ _ c.record.result
-    (λ told h. subst (λ (telling : Telling). TellsTrace telling name trace told) (sym c.in-Record.is) h) (c.record.ensures.told (g.O.Stream.contents c.args.out.now))
+    (h.0, subst (λ (t : List ℕ). Compares name (trace_path c.in-Against.folder.now name) h.0 t told) c.text_in.ensures h.1)) c.compare.ensures.told

@@ -1,6 +1,6 @@
 use Rattle.std.proofs.Common.{arith}
 use Rattle.lab_drawing.specs.Frames.{lane_line, layout}
-use Rattle.lab_drawing.proofs.RowLaws.{item_more}
+use Rattle.lab_drawing.proofs.ItemLaws.{item_more}
 use Rattle.lab_drawing.proofs.frames.Sheet.frame.Goals as goal
 
 pub loop-lane-preserved : goal.loop-lane-preserved

@@ -1,0 +1,17 @@
+//! What `lab run` prints of a task set: its jobs, its tasks, the processor's load, or the schedule in another form.
+//! What names no source is this profile's own.
+#![tactic(auto)]
+
+mod charts;
+mod faults;
+mod json;
+mod outputs;
+mod reports;
+mod runs;
+mod summaries;
+mod tables;
+mod times;
+
+pub use outputs::{Output, View};
+pub use runs::run_tasks;
+pub use summaries::{Summary, summary_of};
