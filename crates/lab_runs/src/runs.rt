@@ -92,6 +92,24 @@ fn printed_of(
     }
 }
 
+// A schedule's output, over a board with a limit.
+fn output_of(
+    alloc: Global,
+    name: &str,
+    schedule: &Schedule,
+    over: (&Board, u32),
+    view: View,
+) -> Result<Output, AllocError>
+    ensures { IfOk result (λ output. output.status ≡ status_of schedule.now.end) }
+{
+    let printed = printed_of(alloc, schedule, over.0, over.1, view)?;
+    Ok(Output {
+        printed,
+        said: said_of(alloc, name, schedule.end)?,
+        status: status_of(schedule.end),
+    })
+}
+
 // What is printed of a task set that is run over these callbacks.
 fn run_set(
     alloc: Global,
@@ -105,12 +123,9 @@ fn run_set(
     let board = set.board.copied();
     let limit = set.limit;
     let schedule = play_tasks(alloc, set, bank)?;
-    let printed = printed_of(alloc, &schedule, &board, limit, view)?;
-    Ok(Output {
-        printed,
-        said: said_of(alloc, name, schedule.end)?,
-        status: status_of(schedule.end),
-    })
+    let output = output_of(alloc, name, &schedule, (&board, limit), view);
+    drop(schedule);
+    output
 }
 
 // What is said of a text that is no task set.
