@@ -211,6 +211,34 @@ static void try_seed(uint64_t seed, uint32_t calls, const char *folder) {
   evlsim_close(&other);
 }
 
+/* A kernel that is reset answers as a new one, wherever its callbacks were; where there is none, nothing is reset. */
+static void try_resets(void) {
+  static char texts[2][4096];
+  static const uint32_t sems[] = {1};
+  const evlsim_board board = {2, sems, 1, NULL, 0, NULL, 0, NULL, 0, NULL, 0};
+  evlsim_kernel kernel = EVLSIM_NO_KERNEL;
+  size_t lengths[2] = {0, 0};
+  require(evlsim_status_is(evlsim_reset(&kernel), EVLSIM_NULL) && evlsim_status_is(evlsim_reset(NULL), EVLSIM_NULL),
+          "no kernel is reset");
+  require(evlsim_ok(evlsim_open(&kernel, &board, evlsim_program_bank, EVLSIM_PROGRAM_BANK, 9)), "it wasn't opened");
+  for (int round = 0; round < 2; round++) {
+    require(evlsim_is_done(evlsim_do(&kernel, 0, evlsim_call_attach(evlsim_fifo(9), EVLSIM_OOB))), "an attach");
+    require(evlsim_is_done(evlsim_do(&kernel, 0, evlsim_call_request(5, EVLSIM_INBAND, 1, 7))), "a request");
+    require(evlsim_has(evlsim_do(&kernel, 0, evlsim_call_new_timer(0, 7)), EVLSIM_NUMBER), "a timer");
+    require(evlsim_is_done(evlsim_do(&kernel, 0, evlsim_call_stall(EVLSIM_INBAND))), "a stall");
+    require(evlsim_is_done(evlsim_do(&kernel, 1, evlsim_call_arrive(5))), "an interrupt");
+    require(evlsim_is_done(evlsim_do(&kernel, 1, evlsim_call_tick(9))), "a tick");
+    require(evlsim_is_begun(evlsim_do(&kernel, 0, evlsim_call_begin_get(0))), "a wait");
+    require(evlsim_ok(evlsim_trace(&kernel, 0, (uint8_t *)texts[round], sizeof texts[round], &lengths[round])),
+            "a trace");
+    require(evlsim_ok(evlsim_reset(&kernel)) && evlsim_see_count(&kernel, 0) == 1 && evlsim_see_now(&kernel) == 0,
+            "a reset");
+  }
+  require(lengths[0] == lengths[1] && memcmp(texts[0], texts[1], lengths[0]) == 0, "another trace after a reset");
+  evlsim_close(&kernel);
+  require(evlsim_status_is(evlsim_reset(&kernel), EVLSIM_NULL), "a closed kernel is reset");
+}
+
 /* Which kinds go the short way is the same to both sides, and no other number makes a call. */
 static void try_bare(void) {
   evlsim_kernel none = EVLSIM_NO_KERNEL;
@@ -353,6 +381,7 @@ int main(int count, char **words) {
   uint32_t calls = count > 3 ? (uint32_t)strtoul(words[3], NULL, 10) : 1000;
   try_refusals();
   try_misuses();
+  try_resets();
   try_bare();
   for (uint32_t seed = 0; seed < seeds; seed++) try_seed(seed, calls, words[1]);
   printf("%" PRIu32 " kernels of %" PRIu32 " calls\n", seeds, calls);

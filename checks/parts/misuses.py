@@ -324,6 +324,28 @@ def try_copies():
     assert len({PLANNED, again}) == 1
 
 
+def try_resets():
+    """A kernel that is reset is as it was made, wherever its callbacks were."""
+    kernel = evlsim.Kernel(threads=2, sems=[1], flags=[4], xbufs=[(8, 8)], mutexes=["ceiling 50"], groups=[30])
+    opened = kernel.trace()
+
+    def use():
+        kernel.attach(0, policy="fifo 10", stage="oob")
+        kernel.request(0, line=5, stage="oob", callback=1, tag=0)
+        kernel.new_timer(0, callback=0, tag=0)
+        kernel.stall(0, stage="inband")
+        kernel.arrive(0, line=5)
+        kernel.write(0, xbuf=0, way="in", bytes=[1, 2])
+        kernel.begin_take(0, flags=0, kind="exact 3")
+        kernel.tick(1, delta=100)
+        return kernel.trace()
+
+    used = use()
+    kernel.reset()
+    assert kernel.trace() == opened and kernel.see_count(0) == 1 and kernel.see_now() == 0 and len(kernel) == 0
+    assert use() == used and used != opened
+
+
 def try_lonely_callers():
     """Callers keep their machine alive; the last one that goes frees it."""
     callers = evlsim.Machine(threads=2, sems=[0]).callers
@@ -360,6 +382,7 @@ def try_closed():
         kernel.scenario,
         kernel.__enter__,
         kernel.copy,
+        kernel.reset,
     ):
         try:
             function()
@@ -451,6 +474,7 @@ tried += try_list("machine", MACHINES)
 try_program()
 try_processes()
 try_copies()
+try_resets()
 try_lonely_callers()
 try_right_ones()
 try_closed()

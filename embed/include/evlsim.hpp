@@ -276,6 +276,9 @@ class kernel {
     return whole;
   }
 
+  /* The kernel is as it was made, with an empty history. */
+  void reset() { require_ok(evlsim_reset(&kernel_)); }
+
   /* For the questions of evlsim.h: evlsim_see_rank(kernel.get(), 1). */
   evlsim_kernel *get() { return &kernel_; }
 

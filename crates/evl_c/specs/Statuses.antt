@@ -14,6 +14,10 @@ is_among statuses status = list_any (λ s. s == status) statuses
 abbrev pub of_open : List ℕ
 of_open = 0 ∷ 2 ∷ 4 ∷ 5 ∷ []
 
+-- of `evlsim_c_reset`: done, no kernel
+abbrev pub of_reset : List ℕ
+of_reset = 0 ∷ 6 ∷ []
+
 -- of `evlsim_c_apply`: done, no memory, no kernel, bad number
 abbrev pub of_apply : List ℕ
 of_apply = 0 ∷ 4 ∷ 6 ∷ 7 ∷ []

@@ -11,6 +11,7 @@ ghost use Rattle.evl_scenario.specs.Scenarios.{scenario_of};
 ghost use Rattle.evl_scenario.specs.Traces.{history_trace};
 ghost use Rattle.evl_scenario.specs.Writings.{IsUnwritten, scenario_text, script_of_history};
 ghost use Rattle.evl_c.specs.Boards.{board_of, is_board};
+ghost use Rattle.evl_c.specs.Opens.{IsFresh};
 
 use crate::boards::{BoardForm, read_board};
 use evl_base::{Board, Call, Refusal, Reply, ThreadId};
@@ -61,6 +62,18 @@ impl Held {
             }),
             Err(refusal) => Err(refusal),
         }
+    }
+
+    /// The kernel is as `open` made it, over its callbacks, with an empty history.
+    pub fn reset(&mut self)
+        ensures fresh { IsFresh self.old.history.board self.old.history.bank self.old.limit self.new }
+        ensures brings { BringsNone self.old.callbacks self.new.callbacks }
+        ensures handlers { handlers_in self.new.callbacks.bank ≡ handlers_in self.old.callbacks.bank }
+        ensures places { AreInOnePlace self.new.callbacks }
+        ensures room { self.old.room ≤ self.new.room }
+        ensures legal { IsLegal self.new.history }
+    {
+        self.machine.reset();
     }
 
     /// Answers a call of a thread, settles, and enters the call into the history.

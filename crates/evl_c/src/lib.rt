@@ -50,7 +50,7 @@ pub use host_calls::{
 pub use host_handles::HostHandle;
 pub use host_staxes::{evlsim_c_caller_trace, evlsim_c_try_lock_stax, evlsim_c_unlock_stax};
 pub use machines::{evlsim_c_caller_close, evlsim_c_machine_open};
-pub use opens::{evlsim_c_close, evlsim_c_open};
+pub use opens::{evlsim_c_close, evlsim_c_open, evlsim_c_reset};
 pub use orders::{Ordered, evlsim_c_orders};
 pub use plays::{Played, evlsim_c_play, evlsim_c_play_over};
 pub use readings::{QuestionForm, ReadingForm};

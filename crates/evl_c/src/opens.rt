@@ -4,7 +4,7 @@ ghost use Rattle.evl_c.specs.Boards.{board_of};
 ghost use Rattle.evl_c.specs.Forms.{are_plans, handler_of};
 ghost use Rattle.evl_c.specs.Handles.{kernel_held};
 ghost use Rattle.evl_c.specs.Opens.{IsFresh, can_be_opened};
-ghost use Rattle.evl_c.specs.Statuses.{is_among, of_open};
+ghost use Rattle.evl_c.specs.Statuses.{is_among, of_open, of_reset};
 
 use crate::boards::{BoardForm, is_board};
 use crate::forms::{PlanForm, are_plans, read_plans};
@@ -84,6 +84,25 @@ pub extern "C" fn evlsim_c_open(
         return 5;
     }
     open_over(alloc, board, plans, limit, kernel)
+}
+
+/// The kernel is as `evlsim_c_open` made it, over its board, its plans and its limit: its history is empty. No memory is
+/// asked for.
+///
+/// 0: done. 6: no kernel is there; then nothing is done.
+#[unsafe(no_mangle)]
+pub extern "C" fn evlsim_c_reset(alloc: Global, kernel: &mut KernelHandle) -> u32
+    ensures fresh { result ≡ 0 → IsSomeAnd (kernel_held kernel.old) (λ old. IsSomeAnd (kernel_held kernel.new) (λ new. IsFresh old.history.board old.history.bank old.limit new)) }
+    ensures none { (result ≡ 6) ↔ (kernel_held kernel.old ≡ None) }
+    ensures statuses { is_among of_reset result ≡ true }
+    ensures refused { result ≢ 0 → kernel_held kernel.new ≡ kernel_held kernel.old }
+{
+    let Some(mut there) = kernel.take(alloc) else {
+        return 6;
+    };
+    there.reset();
+    kernel.put(there);
+    0
 }
 
 /// Frees a kernel, if one is there.

@@ -12,6 +12,7 @@ mod likeness;
 
 use crate::agenda::{Entry, TIMERS, enter, first, item_at, leave};
 use crate::due::{Due, Item};
+use crate::items::set_all;
 use crate::places::{free_place, take_timer};
 use crate::timer::Timer;
 use crate::timer_state::TimerState;
@@ -110,6 +111,29 @@ impl<C: Drop, A: Allocator + Clone> ClockOf<C, A> {
             deadlines,
             agenda,
         })
+    }
+}
+
+impl<C: Drop, A: Allocator> ClockOf<C, A> {
+    /// The date is 0 and there are no timers and no deadlines, as it was made; no memory is asked for. The callbacks of
+    /// timers are dropped: `drop_timer` gives them back before.
+    pub fn reset(&mut self)
+        ensures opening { self.new ≡ opening (length self.old.deadlines) }
+    {
+        self.date = 0;
+        clear_timers(&mut self.timers);
+        set_all(&mut self.deadlines, None);
+        self.agenda.clear();
+    }
+}
+
+// There are no timers any more.
+fn clear_timers<C: Drop, A: Allocator>(timers: &mut Vec<Option<Timer<C>>, A>)
+    requires all { length timers.old.items ≡ timer_count }
+    ensures empty { timers.new.items ≡ replicate timer_count None }
+{
+    for place in 0..timers.len() {
+        timers[place] = None;
     }
 }
 

@@ -5,6 +5,7 @@
 mod agenda;
 mod clock;
 mod due;
+mod items;
 mod places;
 mod timer;
 mod timer_state;

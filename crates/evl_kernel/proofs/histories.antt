@@ -7,6 +7,7 @@ pub mod WorldLaws
 pub mod StateWalk
 pub mod OwnerLaws
 pub mod StageLaws
+pub mod ShapeLaws
 pub mod DateLaws
 pub mod OwnRunLaws
 pub mod TransferLaws

@@ -15,3 +15,6 @@ pub mod CountLaws
 pub mod PlaceLaws
 pub mod OnePlaceLaws
 pub mod ReaderLaws
+pub mod HomeLaws
+pub mod FillLaws
+pub mod ResetLaws

@@ -10,5 +10,7 @@ pub mod RecordsInside
 pub mod ChangedThreads
 pub mod KernelViews
 pub mod Places
+pub mod Homecomings
+pub mod Shapes
 pub mod Insides
 pub mod WaitBoxes

@@ -13,6 +13,7 @@ mod flag_groups;
 mod likeness;
 mod mutexes;
 mod readers;
+mod resetting;
 mod semaphores;
 mod waiting;
 

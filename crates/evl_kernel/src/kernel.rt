@@ -21,6 +21,7 @@ ghost use Rattle.evl_kernel.specs.state.KernelViews.{AddsEntry, IsOpened, IsKern
 mod likeness;
 mod quick;
 mod readers;
+mod resetting;
 mod room;
 
 use crate::allocators::another;

@@ -25,6 +25,7 @@ mod line_calls;
 mod mutexes;
 mod quick;
 mod readers;
+mod resetting;
 mod serving;
 mod settling;
 mod threads;

@@ -124,8 +124,8 @@ impl WaitPlace {
         }
     }
 
-    // Takes the wait away, and says for what it was; the box is there afterwards.
-    fn clear(&mut self) -> Option<Awaited>
+    /// Takes the wait away, and says for what it was; the box is there afterwards.
+    pub(crate) fn clear(&mut self) -> Option<Awaited>
         ensures on { result ≡ option_map (λ w. w.on) self.old }
         ensures none { self.new ≡ None }
     {

@@ -11,6 +11,7 @@ pub mod LoweringLaws
 pub mod CountLaws
 pub mod RaiseLaws
 pub mod HandingLaws
+mod FillLaws
 pub mod ListLaws
 pub mod LikenessLaws
 pub mod CallLaws

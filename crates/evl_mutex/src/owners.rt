@@ -11,6 +11,7 @@ ghost use Rattle.evl_mutex.specs.Views.{ahead_in, mutexes_of, numbers_of};
 
 mod likeness;
 mod queues;
+mod resetting;
 
 use crate::changes::{RankChanges, Unnoted};
 use crate::mutex_record::{MutexRecord, opened_by};

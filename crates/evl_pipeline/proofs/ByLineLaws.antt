@@ -1,6 +1,6 @@
 -- What is kept for each line, as it is written and read.
-use Rattle.std.proofs.Common.{◌≡◌, ◌<◌, ◌≤◌, ℕ, zero, suc, ◌+◌, ◌-◌, List, [], ◌∷◌, ◌++◌, length, replicate, slice_index_or, slice_set, Option, Some, None, slice_get, refl, sym, ap, ◌∙◌, arith}
-use Rattle.std.proofs.lemmas.List.{append_assoc, get_or_append_left, length-append, length-set, set-append_left}
+use Rattle.std.proofs.Common.{◌≡◌, ◌<◌, ◌≤◌, ℕ, zero, suc, ◌+◌, ◌-◌, List, [], ◌∷◌, ◌++◌, length, replicate, slice_index_or, slice_set, refl, sym, ap, ◌∙◌, arith}
+use Rattle.std.proofs.lemmas.List.{append_assoc, length-append, length-set, set-append_left}
 use Rattle.evl_pipeline.specs.ByLine.{filled_up}
 use Rattle.evl_pipeline.specs.Limits.{line_count}
 
@@ -22,3 +22,17 @@ module _ {T : Type 0} (blank : T) where
   item-set written i x there =
       ap (λ (n : ℕ). slice_set written i x ++ replicate (line_count - n) blank) (length-set written i x)
       ∙ sym (set-append_left written (replicate (line_count - length written) blank) i x there)
+
+  -- blanks stand behind what was written
+  blank-at : (k i : ℕ) → slice_index_or (replicate k blank) i blank ≡ blank
+  blank-at zero i = refl
+  blank-at (suc k) zero = refl
+  blank-at (suc k) (suc i) = blank-at k i
+
+  blank-behind : (written : List T) (k i : ℕ) → length written ≤ i → slice_index_or (written ++ replicate k blank) i blank ≡ blank
+  blank-behind [] k i past = blank-at k i
+  blank-behind (x ∷ written) k zero past = absurd (omega (arith, past))
+  blank-behind (x ∷ written) k (suc i) past = blank-behind written k i (omega (arith, past))
+
+  pub blank-past : (written : List T) (i : ℕ) → length written ≤ i → slice_index_or (filled_up blank written) i blank ≡ blank
+  blank-past written i past = blank-behind written (line_count - length written) i past

@@ -102,6 +102,9 @@ module _ {C : Type 0} (ports : List (Option Port)) (callbacks : Slab (Held C)) (
   same_slot line None e = refl
   same_slot line (Some port) e = is_some-map _ (get callbacks port.key) ∙ leads line port e
 
+  pub port_shown : (line : ℕ) → slice_index_or (map (installed_by callbacks) ports) line None ≡ installed_by callbacks (port_at ports line)
+  port_shown line = at-map (installed_by callbacks) ports line None
+
   -- a callback is seen exactly where a port stands
   pub seen : (line : ℕ) → is_some (slice_index_or (map (installed_by callbacks) ports) line None) ≡ is_some (port_at ports line)
   seen line = ap is_some (at-map (installed_by callbacks) ports line None) ∙ same_slot line (port_at ports line) refl

@@ -1,5 +1,5 @@
 //! What is kept for each line.
-ghost use Rattle.std.specs.Prelude.{◌≡◌, ◌<◌, ◌≤◌, None, length, replicate, slice_index_or, slice_set, vec_capacity, IfOk};
+ghost use Rattle.std.specs.Prelude.{◌≡◌, ℕ, ◌<◌, ◌≤◌, None, length, replicate, slice_index_or, slice_set, vec_capacity, IfOk};
 ghost use Rattle.evl_pipeline.specs.ByLine.{filled_up};
 ghost use Rattle.evl_pipeline.specs.Limits.{line_count};
 
@@ -82,6 +82,21 @@ impl<T: Blank, A: Allocator> ByLine<T, A> {
             Some(item) => *item,
             None => T::blank(),
         }
+    }
+
+    /// A line from which on all are blank.
+    pub fn reach(&self) -> usize
+        ensures blank { (line : ℕ) → result ≤ line → slice_index_or self.now.items line T.blank ≡ T.blank }
+        ensures range { result ≤ line_count }
+    {
+        self.written.len()
+    }
+
+    /// A blank for each line again, as `new` made it.
+    pub fn clear(&mut self)
+        ensures empty { self.new.items ≡ replicate line_count T.blank }
+    {
+        self.written.clear();
     }
 
     /// Writes what is there for a line.

@@ -1,5 +1,5 @@
 //! The interrupt pipeline: the two stages and their lines (Dovetail: interrupt pipeline).
-ghost use Rattle.std.specs.Prelude.{◌≡◌, ◌<◌, ◌≤◌, ◌&&◌, false, true, None, Some, is_none, is_some, option_map, IfOk, IfErr, IfNone, IfSome, OnOk, OnErr};
+ghost use Rattle.std.specs.Prelude.{◌≡◌, ℕ, ◌<◌, ◌≤◌, ◌&&◌, false, true, None, Some, is_none, is_some, option_map, IfOk, IfErr, IfNone, IfSome, OnOk, OnErr};
 ghost use Rattle.evl_base.specs.declared.refusal.Refusal.{Refusal};
 ghost use Rattle.evl_pipeline.specs.Counts.{count_at};
 ghost use Rattle.evl_pipeline.specs.Limits.{line_count};
@@ -64,6 +64,18 @@ impl<C: Drop, A: Allocator + Clone> PipelineOf<C, A> {
     }
 }
 
+impl<C: Drop, A: Allocator> PipelineOf<C, A> {
+    /// No callback is on a line, nothing is pending and nothing was counted, as `new` made it; no memory is asked for.
+    /// The callbacks that were on lines are dropped: `free` gives them back before.
+    pub fn reset(&mut self)
+        ensures opening { self.new ≡ opening }
+    {
+        self.oob.reset();
+        self.inband.reset();
+        self.spurious.clear();
+    }
+}
+
 // The kinds of action that a callback on a line of the stage may declare: an out-of-band one posts no out-of-band
 // lines, and an in-band one hands nothing on to the in-band stage.
 fn allowed(stage: Stage) -> ActionKinds
@@ -85,6 +97,18 @@ impl<C, A: Allocator> PipelineOf<C, A> {
         match stage {
             Stage::Oob => self.oob.is_installed(line),
             Stage::Inband => self.inband.is_installed(line),
+        }
+    }
+
+    /// A line from which on no line of the stage has a callback, at most 4096.
+    pub fn reach(&self, stage: Stage) -> usize
+        ensures none { (line : ℕ) → result ≤ line → installed_at self.now stage line ≡ None }
+        ensures range { result ≤ line_count }
+        ensures sound { IsSoundPipeline self.now }
+    {
+        match stage {
+            Stage::Oob => self.oob.reach(),
+            Stage::Inband => self.inband.reach(),
         }
     }
 

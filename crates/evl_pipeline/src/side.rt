@@ -1,5 +1,5 @@
 //! One stage: its stall bit, its log and the callbacks on its lines.
-ghost use Rattle.std.specs.Prelude.{◌≡◌, ◌<◌, ◌≤◌, false, length, replicate, None, is_none, is_some, if◌then◌else◌, IfOk, IfNone, IfSome};
+ghost use Rattle.std.specs.Prelude.{◌≡◌, ℕ, ◌<◌, ◌≤◌, false, length, replicate, None, is_none, is_some, if◌then◌else◌, IfOk, IfNone, IfSome};
 ghost use Rattle.evl_pipeline.specs.Counts.{count_at, count_raised};
 ghost use Rattle.evl_pipeline.specs.Limits.{line_count};
 ghost use Rattle.evl_pipeline.specs.Lines.{PlaysOn, Taken, callback_on, cleared, empty_side, filled, logged};
@@ -74,7 +74,28 @@ impl<C, A: Allocator + Clone> SideOf<C, A> {
     }
 }
 
+impl<C: Drop, A: Allocator> SideOf<C, A> {
+    /// No callback is on a line and nothing is pending, as `new` made it. The callbacks that were on lines are dropped.
+    pub fn reset(&mut self)
+        ensures empty { self.new ≡ empty_side }
+    {
+        self.stalled = false;
+        self.log.clear();
+        self.ports.clear();
+        self.callbacks.clear();
+        self.unhandled.clear();
+    }
+}
+
 impl<C, A: Allocator> SideOf<C, A> {
+    /// A line from which on no line has a callback.
+    pub fn reach(&self) -> usize
+        ensures none { (line : ℕ) → result ≤ line → callback_on self.now line ≡ None }
+        ensures range { result ≤ line_count }
+    {
+        self.ports.reach()
+    }
+
     /// Whether the stage is stalled.
     pub fn is_stalled(&self) -> bool
         ensures stalled { result ≡ self.now.stalled }

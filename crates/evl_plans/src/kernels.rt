@@ -1,6 +1,6 @@
 //! A kernel over callbacks that keep their plans.
 ghost use Rattle.std.specs.Prelude.{◌≡◌, ◌⊎◌, ◌↔◌, ◌+◌, ◌≤◌, ◌<◌, length, false, Err, IsTrue, IsFalse, IfOk, IfErr, OnOk};
-ghost use Rattle.evl_kernel.specs.state.Callbacks.{BringsNone, handlers_in};
+ghost use Rattle.evl_kernel.specs.state.Callbacks.{BringsNone, callbacks_in, handlers_in};
 ghost use Rattle.evl_kernel.specs.settling.Fires.{AddsByCalls};
 ghost use Rattle.evl_kernel.specs.histories.Histories.{IsLegal};
 ghost use Rattle.evl_kernel.specs.state.KernelViews.{AddsEntry, IsKernelAnswer, IsOpened, makes_entry};
@@ -69,6 +69,19 @@ impl PlannedKernel {
         ensures places { AreInOnePlace self.new.callbacks }
     {
         self.kernel.apply(caller, call)
+    }
+
+    /// The kernel is as `new` opened it, over its board, its limit and its callbacks: what the kernel's `reset` does.
+    pub fn reset(&mut self)
+        ensures opened { IsOpened (λ p. p.kinds.0) (λ p. p.plan) self.old.history.board (callbacks_in self.new.callbacks.bank) self.old.limit self.new }
+        ensures brings { BringsNone self.old.callbacks self.new.callbacks }
+        ensures handlers { handlers_in self.new.callbacks.bank ≡ handlers_in self.old.callbacks.bank }
+        ensures bank { self.new.history.bank ≡ self.old.history.bank }
+        ensures places { AreInOnePlace self.new.callbacks }
+        ensures room { self.old.room ≤ self.new.room }
+        ensures legal { IsLegal self.new.history }
+    {
+        self.kernel.reset();
     }
 
     /// Makes room for the entries and plays of the next `n` calls of `apply`, which then answer neither `NoMemory` nor

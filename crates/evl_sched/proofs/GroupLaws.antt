@@ -1,10 +1,10 @@
 -- Which groups have budget, where one group changes.
-use Rattle.std.proofs.Common.{◌≡◌, ℕ, suc, zero, ◌+◌, ◌<◌, ◌≤◌, ◌==◌, nat_lt, Bool, true, false, List, [], ◌∷◌, Option, Some, None, slice_get, slice_set, if◌then◌else◌, refl, sym, ap, ◌∙◌, arith}
+use Rattle.std.proofs.Common.{◌≡◌, ℕ, suc, zero, ◌==◌, nat_lt, Bool, true, false, List, [], ◌∷◌, map, Option, Some, None, slice_get, slice_set, if◌then◌else◌, refl, sym, ap, ◌∙◌}
 use Rattle.std.specs.Option.{option_map_or}
-use Rattle.std.proofs.lemmas.Bool.{eqb-false, eqb-true, ne_eqb}
+use Rattle.std.proofs.lemmas.Bool.{eqb-true}
 use Rattle.evl_sched.specs.declared.group.Group.{Group}
 use Rattle.evl_sched.specs.declared.place.Place.{Place}
-use Rattle.evl_sched.specs.Groups.{has_budget}
+use Rattle.evl_sched.specs.Groups.{full, has_budget, opened_group, refilled_budgets}
 use Rattle.evl_sched.specs.Places.{rank_in}
 
 -- one that has budget just where it had some before
@@ -28,3 +28,8 @@ stands_still places wanted n e t = by (t == n) refl
     by : (b : Bool) → (t == n) ≡ b → rank_in places t ≡ (if b then wanted n else rank_in places t)
     by true at = ap (rank_in places) (eqb-true t n at) ∙ e
     by false ne = refl
+
+-- full groups are those that were opened with their parts
+pub refilled-opened : (gs : List Group) → map opened_group (map (λ (g : Group). g.percent) gs) ≡ refilled_budgets gs
+refilled-opened [] = refl
+refilled-opened (g ∷ gs) = ap (λ (hs : List Group). full g ∷ hs) (refilled-opened gs)

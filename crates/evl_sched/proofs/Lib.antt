@@ -12,6 +12,7 @@ pub mod QueueChanges
 pub mod ApartLaws
 pub mod QueuedLaws
 pub mod LastLaws
+pub mod FillLaws
 pub mod GroupLaws
 pub mod MemberLaws
 pub mod BeforeLaws

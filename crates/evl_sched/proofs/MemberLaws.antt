@@ -1,5 +1,5 @@
 -- The threads whose policies name a group: each change keeps them.
-use Rattle.std.proofs.Common.{◌≡◌, ◌≢◌, ℕ, suc, zero, ◌<◌, ◌≤◌, ◌+◌, ◌*◌, ◌/◌, ◌==◌, Bool, true, false, List, [], ◌∷◌, length, Option, Some, None, is_some, replicate, slice_index_or, slice_set, if◌then◌else◌, refl, sym, ap, ◌∙◌, subst, arith}
+use Rattle.std.proofs.Common.{◌≡◌, ◌≢◌, ℕ, suc, zero, ◌+◌, ◌*◌, ◌/◌, ◌==◌, Bool, true, false, List, [], ◌∷◌, length, Option, Some, None, is_some, replicate, slice_index_or, slice_set, if◌then◌else◌, refl, sym, ap, ◌∙◌, subst, arith}
 use Rattle.std.specs.Option.{option_map_or}
 use Rattle.std.proofs.lemmas.Bool.{false≢true, eqb-true}
 use Rattle.std.proofs.lemmas.Bool.Decides.{nat_tests}
@@ -57,13 +57,17 @@ listed_again seats n old new members spare h at same =
 abbrev no_seat : Option Seat
 no_seat = None
 
+nobody_named : (n t : ℕ) → names (slice_index_or (replicate n None) t None) ≡ false
+nobody_named zero t = refl
+nobody_named (suc n) zero = refl
+nobody_named (suc n) (suc t) = nobody_named n t
+
+-- whoever is a member, where nobody is attached any more
+pub listed_nobody : (n : ℕ) (seats : List (Option Seat)) (members spare : Bounded) → AreListed seats members spare → n ≡ length seats → AreListed (replicate n no_seat) members spare
+listed_nobody n seats members spare h same = record { named = λ t e. absurd (false≢true (sym (nobody_named n t) ∙ e)); room = omega (arith, length-replicate n no_seat, h.room, same); same = h.same }
+
 pub listed_none : (n : ℕ) (members spare : Bounded) → members.limit ≡ 32 * (n / 32 + 1) → spare.limit ≡ members.limit → AreListed (replicate n no_seat) members spare
-listed_none n members spare room same = record { named = λ t e. absurd (false≢true (sym (nobody n t) ∙ e)); room = omega (arith, length-replicate n no_seat, room); same = same }
-  where
-    nobody : (n t : ℕ) → names (slice_index_or (replicate n None) t None) ≡ false
-    nobody zero t = refl
-    nobody (suc n) zero = refl
-    nobody (suc n) (suc t) = nobody n t
+listed_none n members spare room same = record { named = λ t e. absurd (false≢true (sym (nobody_named n t) ∙ e)); room = omega (arith, length-replicate n no_seat, room); same = same }
 
 -- a walk over the members: one more has passed
 module _ (seats : List (Option Seat)) (wanted : ℕ → Option ℕ) (left rest : NumberSet) (next now : NumberSet) (n : ℕ) (old places : List (Option Place))

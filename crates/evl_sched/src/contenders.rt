@@ -57,6 +57,16 @@ impl<A: Allocator> Contenders<A> {
         self.queues.count()
     }
 
+    /// No thread has a place any more.
+    pub fn clear(&mut self)
+        requires few { length self.old < 65536 }
+        ensures empty { self.new ≡ replicate (length self.old) None }
+    {
+        for thread in 0..self.count() {
+            self.take(thread as u16);
+        }
+    }
+
     /// The place of a thread, if it has one.
     pub fn place(&self, thread: u16) -> Option<Place>
         ensures place { result ≡ place_of self.now thread }

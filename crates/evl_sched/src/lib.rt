@@ -5,6 +5,7 @@
 mod contenders;
 mod group;
 mod guesses;
+mod items;
 mod order;
 mod place;
 mod policies;

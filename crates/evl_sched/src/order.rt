@@ -9,6 +9,7 @@ ghost use Rattle.evl_sched.specs.Threads.{without};
 mod walk;
 
 use crate::contenders::Contenders;
+use crate::items::set_all;
 use crate::place::Place;
 use std::alloc::{AllocError, Allocator};
 use std::marker::Model;
@@ -55,6 +56,16 @@ impl<A: Allocator> Order<A> {
         ensures first { result ≡ first_greatest (rank_or self.now.places) (filter (has_rank self.now.places) self.now.ready) }
     {
         self.queues.first()
+    }
+
+    /// No thread is ready any more, as `new` made it.
+    pub fn clear(&mut self)
+        requires few { length self.old.places < 65536 }
+        ensures empty { self.new ≡ record { ready = []; places = replicate (length self.old.places) None } }
+    {
+        set_all(&mut self.stamps, None);
+        self.next = 0;
+        self.queues.clear();
     }
 
     /// Whether a thread is ready. One that isn't stands in no queue.

@@ -14,6 +14,7 @@ ghost use Rattle.evl_sched.specs.Threads.{base_of, is_ready, seat_at, stage_of};
 mod readers;
 
 use crate::group::Group;
+use crate::items::set_all;
 use crate::order::Order;
 use crate::seat::Seat;
 use crate::thread_set::ThreadSet;
@@ -80,6 +81,17 @@ impl<A: Allocator + Clone> SchedOf<A> {
 }
 
 impl<A: Allocator> SchedOf<A> {
+    /// None of the threads is attached, and each quota group has its whole budget, as `new` made it; no memory is asked
+    /// for (Xenomai 4: EVL scheduling policies; this profile).
+    pub fn reset(&mut self)
+        ensures fresh { self.new ≡ fresh (length self.old.sched.seats) (map (λ group. group.percent) self.old.sched.groups) }
+    {
+        set_all(&mut self.seats, None);
+        set_all(&mut self.given, None);
+        let _ = refill_all(&mut self.groups);
+        self.order.clear();
+    }
+
     /// Who is picked: of the eligible threads the first, in the order of the ready list, of the greatest rank. None is
     /// picked exactly where none is eligible. (Xenomai 4: EVL scheduling policies)
     pub fn pick(&self) -> Option<ThreadId>

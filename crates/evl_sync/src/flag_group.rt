@@ -43,6 +43,14 @@ impl FlagGroup {
         }
     }
 
+    /// The flag group as `new` makes it with these bits: nobody waits any more. (Xenomai 4: EVL event flag group)
+    pub fn reset(&mut self, bits: u32)
+        ensures opened { self.new ≡ opened_group bits }
+    {
+        self.bits = bits;
+        self.waiters.clear();
+    }
+
     /// Takes bits, and says which, whoever waits: all of them under `Any`, those of the mask that are there under `Of`,
     /// the whole mask under `Exact`. Refused, in this order, with nothing changed: `Invalid` where the mask has no
     /// bits, `Again` where there are no bits to take, or under `Exact` not all of them. (Xenomai 4: EVL event flag

@@ -44,6 +44,14 @@ impl Sem {
         }
     }
 
+    /// The semaphore as `new` makes it with this count: nobody waits any more. (Xenomai 4: EVL semaphore; this profile)
+    pub fn reset(&mut self, count: u32)
+        ensures opened { self.new ≡ opened_semaphore count }
+    {
+        self.count = count.min(MAX_COUNT);
+        self.queue.clear();
+    }
+
     /// Lowers the count by 1. `Again` where it is 0; then nothing changes. (Xenomai 4: EVL semaphore)
     pub fn try_get(&mut self) -> Result<(), Refusal>
         ensures step { step_by (λ u. u) result self.new ≡ try_get self.old }

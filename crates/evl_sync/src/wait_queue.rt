@@ -40,6 +40,13 @@ impl WaitQueue {
         }
     }
 
+    /// Nobody waits any more.
+    pub fn clear(&mut self)
+        ensures empty { self.new ≡ [] }
+    {
+        self.waiters.clear();
+    }
+
     /// A thread, which doesn't wait here yet, begins to wait: behind those of its rank or a greater one, before all
     /// others.
     #[inline(always)]

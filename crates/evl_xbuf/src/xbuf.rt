@@ -63,6 +63,15 @@ impl<A: Allocator + Clone> XbufOf<A> {
 }
 
 impl<A: Allocator> XbufOf<A> {
+    /// Nothing is in the rings and nobody waits, as `new` made it; no memory is asked for. (Xenomai 4: EVL cross-buffer;
+    /// this profile)
+    pub fn reset(&mut self)
+        ensures opened { self.new ≡ opened_xbuf self.old.inbound.size self.old.outbound.size }
+    {
+        self.inbound.clear();
+        self.outbound.clear();
+    }
+
     /// Writes all of the bytes, whole, from the stage that writes this way, and says whom that served: the readers that
     /// waited, in order, each with its bytes. Refused, in this order, with nothing changed: `WrongStage` from the other
     /// stage; `TooBig` where the bytes are longer than the ring; `Again` where a writer waits or the bytes don't fit. A

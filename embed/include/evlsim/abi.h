@@ -336,6 +336,7 @@ uint32_t evlsim_c_callers(const evlsim_plan *plans, size_t plan_count, const uin
 /* Reads *kernel: an open kernel is freed first. */
 uint32_t evlsim_c_open(const evlsim_board *board, const evlsim_plan *plans, size_t plan_count, uint32_t limit,
                        evlsim_kernel *kernel);
+uint32_t evlsim_c_reset(evlsim_kernel *kernel);
 void evlsim_c_close(evlsim_kernel *kernel);
 uint32_t evlsim_c_apply(evlsim_kernel *kernel, uint16_t caller, const evlsim_call *call, const uint8_t *bytes,
                         size_t length, uint8_t *out, size_t out_length, evlsim_answer *answer);

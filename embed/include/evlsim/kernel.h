@@ -76,6 +76,18 @@ EVLSIM_CHECKED static inline evlsim_status evlsim_open(evlsim_kernel *kernel, co
   return evlsim_status_of(evlsim_c_open(&whole, plans == NULL ? &no_plan : plans, plan_count, limit, kernel));
 }
 
+/*
+ * The kernel is as evlsim_open made it, over its board, its plans and its limit: its history is empty, and every
+ * callback is in its place again. No memory is asked for. What was told of its plays, by index, holds no more.
+ *
+ * EVLSIM_OK        done.
+ * EVLSIM_NULL      no kernel, or kernel is null.
+ */
+EVLSIM_CHECKED static inline evlsim_status evlsim_reset(evlsim_kernel *kernel) {
+  if (kernel == NULL) return EVLSIM_NULL;
+  return evlsim_status_of(evlsim_c_reset(kernel));
+}
+
 /* Frees the kernel, if there is one; *kernel is EVLSIM_NO_KERNEL then. */
 static inline void evlsim_close(evlsim_kernel *kernel) {
   if (kernel != NULL) evlsim_c_close(kernel);

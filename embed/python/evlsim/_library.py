@@ -117,7 +117,7 @@ def _open(kind: Type[ctypes.CDLL]) -> ctypes.CDLL:
         raise ImportError(f"{why} ({told})") from None
     if abi != ABI:
         raise ImportError(f"{name} has the ABI number {abi}, and this module wants {ABI}: install both of one version")
-    if not hasattr(library, "evlsim_c_caller_ask"):
+    if not hasattr(library, "evlsim_c_reset"):
         raise ImportError(f"{name} is older than this module: install both of one version")
     library.evlsim_c_caller_close.restype = None
     return library

@@ -48,6 +48,17 @@ class Kernel(Words, Questions):
         answer: Answer = getattr(self, word + "_" * (word == "raise"))(who, **keys)
         return answer
 
+    def reset(self) -> None:
+        """The kernel is as it was made, with an empty history; this asks for no memory.
+
+        >>> kernel = Kernel(threads=1, sems=[0])
+        >>> bool(kernel.put(0, sem=0)), kernel.reset(), kernel.see_count(0), len(kernel)
+        (True, None, 0, 0)
+        """
+        status = lib.LIBRARY.evlsim_c_reset(self._at)
+        if status:
+            self._raise(status, Refused("the kernel isn't reset"))
+
     def close(self) -> None:
         """Frees the kernel; what is asked of it then raises KernelClosed."""
         lib.LIBRARY.evlsim_c_close(self._at)

@@ -229,6 +229,7 @@ static bool read_choices(const char *text) {
 
 /* The variables are again as before: what is to outlast a run is EVLSIM_KEPT, or an outcome. */
 static int end_exploring(evlsim_explored *explored) {
+  close_spare();
   restore_output();
   restore_variables();
   kept->explored.outcomes = kept->outcomes;

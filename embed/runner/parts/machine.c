@@ -3,7 +3,7 @@
  *
  * A kernel is opened with all elements of its board, and libevl makes them one by one. So a run notes what it makes,
  * and opens the kernel at its first call; what is made later, and isn't on the board, ends the run, which begins again
- * with a board that has it.
+ * with a board that has it. A kernel that a run leaves is spare: the next run resets it, if it has the same elements.
  */
 
 __attribute__((noreturn)) static void end_run(enum ending ending) {
@@ -43,9 +43,30 @@ static evlsim_board board_of(const struct elements *it) {
   return board;
 }
 
+static void close_spare(void) {
+  if (run->spare.is_there) evlsim_close(&run->spare.kernel);
+  run->spare.is_there = false;
+}
+
+/* The kernel of an earlier run, reset, if that had the elements and the limit of this one. */
+static bool take_spare(void) {
+  struct spare *it = &run->spare;
+  if (!it->is_there || it->history != kept->limits.history) return false;
+  if (memcmp(&it->elements, &run->opened, sizeof it->elements) != 0) return false;
+  if (!evlsim_ok(evlsim_reset(&it->kernel))) return false;
+  run->kernel = it->kernel;
+  it->is_there = false;
+  return true;
+}
+
 static void open_kernel(void) {
   if (run->is_open) return;
   run->opened = kept->known;
+  if (take_spare()) {
+    run->is_open = true;
+    return;
+  }
+  close_spare();
   evlsim_board board = board_of(&run->opened);
   size_t plans = run->opened.callbacks > PROGRAM_BANK ? run->opened.callbacks : PROGRAM_BANK;
   evlsim_status status = evlsim_open(&run->kernel, &board, bank(), plans, kept->limits.history);

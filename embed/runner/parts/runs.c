@@ -77,7 +77,9 @@ static void catch_crashes(void) {
 
 /* Makes a run that is new. */
 static void begin_run(void) {
+  struct spare spare = run->spare;
   memset(run, 0, sizeof *run);
+  run->spare = spare;
   run->interrupted = -1;
   run->sleepers = -1;
   run->inband = BODY;
@@ -101,8 +103,14 @@ static enum ending run_here(void) {
   return run->ending;
 }
 
+/* The kernel is spare: the next run may reset it. */
 static void end_kernel(void) {
-  if (run->is_open) evlsim_close(&run->kernel);
+  if (!run->is_open) return;
+  close_spare();
+  run->spare.kernel = run->kernel;
+  run->spare.is_there = true;
+  run->spare.elements = run->opened;
+  run->spare.history = kept->limits.history;
   run->is_open = false;
 }
 
@@ -199,7 +207,7 @@ static void begin(void (*body)(void), const char *name, const evlsim_limits *lim
     run = pages(sizeof *run, MAP_PRIVATE);
     tasks = pages(TASKS * sizeof *tasks, MAP_PRIVATE);
     catch_crashes();
-    /* Each run takes a kernel's memory and gives it back: the system needn't have it in between. */
+    /* A run may take a kernel's memory and give it back: the system needn't have it in between. */
     mallopt(M_TRIM_THRESHOLD, 1 << 26);
     mallopt(M_MMAP_THRESHOLD, 1 << 26);
   }

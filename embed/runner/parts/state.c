@@ -227,8 +227,17 @@ struct elements {
   uint8_t group[GROUPS];
 };
 
-/* A run: all of it is new for each. */
+/* The kernel of an earlier run, which a later one resets. */
+struct spare {
+  evlsim_kernel kernel;
+  bool is_there;
+  struct elements elements;
+  uint32_t history;
+};
+
+/* A run: all of it is new for each but the spare kernel. */
 struct run {
+  struct spare spare;
   evlsim_kernel kernel;
   bool is_open;
   bool is_on;

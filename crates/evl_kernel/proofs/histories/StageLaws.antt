@@ -1,6 +1,6 @@
 -- Only ticks, steps on threads and waits change the scheduler's record, and none of them changes the stage of a thread but
 -- its own caller's.
-use Rattle.std.proofs.Common.{◌≡◌, ◌≢◌, ℕ, ◌-◌, zero, suc, ◌==◌, ◌&&◌, nat_le, not, Bool, true, false, true≢false, ◌≤◌, List, [], ◌∷◌, length, Option, Some, None, slice_index_or, if◌then◌else◌, refl, sym, ap, ◌∙◌, arith}
+use Rattle.std.proofs.Common.{◌≡◌, ℕ, ◌-◌, zero, suc, ◌==◌, ◌&&◌, nat_le, not, Bool, true, false, true≢false, ◌≤◌, List, [], ◌∷◌, length, Option, Some, None, slice_index_or, if◌then◌else◌, refl, sym, ap, ◌∙◌, arith}
 use Rattle.std.specs.Option.{option_map, option_map_or}
 use Rattle.std.proofs.lemmas.List.{length-replicate, length-set}
 use Rattle.evl_base.specs.declared.call.Call.{Call}
@@ -40,13 +40,13 @@ use Rattle.evl_kernel.specs.calls.ThreadCalls.{detach_refusal}
 
 -- whatever is said of the scheduler's record alone, and stays true when whoever is picked pays and whoever is ready
 module _ (Q : Sched → Type 0) (pays : (rank : ℕ → ℕ) (q : Sched) (before delta now : ℕ) → Q q → Q (refilled_at before now (charged rank q delta))) (queues : (q : Sched) (ready : List ℕ) → Q q → Q (record q { ready = ready })) where
-  abbrev Holds : State → Type 0
+  abbrev pub Holds : State → Type 0
   Holds s = Q s.sched
 
   kept_waiting : KeptByWakes Holds
   kept_waiting = record { changed = λ s e h. h; waiting = λ s thread wait h. h; freed = λ s thread h. h; queued = λ s ready h. queues s.sched ready h }
 
-  kept_by_each : KeptByEach Holds
+  pub kept_by_each : KeptByEach Holds
   kept_by_each = record {
     lined = λ s q h. h;
     banked = λ s number home b h. h;
@@ -57,7 +57,7 @@ module _ (Q : Sched → Type 0) (pays : (rank : ℕ → ℕ) (q : Sched) (before
   }
 
   -- where it stays true of this caller's steps on threads, and as the caller goes in-band
-  kept_by_own : (s : State) (caller : ℕ) (asked : Call) → ((step : ThreadStep) → Holds s → Leaves Holds (thread_effect s caller step)) → ((q : Sched) → Q q → Q (threads.stage_set q caller Inband)) → KeptByOwn Holds s caller asked
+  pub kept_by_own : (s : State) (caller : ℕ) (asked : Call) → ((step : ThreadStep) → Holds s → Leaves Holds (thread_effect s caller step)) → ((q : Sched) → Q q → Q (threads.stage_set q caller Inband)) → KeptByOwn Holds s caller asked
   kept_by_own s caller asked steps goes = record {
     threads = λ step is passed h. steps step h;
     begun = λ on until is passed h. leaves-beginning Holds kept_waiting (timed-by Holds kept_waiting (λ s h. h) (λ s thread until h. h)) s caller on until h;

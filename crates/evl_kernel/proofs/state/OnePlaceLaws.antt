@@ -147,12 +147,12 @@ in_one_place h legal number below =
 
 -- the callbacks themselves
 module _ {C : Type 0} (r : RecordsView C) (n : ℕ) where
-  known_at : (p : Place) → StandsAt (whereabouts r) n p → IsAt (state_of r) n p
+  pub known_at : (p : Place) → StandsAt (whereabouts r) n p → IsAt (state_of r) n p
   known_at place.at_home (place, callback, at, there) = (banked place, slice_get-map banked r.bank n ∙ ap (option_map banked) at, ap is_some there)
   known_at (on_line stage line) (at, there, is) = (named number_of at, installed-renamed number_of r.lines stage line ∙ ap (option_map (named number_of)) there, is)
   known_at (in_timer m) (at, there, is) = (named_timer number_of at, timer-renamed number_of r.clock m ∙ ap (option_map (named_timer number_of)) there, is)
 
-  stands_at : (p : Place) → IsAt (state_of r) n p → StandsAt (whereabouts r) n p
+  pub stands_at : (p : Place) → IsAt (state_of r) n p → StandsAt (whereabouts r) n p
   stands_at place.at_home (b, at, home) = by (slice_get r.bank n) refl (sym (slice_get-map banked r.bank n) ∙ at)
     where
       held : (p : BankPlace C) → slice_get r.bank n ≡ Some p → (o : Option C) → p.callback ≡ o → is_some o ≡ true → StandsAt (whereabouts r) n place.at_home

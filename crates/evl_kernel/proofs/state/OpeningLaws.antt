@@ -23,6 +23,7 @@ use Rattle.evl_kernel.specs.declared.bank.BankPlace.{BankPlace}
 use Rattle.evl_kernel.specs.declared.bank.Numbered.{Numbered}
 use Rattle.evl_kernel.specs.state.States.{Elements, Handler}
 use Rattle.evl_kernel.specs.state.Openings.{all_opened, opening, at_home}
+use Rattle.evl_kernel.specs.state.Shapes.{HaveShape, sizes_of}
 use Rattle.evl_kernel.specs.state.Renamed.{named, renamed, renamed_clock}
 use Rattle.evl_kernel.specs.state.Callbacks.{Whereabouts, AnswersByPlan, AreFilled, handlers_in}
 use Rattle.evl_kernel.specs.state.Records.{RanksAreKept, RecordsView, IsOpened, state_of, number_of, banked, AreAllowed, AreTimersAllowed, WaitsAreKept}
@@ -205,27 +206,56 @@ third_of_six true true false d e f h = absurd (false≢true h)
 third_of_six true false c d e f h = absurd (false≢true h)
 third_of_six false b c d e f h = absurd (false≢true h)
 
-pub opened_sound : (board : Board) → board_fits board ≡ true → AreSound (all_opened board)
-opened_sound board fits = record {
+-- where the rings are within their limits
+opened_soundly : (board : Board) → ((n : ℕ) (x : Xbuf) → slice_get (all_opened board).xbufs n ≡ Some x → IsSoundXbuf x) → AreSound (all_opened board)
+opened_soundly board rings = record {
   sems = sound_of semaphores.opened_semaphore IsSoundSemaphore (λ c. record {
     count = record { rests = λ some. absurd (false≢true (sym some)); few = omega arith };
     queue = record { ranked = tt; few = λ t e. absurd (false≢true e) };
   }) board.sems.items;
   flags = sound_of flags.opened_group IsSoundGroup (λ c. record { rests = tt; queue = record { ranked = tt; few = λ t e. absurd (false≢true e) } }) board.flags.items;
-  xbufs = sound_xbufs board.xbufs.items
-      (third_of_six (is_within 1 thread_limit board.threads) (list_all count_fits board.sems.items) (list_all sizes_fit board.xbufs.items) (list_all kind_fits board.mutexes.items) (list_all percent_fits board.groups.items)
-      (list_all stax_fits board.staxes.items) fits);
+  xbufs = rings;
   mutexes = sound-fresh thread_limit board.mutexes.items;
+}
+
+pub opened_sound : (board : Board) → board_fits board ≡ true → AreSound (all_opened board)
+opened_sound board fits =
+    opened_soundly board
+    (sound_xbufs board.xbufs.items
+    (third_of_six (is_within 1 thread_limit board.threads) (list_all count_fits board.sems.items) (list_all sizes_fit board.xbufs.items) (list_all kind_fits board.mutexes.items) (list_all percent_fits board.groups.items)
+    (list_all stax_fits board.staxes.items) fits))
+
+-- cross-buffers that are emptied, by the sizes of their rings
+pub emptied_by_sizes : (xs : List Xbuf) → map (λ (x : Xbuf). xbufs.opened_xbuf x.inbound.size x.outbound.size) xs ≡ map (λ (s : ℕ × ℕ). xbufs.opened_xbuf s.0 s.1) (map sizes_of xs)
+emptied_by_sizes [] = refl
+emptied_by_sizes (x ∷ xs) = ap (λ (ys : List Xbuf). xbufs.opened_xbuf x.inbound.size x.outbound.size ∷ ys) (emptied_by_sizes xs)
+
+-- they have the rings that they had
+sound_emptied : (xs : List Xbuf) → ((n : ℕ) (x : Xbuf) → slice_get xs n ≡ Some x → IsSoundXbuf x)
+    → (n : ℕ) (x : Xbuf) → slice_get (map (λ (s : ℕ × ℕ). xbufs.opened_xbuf s.0 s.1) (map sizes_of xs)) n ≡ Some x → IsSoundXbuf x
+sound_emptied [] sound n x is = absurd (none-some _ is)
+sound_emptied (y ∷ xs) sound zero x is =
+    let was = sound 0 y refl in
+    subst IsSoundXbuf (same_Some _ _ is) (record { inbound = sound-empty y.inbound.size was.inbound.kept.few; outbound = sound-empty y.outbound.size was.outbound.kept.few })
+sound_emptied (y ∷ xs) sound (suc n) x is = sound_emptied xs (λ m z there. sound (suc m) z there) n x is
+
+pub sound_again : (board : Board) (e : Elements) → HaveShape board e → AreSound e → AreSound (all_opened board)
+sound_again board e shape sound =
+    opened_soundly board (subst (λ (sizes : List (ℕ × ℕ)). (n : ℕ) (x : Xbuf) → slice_get (map (λ (s : ℕ × ℕ). xbufs.opened_xbuf s.0 s.1) sizes) n ≡ Some x → IsSoundXbuf x) shape.xbufs
+    (sound_emptied e.xbufs sound.xbufs))
+
+pub waits-none : (board : Board) (e : Elements) (waits : List (Option Wait)) → board.threads ≤ thread_limit → AreSound (all_opened board) → e ≡ all_opened board → waits ≡ replicate board.threads None
+    → WaitsAreKept board.threads e waits
+waits-none board e waits few sound opened none = record {
+  few = few;
+  sound = subst AreSound (sym opened) sound;
+  places = ap (λ (ws : List (Option Wait)). length ws) none ∙ length-replicate board.threads None;
+  going = λ on thread stands. absurd (false≢true (sym (ap (λ (x : Elements). stands_for x on thread) opened ∙ nobody_stands board on thread) ∙ stands));
 }
 
 pub waits-new : (board : Board) (e : Elements) (waits : List (Option Wait)) → board_fits board ≡ true → e ≡ all_opened board → waits ≡ replicate board.threads None
     → WaitsAreKept board.threads e waits
-waits-new board e waits fits opened none = record {
-  few = threads_few board fits;
-  sound = subst AreSound (sym opened) (opened_sound board fits);
-  places = ap (λ (ws : List (Option Wait)). length ws) none ∙ length-replicate board.threads None;
-  going = λ on thread stands. absurd (false≢true (sym (ap (λ (x : Elements). stands_for x on thread) opened ∙ nobody_stands board on thread) ∙ stands));
-}
+waits-new board e waits fits opened none = waits-none board e waits (threads_few board fits) (opened_sound board fits) opened none
 
 -- nobody is attached, and no rank was given
 nobody_seated : (n t : ℕ) → slice_index_or (replicate {A = Option Seat} n None) t None ≡ None
@@ -242,9 +272,9 @@ no_seats : (count : ℕ) (percents : List ℕ) → (threads.opening count percen
 unfolding threads.opening
 no_seats count percents = refl
 
-pub ranks-new : {C : Type 0} (r : RecordsView C) (board : Board) → board_fits board ≡ true → r.elements.base ≡ replicate board.threads 0 → r.sched ≡ fresh board.threads board.groups.items
+pub ranks-none : {C : Type 0} (r : RecordsView C) (board : Board) → board.threads ≤ thread_limit → r.elements.base ≡ replicate board.threads 0 → r.sched ≡ fresh board.threads board.groups.items
     → RanksAreKept board.threads (owners_of r.elements) r.sched
-ranks-new r board fits none nobody =
+ranks-none r board few none nobody =
     let s : Sched = r.sched.sched in
     let seats : s.seats ≡ replicate board.threads None = ap (λ (x : Sched). x.seats) (ap (λ (x : Ranked). x.sched) nobody ∙ sched-fresh board.threads board.groups.items) ∙ no_seats board.threads board.groups.items in
     let seat : (t : ℕ) → slice_index_or s.seats t None ≡ None = λ t. ap (λ (xs : List (Option Seat)). slice_index_or xs t None) seats ∙ nobody_seated board.threads t in
@@ -253,9 +283,13 @@ ranks-new r board fits none nobody =
     record {
       size = size;
       told = record {
-        few = omega (arith, size, threads_few board fits);
+        few = omega (arith, size, few);
         seats = omega (arith, size, many);
         same = λ t. ap (λ (b : List ℕ). slice_index b t) none ∙ (no_base board.threads t ∙ sym (ap (λ (o : Option Seat). option_map_or (λ x. base_rank x.policy) o 0) (seat t)));
       };
       given = λ t attached. absurd (false≢true (sym (ap (λ (o : Option Seat). is_some o) (seat t)) ∙ attached));
     }
+
+pub ranks-new : {C : Type 0} (r : RecordsView C) (board : Board) → board_fits board ≡ true → r.elements.base ≡ replicate board.threads 0 → r.sched ≡ fresh board.threads board.groups.items
+    → RanksAreKept board.threads (owners_of r.elements) r.sched
+ranks-new r board fits none nobody = ranks-none r board (threads_few board fits) none nobody

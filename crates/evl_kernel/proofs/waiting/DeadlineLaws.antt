@@ -43,14 +43,14 @@ abbrev goes_on : Option Wait → Bool
 goes_on o = option_map_or (λ (w : Wait). is_none w.outcome) o false
 
 -- there is a place for the deadline of each thread
-abbrev HasDates : ℕ → State → Type 0
+abbrev pub HasDates : ℕ → State → Type 0
 HasDates threads s = length s.clock.deadlines ≡ min threads thread_limit
 
 opened_so : (board : Board) (bank : List Handler) → HasDates board.threads (opening board bank)
 unfolding clocks.opening
 opened_so board bank = length-replicate {A = Option ℕ} (min board.threads thread_limit) None
 
-dates_at : (of : History) → IsLegal of → HasDates of.board.threads of.state
+pub dates_at : (of : History) → IsLegal of → HasDates of.board.threads of.state
 dates_at of legal = run_holds (HasDates of.board.threads) each own (opened_kernel of) of.entries of.plays of.state (opened_so of.board of.bank) legal
   where
     waiting : KeptByWakes (HasDates of.board.threads)

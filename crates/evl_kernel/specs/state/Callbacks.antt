@@ -1,5 +1,5 @@
 -- Where the callbacks of a bank are, and what they answer.
-use Rattle.std.specs.Prelude.{◌≡◌, ℕ, ◌⊎◌, Bool, List, [], ◌∷◌, map, Some, is_some, slice_get}
+use Rattle.std.specs.Prelude.{◌≡◌, ℕ, ◌⊎◌, Bool, List, [], ◌∷◌, map, filter_map, Some, is_some, slice_get}
 use Rattle.evl_base.specs.declared.stage.Stage.{Stage}
 use Rattle.evl_pipeline.specs.declared.plan.Plan.{Plan}
 use Rattle.evl_pipeline.specs.Lines.{Pipeline, Installed, installed_at}
@@ -22,6 +22,10 @@ module _ {C : Type 0} where
   -- the callback of a place is there
   abbrev pub is_home : BankPlace C → Bool
   is_home place = is_some place.callback
+
+  -- the callbacks that are in their places
+  abbrev pub callbacks_in : List (BankPlace C) → List C
+  callbacks_in bank = filter_map (λ place. place.callback) bank
 
   -- what the callback of each place declares and answers, wherever it is
   abbrev pub handlers_in : List (BankPlace C) → List Handler
