@@ -8,8 +8,7 @@ use Rattle.evl_sched.specs.Policies.{base_rank}
 use Rattle.lab_tasks.specs.declared.acts.Act.{Act}
 use Rattle.lab_tasks.specs.declared.acts.Act.TheVariants as act
 use Rattle.lab_tasks.specs.declared.sets.Task.{Task}
-use Rattle.lab_tasks.specs.Durations.{in_range}
-use Rattle.lab_tasks.specs.Sets.{release_of}
+use Rattle.lab_tasks.specs.Sets.{in_range, release_of}
 use Rattle.lab_jobs.specs.declared.jobs.Job.{Job}
 use Rattle.lab_jobs.specs.declared.events.Event.{Event}
 use Rattle.lab_jobs.specs.declared.events.Stretch.{Stretch}

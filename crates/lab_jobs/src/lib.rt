@@ -2,8 +2,10 @@
 //! and how long tasks of lower rank held it up. What names no source is this profile's own.
 #![tactic(auto)]
 
+mod asks;
 mod events;
 mod jobs;
 
+pub use asks::{all_hold, first_against, holds};
 pub use events::{Event, Stretch, What};
 pub use jobs::{Job, jobs_of};

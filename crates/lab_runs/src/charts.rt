@@ -1,5 +1,6 @@
 //! A chart of a schedule, as SVG: a row for each task, time to scale.
 use crate::reports::name_of;
+use crate::texts::Text;
 use crate::times::{put_time, put_units};
 use lab_jobs::{Event, Job, Stretch, What};
 use lab_schedules::Schedule;
@@ -18,10 +19,27 @@ const TOP: u64 = 34;
 const STYLE: &str =
     "<style>text{font:13px sans-serif;fill:#222}.axis{stroke:#999}.row{stroke:#ddd}.run{fill:#4a7fb5}.hold{fill:#d98e04}.wait{stroke:#888;stroke-dasharray:3 2}.release{stroke:#222;fill:none}.deadline{stroke:#777;fill:none}.missed{stroke:#c00;stroke-width:3;fill:none}</style>\n";
 
+// Begins an attribute.
+fn put_name(svg: &mut Text, name: &str) {
+    svg.put_char(' ');
+    svg.put(name);
+    svg.put("=\"");
+}
+
+// Begins an element of a class.
+fn put_element(svg: &mut Text, element: &str, class: &str) {
+    svg.put_char('<');
+    svg.put(element);
+    put_name(svg, "class");
+    svg.put(class);
+    svg.put_char('"');
+}
+
 // Appends an attribute with a number.
-fn put_attribute(svg: &mut String, name: &str, number: u64) -> Result<(), AllocError> {
-    write!(svg, " {name}=\"{number}\"")?;
-    Ok(())
+fn put_attribute(svg: &mut Text, name: &str, number: u64) {
+    put_name(svg, name);
+    svg.put_number(number);
+    svg.put_char('"');
 }
 
 // The place of a date, in tenths of a pixel.
@@ -32,10 +50,10 @@ fn place_of(schedule: &Schedule, date: u64) -> u64 {
 }
 
 // Appends an attribute with a place.
-fn put_place(svg: &mut String, name: &str, place: u64) -> Result<(), AllocError> {
-    write!(svg, " {name}=\"")?;
-    put_units(svg, place, 10)?;
-    svg.push('"')
+fn put_place(svg: &mut Text, name: &str, place: u64) {
+    put_name(svg, name);
+    put_units(svg, place, 10);
+    svg.put_char('"');
 }
 
 // The middle of the row of a task.
@@ -44,49 +62,42 @@ fn row_of(task: usize) -> u64 {
 }
 
 // Appends a text as XML has it.
-fn put_escaped(svg: &mut String, text: &str) -> Result<(), AllocError> {
+fn put_escaped(svg: &mut Text, text: &str) {
     for c in text.chars() {
         match c {
-            '&' => svg.push_str("&amp;")?,
-            '<' => svg.push_str("&lt;")?,
-            '>' => svg.push_str("&gt;")?,
-            _ => svg.push(c)?,
+            '&' => svg.put("&amp;"),
+            '<' => svg.put("&lt;"),
+            '>' => svg.put("&gt;"),
+            _ => svg.put_char(c),
         }
     }
-    Ok(())
 }
 
 // Appends a bar from one date to another, so high, with its title.
-fn put_bar(
-    svg: &mut String,
-    class: &str,
-    from: u64,
-    to: u64,
-    top: u64,
-    high: u64,
-) -> Result<(), AllocError> {
-    write!(svg, "<rect class=\"{class}\"")?;
-    put_place(svg, "x", from)?;
-    put_place(svg, "width", to.saturating_sub(from))?;
-    put_attribute(svg, "y", top)?;
-    put_attribute(svg, "height", high)?;
-    svg.push('>')
+fn put_bar(svg: &mut Text, class: &str, from: u64, to: u64, top: u64, high: u64) {
+    put_element(svg, "rect", class);
+    put_place(svg, "x", from);
+    put_place(svg, "width", to.saturating_sub(from));
+    put_attribute(svg, "y", top);
+    put_attribute(svg, "height", high);
+    svg.put_char('>');
 }
 
 // Appends the title of a job and its times, and ends the bar.
-fn put_title(svg: &mut String, schedule: &Schedule, run: &Stretch) -> Result<(), AllocError> {
-    svg.push_str("<title>")?;
-    put_escaped(svg, name_of(schedule, run.task))?;
-    let job = run.job.saturating_add(1);
-    write!(svg, " job {job}: ")?;
-    put_time(svg, run.from)?;
-    svg.push_str(" to ")?;
-    put_time(svg, run.to)?;
-    svg.push_str("</title></rect>\n")
+fn put_title(svg: &mut Text, schedule: &Schedule, run: &Stretch) {
+    svg.put("<title>");
+    put_escaped(svg, name_of(schedule, run.task));
+    svg.put(" job ");
+    svg.put_number(run.job.saturating_add(1));
+    svg.put(": ");
+    put_time(svg, run.from);
+    svg.put(" to ");
+    put_time(svg, run.to);
+    svg.put("</title></rect>\n");
 }
 
 // Appends the bars of all times of computing.
-fn put_runs(svg: &mut String, schedule: &Schedule) -> Result<(), AllocError> {
+fn put_runs(svg: &mut Text, schedule: &Schedule) {
     for run in &schedule.runs {
         let top = row_of(run.task).saturating_sub(9);
         put_bar(
@@ -96,10 +107,9 @@ fn put_runs(svg: &mut String, schedule: &Schedule) -> Result<(), AllocError> {
             place_of(schedule, run.to),
             top,
             18,
-        )?;
-        put_title(svg, schedule, run)?;
+        );
+        put_title(svg, schedule, run);
     }
-    Ok(())
 }
 
 // The mutex that an act locks or unlocks, and whether it locks it.
@@ -145,13 +155,7 @@ fn unlocked_at(schedule: &Schedule, place: usize, task: usize, mutex: u16) -> u6
 }
 
 // Appends a bar for a mutex that a task holds, below its row.
-fn put_hold(
-    svg: &mut String,
-    schedule: &Schedule,
-    task: usize,
-    mutex: u16,
-    times: (u64, u64),
-) -> Result<(), AllocError> {
+fn put_hold(svg: &mut Text, schedule: &Schedule, task: usize, mutex: u16, times: (u64, u64)) {
     put_bar(
         svg,
         "hold",
@@ -159,34 +163,30 @@ fn put_hold(
         place_of(schedule, times.1),
         row_of(task).saturating_add(10),
         5,
-    )?;
-    write!(svg, "<title>holds mutex {mutex}</title></rect>\n")
+    );
+    svg.put("<title>holds mutex ");
+    svg.put_number(u64::from(mutex));
+    svg.put("</title></rect>\n");
 }
 
 // Appends the bars of all mutexes that tasks hold.
-fn put_holds(svg: &mut String, schedule: &Schedule) -> Result<(), AllocError> {
+fn put_holds(svg: &mut Text, schedule: &Schedule) {
     for (place, event) in schedule.events.iter().enumerate() {
         if let Some(mutex) = locked_by(schedule, event) {
             let until = unlocked_at(schedule, place, event.task, mutex);
-            put_hold(svg, schedule, event.task, mutex, (event.date, until))?;
+            put_hold(svg, schedule, event.task, mutex, (event.date, until));
         }
     }
-    Ok(())
 }
 
 // Appends a line.
-fn put_line(
-    svg: &mut String,
-    class: &str,
-    from: (u64, u64),
-    to: (u64, u64),
-) -> Result<(), AllocError> {
-    write!(svg, "<line class=\"{class}\"")?;
-    put_place(svg, "x1", from.0)?;
-    put_attribute(svg, "y1", from.1)?;
-    put_place(svg, "x2", to.0)?;
-    put_attribute(svg, "y2", to.1)?;
-    svg.push_str("/>\n")
+fn put_line(svg: &mut Text, class: &str, from: (u64, u64), to: (u64, u64)) {
+    put_element(svg, "line", class);
+    put_place(svg, "x1", from.0);
+    put_attribute(svg, "y1", from.1);
+    put_place(svg, "x2", to.0);
+    put_attribute(svg, "y2", to.1);
+    svg.put("/>\n");
 }
 
 // When an act of a task that has begun is over: the next event of the task, or the end of the run.
@@ -208,7 +208,7 @@ fn computes(schedule: &Schedule, event: &Event, act: usize) -> bool {
 }
 
 // Appends a thin line for each wait.
-fn put_waits(svg: &mut String, schedule: &Schedule) -> Result<(), AllocError> {
+fn put_waits(svg: &mut Text, schedule: &Schedule) {
     for (place, event) in schedule.events.iter().enumerate() {
         if let What::Begins(act) = event.what {
             if !computes(schedule, event, act) {
@@ -219,47 +219,40 @@ fn put_waits(svg: &mut String, schedule: &Schedule) -> Result<(), AllocError> {
                     "wait",
                     (place_of(schedule, event.date), row),
                     (until, row),
-                )?;
+                );
             }
         }
     }
-    Ok(())
 }
 
 // Appends an arrow at a date, up at a release, down at a deadline.
-fn put_arrow(
-    svg: &mut String,
-    class: &str,
-    place: u64,
-    row: u64,
-    is_up: bool,
-) -> Result<(), AllocError> {
+fn put_arrow(svg: &mut Text, class: &str, place: u64, row: u64, is_up: bool) {
     let (foot, head) = (row.saturating_add(12), row.saturating_sub(18));
-    put_line(svg, class, (place, foot), (place, head))?;
+    put_line(svg, class, (place, foot), (place, head));
     let (tip, wings) = if is_up {
         (head, head.saturating_add(5))
     } else {
         (foot, foot.saturating_sub(5))
     };
-    put_line(svg, class, (place.saturating_sub(30), wings), (place, tip))?;
-    put_line(svg, class, (place.saturating_add(30), wings), (place, tip))
+    put_line(svg, class, (place.saturating_sub(30), wings), (place, tip));
+    put_line(svg, class, (place.saturating_add(30), wings), (place, tip));
 }
 
 // Appends the arrows of a job.
-fn put_job(svg: &mut String, schedule: &Schedule, job: &Job) -> Result<(), AllocError> {
+fn put_job(svg: &mut Text, schedule: &Schedule, job: &Job) {
     let row = row_of(job.task);
-    put_arrow(svg, "release", place_of(schedule, job.release), row, true)?;
+    put_arrow(svg, "release", place_of(schedule, job.release), row, true);
     match job.deadline {
         Some(date) if date <= schedule.date => {
             let class = if job.late { "missed" } else { "deadline" };
             put_arrow(svg, class, place_of(schedule, date), row, false)
         }
-        _ => Ok(()),
+        _ => {}
     }
 }
 
 // The names of the rows, and a line for each.
-fn put_rows(svg: &mut String, schedule: &Schedule) -> Result<(), AllocError> {
+fn put_rows(svg: &mut Text, schedule: &Schedule) {
     for (task, is) in schedule.rules.tasks.iter().enumerate() {
         let row = row_of(task);
         put_line(
@@ -267,14 +260,13 @@ fn put_rows(svg: &mut String, schedule: &Schedule) -> Result<(), AllocError> {
             "row",
             (LEFT * 10, row.saturating_add(16)),
             ((LEFT + WIDE) * 10, row.saturating_add(16)),
-        )?;
-        svg.push_str("<text x=\"8\"")?;
-        put_attribute(svg, "y", row.saturating_add(5))?;
-        svg.push('>')?;
-        put_escaped(svg, is.name.as_str())?;
-        svg.push_str("</text>\n")?;
+        );
+        svg.put("<text x=\"8\"");
+        put_attribute(svg, "y", row.saturating_add(5));
+        svg.put_char('>');
+        put_escaped(svg, is.name.as_str());
+        svg.put("</text>\n");
     }
-    Ok(())
 }
 
 // How far two marks of the axis are apart: 1, 2 or 5 of a power of ten, at most twelve on the axis.
@@ -294,7 +286,7 @@ fn mark_every(date: u64) -> u64 {
 }
 
 // Appends the axis with its marks.
-fn put_axis(svg: &mut String, schedule: &Schedule, bottom: u64) -> Result<(), AllocError> {
+fn put_axis(svg: &mut Text, schedule: &Schedule, bottom: u64) {
     let every = mark_every(schedule.date).max(1);
     let mut date: u64 = 0;
     for _ in 0..14 {
@@ -302,45 +294,44 @@ fn put_axis(svg: &mut String, schedule: &Schedule, bottom: u64) -> Result<(), Al
             break;
         }
         let place = place_of(schedule, date);
-        put_line(svg, "axis", (place, TOP - 8), (place, bottom))?;
-        svg.push_str("<text")?;
-        put_place(svg, "x", place)?;
-        svg.push_str(" y=\"18\" text-anchor=\"middle\">")?;
-        put_time(svg, date)?;
-        svg.push_str("</text>\n")?;
+        put_line(svg, "axis", (place, TOP - 8), (place, bottom));
+        svg.put("<text");
+        put_place(svg, "x", place);
+        svg.put(" y=\"18\" text-anchor=\"middle\">");
+        put_time(svg, date);
+        svg.put("</text>\n");
         date = date.saturating_add(every);
     }
-    Ok(())
 }
 
 // Begins a picture that ends at this height, and draws the axis.
-fn put_head(svg: &mut String, schedule: &Schedule, bottom: u64) -> Result<(), AllocError> {
-    svg.push_str("<svg xmlns=\"http://www.w3.org/2000/svg\"")?;
-    put_attribute(svg, "width", LEFT + WIDE + 40)?;
-    put_attribute(svg, "height", bottom)?;
-    svg.push_str(">\n")?;
-    svg.push_str(STYLE)?;
-    svg.push_str("<rect width=\"100%\" height=\"100%\" fill=\"#fff\"/>\n")?;
-    put_axis(svg, schedule, bottom.saturating_sub(ROW / 2))
+fn put_head(svg: &mut Text, schedule: &Schedule, bottom: u64) {
+    svg.put("<svg xmlns=\"http://www.w3.org/2000/svg\"");
+    put_attribute(svg, "width", LEFT + WIDE + 40);
+    put_attribute(svg, "height", bottom);
+    svg.put(">\n");
+    svg.put(STYLE);
+    svg.put("<rect width=\"100%\" height=\"100%\" fill=\"#fff\"/>\n");
+    put_axis(svg, schedule, bottom.saturating_sub(ROW / 2));
 }
 
 // Draws rows, and what happens in them.
-fn put_layers(svg: &mut String, schedule: &Schedule, jobs: &[Job]) -> Result<(), AllocError> {
-    put_rows(svg, schedule)?;
-    put_waits(svg, schedule)?;
-    put_runs(svg, schedule)?;
-    put_holds(svg, schedule)?;
+fn put_layers(svg: &mut Text, schedule: &Schedule, jobs: &[Job]) {
+    put_rows(svg, schedule);
+    put_waits(svg, schedule);
+    put_runs(svg, schedule);
+    put_holds(svg, schedule);
     for job in jobs {
-        put_job(svg, schedule, job)?;
+        put_job(svg, schedule, job);
     }
-    svg.push_str("</svg>\n")
+    svg.put("</svg>\n");
 }
 
 /// The chart of a schedule and its jobs: bars where tasks compute, below them the mutexes that they hold, dashed where they
 /// wait, an arrow up at a release, down at a deadline, red where it is missed; each bar has a title.
 pub fn chart_of(alloc: Global, schedule: &Schedule, jobs: &[Job]) -> Result<String, AllocError> {
-    let mut svg = String::new(alloc);
-    put_head(&mut svg, schedule, row_of(schedule.rules.tasks.len()))?;
-    put_layers(&mut svg, schedule, jobs)?;
-    Ok(svg)
+    let mut svg = Text::new(alloc);
+    put_head(&mut svg, schedule, row_of(schedule.rules.tasks.len()));
+    put_layers(&mut svg, schedule, jobs);
+    svg.finish()
 }

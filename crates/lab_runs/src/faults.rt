@@ -1,18 +1,32 @@
 //! Why a text is no task set, in words.
+use crate::texts::Text;
 use lab_tasks::{FaultKind, FaultPlace, TasksFault};
 use std::alloc::{AllocError, Global};
 
-// Where the fault is.
-fn put_place(text: &mut String, place: FaultPlace) -> Result<(), AllocError> {
+// Appends where the fault is.
+fn put_place(text: &mut Text, place: FaultPlace) {
     match place {
-        FaultPlace::Document => Ok(()),
-        FaultPlace::Head => Ok(()),
-        FaultPlace::Board => text.push_str("board: "),
-        FaultPlace::Setup(number) => write!(text, "setup {number}: "),
-        FaultPlace::Task(number) => write!(text, "task {number}: "),
-        FaultPlace::Act(task, act) => write!(text, "task {task}: act {act} of does: "),
-        FaultPlace::Interrupt(number) => write!(text, "interrupt {number}: "),
+        FaultPlace::Document | FaultPlace::Head => {}
+        FaultPlace::Board => text.put("board"),
+        FaultPlace::Setup(number) => put_numbered(text, "setup ", number),
+        FaultPlace::Task(number) => put_numbered(text, "task ", number),
+        FaultPlace::Act(task, act) => {
+            put_numbered(text, "task ", task);
+            put_numbered(text, ": act ", act);
+            text.put(" of does");
+        }
+        FaultPlace::Interrupt(number) => put_numbered(text, "interrupt ", number),
+        FaultPlace::Ask => text.put("ask"),
     }
+    if !matches!(place, FaultPlace::Document | FaultPlace::Head) {
+        text.put(": ");
+    }
+}
+
+// Appends a word and a number.
+fn put_numbered(text: &mut Text, word: &str, number: usize) {
+    text.put(word);
+    text.put_number(number as u64);
 }
 
 // What is wrong there.
@@ -52,6 +66,8 @@ fn wanted_of(key: &str) -> &'static str {
         "line" => "a number below 65536",
         "name" => "a text without spaces, `=`, `,` and `:`, which is no number",
         "does" => "a list of acts, as [\"run 2ms\"]",
+        "meets_deadlines" => "true or false",
+        "response" | "blocked" => "a list of texts as [\"high <= 8ms\"], with a task's name",
         _ => "",
     }
 }
@@ -59,9 +75,10 @@ fn wanted_of(key: &str) -> &'static str {
 // The keys that a place has.
 fn known_in(place: FaultPlace) -> &'static str {
     match place {
-        FaultPlace::Head => "limit, until, ranks, board, setup, task, interrupt",
+        FaultPlace::Head => "limit, until, ranks, board, setup, task, interrupt, ask",
         FaultPlace::Task(_) => "name, policy (without ranks), stage, at, every, jobs, by, does",
         FaultPlace::Interrupt(_) => "name, line, at, every, times",
+        FaultPlace::Ask => "meets_deadlines, response, blocked",
         _ => "",
     }
 }
@@ -75,6 +92,22 @@ fn wanted(fault: TasksFault) -> &'static str {
     }
 }
 
+// Appends the key that is at fault.
+fn put_key(line: &mut Text, key: &str) {
+    if !key.is_empty() {
+        line.put(key);
+        line.put(": ");
+    }
+}
+
+// Appends what is wanted in its place.
+fn put_wanted(line: &mut Text, wanted: &str) {
+    if !wanted.is_empty() {
+        line.put("; wanted: ");
+        line.put(wanted);
+    }
+}
+
 /// What is said of a text that is refused: its name, the line of the fault where it is known, and what is wrong.
 pub fn fault_line(
     alloc: Global,
@@ -82,25 +115,21 @@ pub fn fault_line(
     text: &str,
     fault: TasksFault,
 ) -> Result<String, AllocError> {
-    let mut line = String::from_str(alloc, name)?;
+    let mut line = Text::new(alloc);
+    line.put(name);
     if let Some(number) = fault.line(text) {
-        write!(line, ":{number}")?;
+        put_numbered(&mut line, ":", number);
     }
-    line.push_str(": ")?;
-    put_place(&mut line, fault.place)?;
-    if !fault.key.is_empty() {
-        line.push_str(fault.key)?;
-        line.push_str(": ")?;
-    }
-    line.push_str(words_of(fault.kind))?;
+    line.put(": ");
+    put_place(&mut line, fault.place);
+    put_key(&mut line, fault.key);
+    line.put(words_of(fault.kind));
     if let FaultKind::LongHyperperiod(time) = fault.kind {
-        write!(line, ": {time} ns")?;
+        line.put(": ");
+        line.put_number(time);
+        line.put(" ns");
     }
-    let wanted = wanted(fault);
-    if !wanted.is_empty() {
-        line.push_str("; wanted: ")?;
-        line.push_str(wanted)?;
-    }
-    line.push('\n')?;
-    Ok(line)
+    put_wanted(&mut line, wanted(fault));
+    line.put_char('\n');
+    line.finish()
 }

@@ -2,6 +2,7 @@
 //! What names no source is this profile's own.
 #![tactic(auto)]
 
+mod asks;
 mod charts;
 mod faults;
 mod json;
@@ -10,6 +11,7 @@ mod reports;
 mod runs;
 mod summaries;
 mod tables;
+mod texts;
 mod times;
 
 pub use outputs::{Output, View};

@@ -1,6 +1,8 @@
 //! The report of a schedule: a line for each job and each task, and the processor's load.
+use crate::asks::put_answers;
 use crate::summaries::{Summary, summary_of};
-use crate::tables::{Row, Table};
+use crate::tables::Table;
+use crate::texts::Text;
 use crate::times::{put_share, put_time};
 use lab_jobs::{Job, Stretch};
 use lab_schedules::{End, Schedule};
@@ -25,33 +27,27 @@ pub fn name_of(schedule: &Schedule, task: usize) -> &str {
     }
 }
 
-// What a job is, and its dates: the first cells of its row. Its number counts from 1.
-fn put_dates(row: &mut Row, schedule: &Schedule, job: &Job) -> Result<(), AllocError> {
-    row.put_text(name_of(schedule, job.task))?;
-    row.put_count(job.job.saturating_add(1))?;
-    row.put_time(job.release)?;
-    row.put_date(job.start)?;
-    row.put_date(job.finish)
+// Appends what a job is, and its dates, to its row. Its number counts from 1.
+fn put_dates(table: &mut Table, schedule: &Schedule, job: &Job) {
+    table.put_text(name_of(schedule, job.task));
+    table.put_count(job.job.saturating_add(1));
+    table.put_time(job.release);
+    table.put_date(job.start);
+    table.put_date(job.finish);
 }
 
-// The row of a job.
-fn job_row(alloc: Global, schedule: &Schedule, job: &Job) -> Result<Row, AllocError> {
-    let mut row = Row::new(alloc);
-    put_dates(&mut row, schedule, job)?;
-    row.put_date(job.response())?;
-    row.put_text(deadline_word(job))?;
-    row.put_count(job.preempted)?;
-    row.put_time(job.blocked)?;
-    Ok(row)
+// Appends the row of a job.
+fn put_job(table: &mut Table, schedule: &Schedule, job: &Job) {
+    put_dates(table, schedule, job);
+    table.put_date(job.response());
+    table.put_text(deadline_word(job));
+    table.put_count(job.preempted);
+    table.put_time(job.blocked);
+    table.end_row();
 }
 
 // Appends the table of jobs.
-fn put_jobs(
-    alloc: Global,
-    text: &mut String,
-    schedule: &Schedule,
-    jobs: &[Job],
-) -> Result<(), AllocError> {
+fn put_jobs(alloc: Global, text: &mut Text, schedule: &Schedule, jobs: &[Job]) {
     let heads = [
         "job of",
         "number",
@@ -63,50 +59,35 @@ fn put_jobs(
         "preempted",
         "blocked",
     ];
-    let mut table = Table::new(alloc, &heads)?;
+    let mut table = Table::new(alloc, &heads);
     for job in jobs {
-        table.add(job_row(alloc, schedule, job)?)?;
+        put_job(&mut table, schedule, job);
     }
-    table.put(text)
+    table.write(text);
 }
 
-// Responses of a task, as cells; bars where no job is finished.
-fn put_responses(row: &mut Row, of: &Summary) -> Result<(), AllocError> {
-    if of.finished == 0 {
-        row.put_date(None)?;
-        row.put_date(None)?;
-        return row.put_date(None);
-    }
-    row.put_time(of.least)?;
-    row.put_time(of.mean())?;
-    row.put_time(of.greatest)
+// Appends the responses of a task; bars where no job is finished.
+fn put_responses(table: &mut Table, of: &Summary) {
+    let is_known = of.finished > 0;
+    table.put_date(is_known.then_some(of.least));
+    table.put_date(is_known.then_some(of.mean()));
+    table.put_date(is_known.then_some(of.greatest));
 }
 
-// The row of a task.
-fn task_row(
-    alloc: Global,
-    schedule: &Schedule,
-    task: usize,
-    of: &Summary,
-) -> Result<Row, AllocError> {
-    let mut row = Row::new(alloc);
-    row.put_text(name_of(schedule, task))?;
-    row.put_count(of.jobs)?;
-    row.put_count(of.finished)?;
-    row.put_count(of.late)?;
-    put_responses(&mut row, of)?;
-    row.put_time(of.blocked)?;
-    row.put_share(of.computed, schedule.date)?;
-    Ok(row)
+// Appends the row of a task.
+fn put_task(table: &mut Table, schedule: &Schedule, task: usize, of: &Summary) {
+    table.put_text(name_of(schedule, task));
+    table.put_count(of.jobs);
+    table.put_count(of.finished);
+    table.put_count(of.late);
+    put_responses(table, of);
+    table.put_time(of.blocked);
+    table.put_share(of.computed, schedule.date);
+    table.end_row();
 }
 
 // Appends the table of tasks.
-fn put_tasks(
-    alloc: Global,
-    text: &mut String,
-    schedule: &Schedule,
-    jobs: &[Job],
-) -> Result<(), AllocError> {
+fn put_tasks(alloc: Global, text: &mut Text, schedule: &Schedule, jobs: &[Job]) {
     let heads = [
         "task",
         "jobs",
@@ -118,12 +99,12 @@ fn put_tasks(
         "blocked",
         "processor",
     ];
-    let mut table = Table::new(alloc, &heads)?;
+    let mut table = Table::new(alloc, &heads);
     for task in 0..schedule.rules.tasks.len() {
         let of = summary_of(jobs, schedule.runs.as_slice(), task);
-        table.add(task_row(alloc, schedule, task, &of)?)?;
+        put_task(&mut table, schedule, task, &of);
     }
-    table.put(text)
+    table.write(text);
 }
 
 /// Why a run ended, in words.
@@ -148,23 +129,24 @@ pub fn computed_in(runs: &[Stretch]) -> u64 {
 }
 
 // Appends the line of the load.
-fn put_load(text: &mut String, schedule: &Schedule) -> Result<(), AllocError> {
-    text.push_str("load ")?;
-    put_share(text, computed_in(schedule.runs.as_slice()), schedule.date)?;
-    text.push_str(" of ")?;
-    put_time(text, schedule.date)?;
-    text.push_str("; ")?;
-    text.push_str(end_words(schedule.end))?;
-    text.push('\n')
+fn put_load(text: &mut Text, schedule: &Schedule) {
+    text.put("load ");
+    put_share(text, computed_in(schedule.runs.as_slice()), schedule.date);
+    text.put(" of ");
+    put_time(text, schedule.date);
+    text.put("; ");
+    text.put(end_words(schedule.end));
+    text.put_char('\n');
 }
 
-/// The report of a schedule and its jobs.
+/// The report of a schedule and its jobs, and what came of all that is asked.
 pub fn report_of(alloc: Global, schedule: &Schedule, jobs: &[Job]) -> Result<String, AllocError> {
-    let mut text = String::new(alloc);
-    put_jobs(alloc, &mut text, schedule, jobs)?;
-    text.push('\n')?;
-    put_tasks(alloc, &mut text, schedule, jobs)?;
-    text.push('\n')?;
-    put_load(&mut text, schedule)?;
-    Ok(text)
+    let mut text = Text::new(alloc);
+    put_jobs(alloc, &mut text, schedule, jobs);
+    text.put_char('\n');
+    put_tasks(alloc, &mut text, schedule, jobs);
+    text.put_char('\n');
+    put_load(&mut text, schedule);
+    put_answers(&mut text, schedule, jobs);
+    text.finish()
 }

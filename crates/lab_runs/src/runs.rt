@@ -1,17 +1,19 @@
 //! A text of tasks, run.
 ghost use Rattle.std.specs.Prelude.{◌≡◌, IfOk, map};
 ghost use Rattle.evl_plans.specs.Told.{handler_of};
-ghost use Rattle.lab_runs.specs.Runs.{RunEnds, status_of};
+ghost use Rattle.lab_runs.specs.Runs.{AreEnough, RunEnds, status_in, status_of};
 
+use crate::asks::put_failures;
 use crate::charts::chart_of;
 use crate::faults::fault_line;
 use crate::json::{csv_of, json_of, trace_of};
 use crate::outputs::{Output, View};
 use crate::reports::{end_words, report_of};
+use crate::texts::Text;
 use evl_base::Board;
 use evl_plans::Planned;
 use evl_scenario::write_scenario;
-use lab_jobs::Job;
+use lab_jobs::{Job, all_hold};
 use lab_schedules::{End, Schedule, play_tasks};
 use lab_tasks::{FaultKind, TaskSet, TasksFault, read_tasks};
 use std::alloc::{AllocError, Global};
@@ -28,22 +30,62 @@ pub fn status_of(end: End) -> u8
     }
 }
 
-// What is said of a run that did not go to its end.
-fn said_of(alloc: Global, name: &str, end: End) -> Result<String, AllocError> {
-    let mut said = String::new(alloc);
-    if status_of(end) == 0 {
-        return Ok(said);
+// What came of each job, where something of them is printed or asked.
+fn jobs_for(alloc: Global, schedule: &Schedule, view: View) -> Result<Vec<Job>, AllocError>
+    ensures { IfOk result (λ jobs. AreEnough schedule.now jobs.items) }
+{
+    if schedule.rules.asks.is_empty() && matches!(view, View::Trace | View::Scenario) {
+        return Ok(Vec::new(alloc));
     }
-    said.push_str(name)?;
-    said.push_str(": ")?;
+    schedule.jobs(alloc)
+}
+
+// The status of a schedule with these jobs: 1 where it went to its end and something asked of it isn't so.
+fn status_with(schedule: &Schedule, jobs: &[Job]) -> u8
+    ensures { AreEnough schedule.now jobs.now → result ≡ status_in schedule.now }
+{
+    let status = status_of(schedule.end);
+    if status == 0 && !all_hold(schedule.rules.asks.as_slice(), jobs, schedule.date) {
+        return 1;
+    }
+    status
+}
+
+// What is said of a run that did not go to its end, or of which something asked isn't so, which a report prints itself.
+fn said_of(
+    alloc: Global,
+    name: &str,
+    schedule: &Schedule,
+    jobs: &[Job],
+    view: View,
+) -> Result<String, AllocError> {
+    let mut said = Text::new(alloc);
+    if status_of(schedule.end) != 0 {
+        put_end(&mut said, name, schedule.end);
+    } else if view != View::Report {
+        put_failures(&mut said, name, schedule, jobs);
+    }
+    said.finish()
+}
+
+// Appends how a run ended that was cut off or refused.
+fn put_end(said: &mut Text, name: &str, end: End) {
+    said.put(name);
+    said.put(": ");
     match end {
-        End::Setup(number) => write!(said, "setup {number}: ")?,
-        End::Attach(number) => write!(said, "task {number}: ")?,
+        End::Setup(number) => put_numbered(said, "setup ", number),
+        End::Attach(number) => put_numbered(said, "task ", number),
         _ => {}
     }
-    said.push_str(end_words(end))?;
-    said.push('\n')?;
-    Ok(said)
+    said.put(end_words(end));
+    said.put_char('\n');
+}
+
+// Appends what a number counts, and the number.
+fn put_numbered(said: &mut Text, word: &str, number: usize) {
+    said.put(word);
+    said.put_number(number as u64);
+    said.put(": ");
 }
 
 // The scenario of a schedule's history, over its board.
@@ -59,36 +101,21 @@ fn scenario_of(
     }
 }
 
-// What is printed of a schedule with its jobs.
-fn with_jobs(
-    alloc: Global,
-    schedule: &Schedule,
-    jobs: &[Job],
-    view: View,
-) -> Result<String, AllocError> {
-    match view {
-        View::Json => json_of(alloc, schedule, jobs),
-        View::Csv => csv_of(alloc, schedule, jobs),
-        View::Chart => chart_of(alloc, schedule, jobs),
-        _ => report_of(alloc, schedule, jobs),
-    }
-}
-
-// A schedule as it is asked for.
+// A schedule as it is asked for, over a board with a limit.
 fn printed_of(
     alloc: Global,
     schedule: &Schedule,
-    board: &Board,
-    limit: u32,
+    jobs: &[Job],
+    over: (&Board, u32),
     view: View,
 ) -> Result<String, AllocError> {
     match view {
+        View::Report => report_of(alloc, schedule, jobs),
+        View::Json => json_of(alloc, schedule, jobs),
+        View::Csv => csv_of(alloc, schedule, jobs),
         View::Trace => trace_of(alloc, schedule),
-        View::Scenario => scenario_of(alloc, schedule, board, limit),
-        _ => {
-            let jobs = schedule.jobs(alloc)?;
-            with_jobs(alloc, schedule, jobs.as_slice(), view)
-        }
+        View::Scenario => scenario_of(alloc, schedule, over.0, over.1),
+        View::Chart => chart_of(alloc, schedule, jobs),
     }
 }
 
@@ -100,13 +127,14 @@ fn output_of(
     over: (&Board, u32),
     view: View,
 ) -> Result<Output, AllocError>
-    ensures { IfOk result (λ output. output.status ≡ status_of schedule.now.end) }
+    ensures { IfOk result (λ output. output.status ≡ status_in schedule.now) }
 {
-    let printed = printed_of(alloc, schedule, over.0, over.1, view)?;
+    let jobs = jobs_for(alloc, schedule, view)?;
+    let printed = printed_of(alloc, schedule, jobs.as_slice(), over, view)?;
     Ok(Output {
         printed,
-        said: said_of(alloc, name, schedule.end)?,
-        status: status_of(schedule.end),
+        said: said_of(alloc, name, schedule, jobs.as_slice(), view)?,
+        status: status_with(schedule, jobs.as_slice()),
     })
 }
 
@@ -149,9 +177,9 @@ fn refused(
     })
 }
 
-/// What `lab run` prints of a text of tasks, over these callbacks. The status is 0 where the run goes to its end, 5 where it
-/// is cut off, 2 where the text, its setup or a task is refused; `said` says which and why. `AllocError` where memory
-/// couldn't grow.
+/// What `lab run` prints of a text of tasks, over these callbacks. The status is 0 where the run goes to its end, 1 where
+/// something asked of it isn't so then, 5 where it is cut off, 2 where the text, its setup or a task is refused; `said`
+/// says which and why. `AllocError` where memory couldn't grow.
 pub fn run_tasks(
     alloc: Global,
     name: &str,

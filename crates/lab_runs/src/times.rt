@@ -1,7 +1,7 @@
 //! Times and shares in words.
 ghost use Rattle.std.specs.Prelude.{◌≤◌};
 
-use std::alloc::AllocError;
+use crate::texts::Text;
 
 // The greatest unit of which a time has one at least: how many nanoseconds it has, and its name.
 fn unit_of(time: u64) -> (u64, &'static str)
@@ -17,33 +17,30 @@ fn unit_of(time: u64) -> (u64, &'static str)
 }
 
 /// Appends a number of `unit`s, with a fraction where it is no whole one.
-pub fn put_units(text: &mut String, time: u64, unit: u64) -> Result<(), AllocError>
+pub fn put_units(text: &mut Text, time: u64, unit: u64)
     requires { 1 ≤ unit }
 {
-    let whole = time / unit;
-    write!(text, "{whole}")?;
+    text.put_number(time / unit);
     let mut rest = time % unit;
     let mut worth = unit / 10;
     if rest > 0 {
-        text.push('.')?;
+        text.put_char('.');
     }
     for _ in 0..9 {
         if rest == 0 || worth == 0 {
             break;
         }
-        let digit = rest / worth;
-        write!(text, "{digit}")?;
+        text.put_number(rest / worth);
         rest = rest % worth;
         worth = worth / 10;
     }
-    Ok(())
 }
 
 /// Appends a time in nanoseconds, in the greatest unit of which it has one at least: as `10.5ms`.
-pub fn put_time(text: &mut String, time: u64) -> Result<(), AllocError> {
+pub fn put_time(text: &mut Text, time: u64) {
     let (unit, name) = unit_of(time);
-    put_units(text, time, unit)?;
-    text.push_str(name)
+    put_units(text, time, unit);
+    text.put(name);
 }
 
 /// How many thousandths of a whole a part is; 0 of nothing.
@@ -56,9 +53,10 @@ pub fn thousandths(part: u64, whole: u64) -> u64 {
 }
 
 /// Appends a share in percent with one decimal, as `12.5 %`.
-pub fn put_share(text: &mut String, part: u64, whole: u64) -> Result<(), AllocError> {
+pub fn put_share(text: &mut Text, part: u64, whole: u64) {
     let share = thousandths(part, whole);
-    let percent = share / 10;
-    let tenths = share % 10;
-    write!(text, "{percent}.{tenths} %")
+    text.put_number(share / 10);
+    text.put_char('.');
+    text.put_number(share % 10);
+    text.put(" %");
 }

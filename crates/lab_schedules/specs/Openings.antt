@@ -77,6 +77,22 @@ opened board limit tasks bank = record {
 abbrev pub played : TaskSet → List Handler → End × Played
 played set bank = play set.setup.items set.rules (opened set.board set.limit (length set.rules.tasks.items) bank)
 
+-- a play from here to this end leaves this; where it ends since its history is full, it is
+abbrev pub PlaysTo : List Step → Rules → ℕ → Played → End → Played → Type 0
+PlaysTo setup rules limit old last new = (last ≢ end.Full → play setup rules old ≡ (last, new)) × (last ≡ end.Full → new.moment.entries ≡ limit)
+
+-- a schedule has the rules, and all that a play has left
+pub record Ends (p : Played) (all : Rules) (s : Schedule) : Type 0 where
+  pub rules : s.rules ≡ all
+  pub events : s.events.items ≡ p.events
+  pub runs : s.runs.items ≡ p.runs
+  pub dates : s.date ≡ now p
+  pub moment_is : moment s.kernel ≡ p.moment
+
+-- a schedule is what a play from here leaves at its end
+abbrev pub Finishes : List Step → Rules → ℕ → Played → Schedule → Type 0
+Finishes setup rules limit p s = (q : Played) × PlaysTo setup rules limit p s.end q × Ends q rules s
+
 -- A schedule is what comes of its task set, unless it ends since its history is full, as it then is.
 pub record IsSchedule (set : TaskSet) (bank : List Handler) (s : Schedule) : Type 0 where
   pub rules : s.rules ≡ set.rules

@@ -1,12 +1,11 @@
 //! Plays a task set.
 
-ghost use Rattle.std.specs.Prelude.{◌≡◌, IfOk, OnOk, length, map, replicate, slice_get, true};
+ghost use Rattle.std.specs.Prelude.{◌≡◌, IfOk, Ok, OnOk, map, replicate, slice_get, true};
 ghost use Rattle.evl_plans.specs.Told.{handler_of};
-ghost use Rattle.evl_shell.specs.Moments.{moment};
-ghost use Rattle.lab_schedules.specs.Openings.{IsSchedule, attach_all, is_refused, most_turns, opened, play, set_up};
+ghost use Rattle.lab_schedules.specs.Openings.{Ends, Finishes, IsSchedule, PlaysTo, attach_all, is_refused, most_turns, opened, play, set_up};
 ghost use Rattle.lab_schedules.specs.Choices.{doer};
 ghost use Rattle.lab_schedules.specs.Places.{first, rest_of};
-ghost use Rattle.lab_schedules.specs.Plays.{now, place_at};
+ghost use Rattle.lab_schedules.specs.Plays.{place_at};
 ghost use Rattle.lab_schedules.specs.Turns.{acting, arrived, going_on, is_past, line_due, turn_of, turned, turns};
 
 use crate::calling::{HARDWARE, Halt, Play, thread_of};
@@ -231,12 +230,8 @@ fn opened(
 
 // The schedule of a play that has ended so.
 fn schedule_of(play: Play, rules: Rules, end: End) -> Schedule
-    ensures rules { result.rules ≡ rules }
-    ensures ends { result.end ≡ end }
-    ensures events { result.events.items ≡ play.events }
-    ensures runs { result.runs.items ≡ play.runs }
-    ensures dates { result.date ≡ now play }
-    ensures moment_is { moment result.kernel ≡ play.moment }
+    ensures end { result.end ≡ end }
+    ensures ends { Ends play rules result }
 {
     let date = play.now();
     let Play {
@@ -260,14 +255,59 @@ fn schedule_of(play: Play, rules: Rules, end: End) -> Schedule
     }
 }
 
-// Whether it is so where a schedule ends since its history is full.
-fn is_so(schedule: &Schedule, limit: u32) -> bool
-    ensures { result ≡ true → schedule.now.end ≡ End.Full → length schedule.now.kernel.history.entries ≡ limit }
-{
-    match schedule.end {
-        End::Full => schedule.kernel.kernel().history().len() == limit as usize,
-        _ => true,
+impl Play {
+    // Whether the history is full, where the play ends since it is.
+    fn is_so(&self, end: End, limit: u32) -> bool
+        ensures { result ≡ true → end ≡ End.Full → self.now.moment.entries ≡ limit }
+    {
+        match end {
+            End::Full => self.kernel.kernel().history().len() == limit as usize,
+            _ => true,
+        }
     }
+
+    // Plays to its end, over a kernel with this limit.
+    fn to_end(&mut self, setup: Vec<Step>, rules: &Rules, limit: u32) -> Result<End, AllocError>
+        ensures { IfOk result (λ end. PlaysTo setup.items rules.now limit self.old end self.new) }
+    {
+        let end = match self.play(setup, rules) {
+            Ok(end) => end,
+            Err(Halt::Full) => End::Full,
+            Err(Halt::Memory) => return Err(AllocError),
+        };
+        if self.is_so(end, limit) {
+            Ok(end)
+        } else {
+            Err(AllocError)
+        }
+    }
+}
+
+// The schedule of a play that has ended so, if memory was there; here alone a play is dropped.
+fn ended(play: Play, rules: Rules, end: Result<End, AllocError>) -> Result<Schedule, AllocError>
+    ensures { IfOk result (λ s. (end ≡ Ok s.end) × Ends play rules s) }
+{
+    match end {
+        Ok(end) => Ok(schedule_of(play, rules, end)),
+        Err(refused) => {
+            drop(play);
+            drop(rules);
+            Err(refused)
+        }
+    }
+}
+
+// Plays to its end, over a kernel with this limit.
+fn finish(
+    mut play: Play,
+    setup: Vec<Step>,
+    rules: Rules,
+    limit: u32,
+) -> Result<Schedule, AllocError>
+    ensures { IfOk result (λ s. Finishes setup.items rules limit play s) }
+{
+    let end = play.to_end(setup, &rules, limit);
+    ended(play, rules, end)
 }
 
 /// Plays a task set over these callbacks. `AllocError` where memory couldn't grow.
@@ -280,16 +320,12 @@ pub fn play_tasks(alloc: Global, set: TaskSet, bank: Vec<Planned>) -> Result<Sch
         setup,
         rules,
     } = set;
-    let mut play = opened(alloc, board, limit, rules.tasks.len(), bank)?;
-    let end = match play.play(setup, &rules) {
-        Ok(end) => end,
-        Err(Halt::Full) => End::Full,
-        Err(Halt::Memory) => return Err(AllocError),
-    };
-    let schedule = schedule_of(play, rules, end);
-    if is_so(&schedule, limit) {
-        Ok(schedule)
-    } else {
-        Err(AllocError)
+    match opened(alloc, board, limit, rules.tasks.len(), bank) {
+        Ok(play) => finish(play, setup, rules, limit),
+        Err(refused) => {
+            drop(setup);
+            drop(rules);
+            Err(refused)
+        }
     }
 }

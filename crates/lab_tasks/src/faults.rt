@@ -18,6 +18,8 @@ pub enum FaultPlace {
     Act(usize, usize),
     /// This interrupt.
     Interrupt(usize),
+    /// What is asked of the run.
+    Ask,
 }
 
 /// What is at fault there.
@@ -93,6 +95,7 @@ fn heading_of(place: FaultPlace) -> Option<(&'static str, usize)> {
         FaultPlace::Task(number) => Some(("[[task]]", number)),
         FaultPlace::Act(number, _) => Some(("[[task]]", number)),
         FaultPlace::Interrupt(number) => Some(("[[interrupt]]", number)),
+        FaultPlace::Ask => Some(("[ask]", 1)),
     }
 }
 

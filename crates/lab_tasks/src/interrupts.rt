@@ -3,7 +3,7 @@
 use crate::durations::duration_from;
 use crate::faults::{FaultKind, FaultPlace, TasksFault, fault};
 use crate::sets::Interrupt;
-use crate::tasks::{duration_at, value_at};
+use crate::tasks::{duration_at, value_at, values_at};
 use evl_base::LineNo;
 use evl_scenario::{field, has_only_keys};
 use std::alloc::Global;
@@ -12,18 +12,10 @@ use toml::{Table, Value};
 // More dates are refused.
 const MOST_DATES: u64 = 1_000_000;
 
-/// The interrupts of a text, and the names of their tables, empty where one has none.
-#[derive(Drop)]
-pub struct Interrupts {
-    pub sources: Vec<String>,
-    pub dates: Vec<Interrupt>,
-}
-
 // The interrupts of one table.
 #[derive(Clone, Copy)]
 struct Series {
     line: LineNo,
-    source: usize,
     place: FaultPlace,
 }
 
@@ -35,7 +27,6 @@ fn add_one(dates: &mut Vec<Interrupt>, of: &Series, date: u64) -> Result<(), Tas
     dates.push(Interrupt {
         date,
         line: of.line,
-        source: of.source,
     })?;
     Ok(())
 }
@@ -103,53 +94,54 @@ fn add_dates(dates: &mut Vec<Interrupt>, of: &Series, table: &Table) -> Result<(
     }
 }
 
-// The name of a table, or an empty one.
-fn name_in(alloc: Global, table: &Table, place: FaultPlace) -> Result<String, TasksFault> {
-    match field(table, "name") {
-        Some(Value::String(name)) => Ok(String::from_str(alloc, name.as_str())?),
-        Some(_) => Err(fault(place, "name", FaultKind::Value)),
-        None => Ok(String::new(alloc)),
-    }
+// Whether the name of a table, where it has one, is a text.
+fn is_named(table: &Table) -> bool {
+    field(table, "name").is_none_or(|name| name.as_str().is_some())
 }
 
 // Adds the interrupts that a table asks for.
 fn add_table(
-    alloc: Global,
-    interrupts: &mut Interrupts,
+    dates: &mut Vec<Interrupt>,
     table: &Table,
-    source: usize,
+    place: FaultPlace,
 ) -> Result<(), TasksFault> {
-    let place = FaultPlace::Interrupt(source.saturating_add(1));
     if !has_only_keys(table, &["name", "line", "at", "every", "times"]) {
         return Err(fault(place, "", FaultKind::UnknownKey));
     }
     let Some(line) = value_at::<u16>(table, place, "line")? else {
         return Err(fault(place, "line", FaultKind::Missing));
     };
-    interrupts.sources.push(name_in(alloc, table, place)?)?;
+    if !is_named(table) {
+        return Err(fault(place, "name", FaultKind::Value));
+    }
     let of = Series {
         line: LineNo(line),
-        source,
         place,
     };
-    add_dates(&mut interrupts.dates, &of, table)
+    add_dates(dates, &of, table)
 }
 
-/// The interrupts that tables ask for, by their dates, and at one date in the text's order. `Missing` without a line or a
-/// date, or with `every` and no `times`; `NeedsEvery` with `times` alone; `TooMany` above 1,000,000 dates; `UnknownKey`,
-/// `Value` and `NoUnit` as elsewhere, `Value` also where a date is past 2^64 - 1.
-pub fn read_interrupts(alloc: Global, values: &[Value]) -> Result<Interrupts, TasksFault> {
-    let mut interrupts = Interrupts {
-        sources: Vec::new(alloc),
-        dates: Vec::new(alloc),
-    };
+// Adds the interrupts that all tables ask for.
+fn add_tables(dates: &mut Vec<Interrupt>, values: &[Value]) -> Result<(), TasksFault> {
     for (i, value) in values.iter().enumerate() {
-        let Some(table) = value.as_table() else {
-            let place = FaultPlace::Interrupt(i.saturating_add(1));
-            return Err(fault(place, "", FaultKind::Value));
-        };
-        add_table(alloc, &mut interrupts, table, i)?;
+        let place = FaultPlace::Interrupt(i.saturating_add(1));
+        match value.as_table() {
+            Some(table) => add_table(dates, table, place)?,
+            None => return Err(fault(place, "", FaultKind::Value)),
+        }
     }
-    interrupts.dates.sort_by_key(|interrupt| interrupt.date)?;
-    Ok(interrupts)
+    dates.sort_by_key(|interrupt| interrupt.date)?;
+    Ok(())
+}
+
+/// The interrupts that a document's tables ask for, by their dates, and at one date in the text's order. `Missing` without a
+/// line or a date, or with `every` and no `times`; `NeedsEvery` with `times` alone; `TooMany` above 1,000,000 dates;
+/// `UnknownKey`, `Value` and `NoUnit` as elsewhere, `Value` also where a date is past 2^64 - 1.
+pub fn read_interrupts(alloc: Global, document: &Table) -> Result<Vec<Interrupt>, TasksFault> {
+    let values = values_at(document, FaultPlace::Head, "interrupt")?;
+    let mut dates = Vec::new(alloc);
+    match add_tables(&mut dates, values) {
+        Ok(()) => Ok(dates),
+        Err(fault) => Err(fault),
+    }
 }

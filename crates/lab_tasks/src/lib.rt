@@ -3,6 +3,7 @@
 #![tactic(auto)]
 
 mod acts;
+mod asks;
 mod durations;
 mod faults;
 mod hyperperiods;
@@ -15,6 +16,7 @@ mod short_forms;
 mod tasks;
 
 pub use acts::Act;
+pub use asks::Ask;
 pub use durations::duration_of;
 pub use faults::{FaultKind, FaultPlace, TasksFault};
 pub use reading::read_tasks;

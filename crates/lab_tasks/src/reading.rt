@@ -1,13 +1,14 @@
 //! Task sets, read from text.
 
 use crate::acts::{Names, writes_into};
+use crate::asks::read_asks;
 use crate::durations::duration_from;
 use crate::faults::{FaultKind, FaultPlace, TasksFault, fault};
 use crate::hyperperiods::hyperperiod_of;
 use crate::interrupts::read_interrupts;
 use crate::names::{number_threads, read_names};
 use crate::ranks::{Ranks, rank_tasks, ranks_named};
-use crate::sets::{Rules, Task, TaskSet, idle_of};
+use crate::sets::{Task, TaskSet, idle_of};
 use crate::tasks::{read_task, value_at, values_at};
 use evl_base::{Board, Spares, XbufId};
 use evl_scenario::{Step, field, has_only_keys, is_limit_in_range, read_elements, read_step_table};
@@ -190,42 +191,71 @@ fn read_until(table: &Table, tasks: &[Task]) -> Result<Option<u64>, TasksFault> 
     }
 }
 
-// What a document says, whose setup is this.
-fn read_document(
+// Fills a set in, whose tasks and setup are these.
+fn fill(
+    set: &mut TaskSet,
+    names: Names,
+    table: &Table,
+    values: &[Value],
+    setup: Option<Value>,
+) -> Result<(), TasksFault> {
+    let rules = &mut set.rules;
+    rules.tasks = read_tasks_of(names, values, read_ranks(table)?)?;
+    rules.interrupts = read_interrupts(names.alloc, table)?;
+    set.setup = read_setup(names, setup)?;
+    rules.until = read_until(table, rules.tasks.as_slice())?;
+    rules.asks = read_asks(names, field(table, "ask"))?;
+    Ok(())
+}
+
+// The set of a document over a board.
+fn read_set(
     alloc: Global,
     table: &Table,
+    board: Board,
+    limit: u32,
     setup: Option<Value>,
 ) -> Result<TaskSet, TasksFault> {
-    let known = ["limit", "until", "ranks", "board", "task", "interrupt"];
-    if !has_only_keys(table, &known) {
-        return Err(fault(FaultPlace::Head, "", FaultKind::UnknownKey));
-    }
-    let limit = read_limit(table)?;
-    let ranks = read_ranks(table)?;
     let values = values_at(table, FaultPlace::Head, "task")?;
-    if values.len() > MOST_TASKS {
-        return Err(fault(FaultPlace::Head, "task", FaultKind::TooMany));
-    }
-    let board = read_board(alloc, table, values.len())?;
     let tasks = read_names(alloc, values)?;
     let names = Names {
         alloc,
         tasks: tasks.as_slice(),
         idle: idle_of(&board),
     };
-    let tasks = read_tasks_of(names, values, ranks)?;
-    let interrupts = read_interrupts(alloc, values_at(table, FaultPlace::Head, "interrupt")?)?;
-    Ok(TaskSet {
-        limit,
-        setup: read_setup(names, setup)?,
-        rules: Rules {
-            until: read_until(table, tasks.as_slice())?,
-            tasks,
-            interrupts: interrupts.dates,
-            sources: interrupts.sources,
-        },
-        board,
-    })
+    let mut set = TaskSet::empty(alloc, board, limit);
+    match fill(&mut set, names, table, values, setup) {
+        Ok(()) => Ok(set),
+        Err(fault) => Err(fault),
+    }
+}
+
+// What a document says, whose setup is this.
+fn read_document(
+    alloc: Global,
+    table: &Table,
+    setup: Option<Value>,
+) -> Result<TaskSet, TasksFault> {
+    let known = [
+        "limit",
+        "until",
+        "ranks",
+        "board",
+        "task",
+        "interrupt",
+        "ask",
+    ];
+    if !has_only_keys(table, &known) {
+        return Err(fault(FaultPlace::Head, "", FaultKind::UnknownKey));
+    }
+    let limit = read_limit(table)?;
+    let _ = read_ranks(table)?;
+    let count = values_at(table, FaultPlace::Head, "task")?.len();
+    if count > MOST_TASKS {
+        return Err(fault(FaultPlace::Head, "task", FaultKind::TooMany));
+    }
+    let board = read_board(alloc, table, count)?;
+    read_set(alloc, table, board, limit, setup)
 }
 
 /// The task set that a text is. `NotToml` where it is no TOML document in UTF-8 of at most 1,048,576 bytes; `TooMany` where

@@ -3,8 +3,10 @@ ghost use Rattle.std.specs.Prelude.{◌≡◌};
 ghost use Rattle.lab_tasks.specs.Sets.{has_job, idle_of, release_of};
 
 use crate::acts::Act;
+use crate::asks::Ask;
 use evl_base::{Board, LineNo, Policy, Stage, XbufId};
 use evl_scenario::Step;
+use std::alloc::Global;
 
 /// A thread that does the same in each of its jobs.
 #[derive(Drop)]
@@ -28,8 +30,6 @@ pub struct Task {
 pub struct Interrupt {
     pub date: u64,
     pub line: LineNo,
-    /// The table of the text that asks for it, from 0.
-    pub source: usize,
 }
 
 /// What is done when, over a board.
@@ -41,8 +41,8 @@ pub struct Rules {
     pub tasks: Vec<Task>,
     /// By their dates, and at one date in the text's order.
     pub interrupts: Vec<Interrupt>,
-    /// The names of the interrupts' tables, empty where one has none.
-    pub sources: Vec<String>,
+    /// What is asked of the run.
+    pub asks: Vec<Ask>,
 }
 
 /// Tasks over a board. The board has a thread more than there are tasks, T0 for the hardware, and a cross-buffer more than
@@ -54,6 +54,23 @@ pub struct TaskSet {
     /// What is done before the tasks attach.
     pub setup: Vec<Step>,
     pub rules: Rules,
+}
+
+impl TaskSet {
+    /// No tasks over a board, with nothing to be done.
+    pub(crate) fn empty(alloc: Global, board: Board, limit: u32) -> TaskSet {
+        TaskSet {
+            board,
+            limit,
+            setup: Vec::new(alloc),
+            rules: Rules {
+                until: None,
+                tasks: Vec::new(alloc),
+                interrupts: Vec::new(alloc),
+                asks: Vec::new(alloc),
+            },
+        }
+    }
 }
 
 /// The cross-buffer into which nobody writes: the board's last.
