@@ -11,8 +11,7 @@ BUILDS = {
     "tests": ([f"{TOOLS}/unproved_tests"], []),
     "library": ([f"{TOOLS}/library", "--unproved"], []),
     "page": ([f"{TOOLS}/page", "--unproved"], ["lab"]),
-    "test_races": ([f"{TOOLS}/built", "--unproved-path", "test_races"], []),
-    "test_stress": ([f"{TOOLS}/built", "--unproved-path", "test_stress"], []),
+    "test_hosts": ([f"{TOOLS}/built", "--unproved-path", "test_hosts"], []),
     "evl": ([f"{TOOLS}/built", "--unproved-path", "evl"], []),
 }
 

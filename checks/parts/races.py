@@ -22,7 +22,7 @@ def met(races, text, runs, seed):
     """What callers were answered in so many runs on host threads, each as often as it came; none where they don't end."""
     with open(text, "rb") as given:
         try:
-            done = subprocess.run([races, str(runs), str(seed)], stdin=given, capture_output=True, text=True, timeout=PATIENCE, check=False)
+            done = subprocess.run([races, "race", str(runs), str(seed)], stdin=given, capture_output=True, text=True, timeout=PATIENCE, check=False)
         except subprocess.TimeoutExpired:
             return None
     if done.returncode:

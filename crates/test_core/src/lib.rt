@@ -1,23 +1,23 @@
-//! Tests of the pipeline and of the kernel, as a caller uses them.
+//! Tests of the core: its elements, words and kernel as a caller uses each, a machine's callers on one host thread and on
+//! two, and memory of which one request is refused.
 #![tactic(auto)]
 
 #[cfg(test)]
-mod fires;
+mod boards;
+#[cfg(test)]
+mod callers;
+#[cfg(test)]
+mod elements;
 #[cfg(test)]
 mod growths;
 #[cfg(test)]
-mod handlers;
-#[cfg(test)]
 mod kernels;
-#[cfg(test)]
-mod likeness;
-#[cfg(test)]
-mod most_plays;
-#[cfg(test)]
-mod pipelines;
-#[cfg(test)]
-mod readers;
+mod refusing;
 #[cfg(test)]
 mod rows;
 #[cfg(test)]
-mod waits;
+mod short;
+#[cfg(test)]
+mod words;
+
+pub use refusing::Refusing;

@@ -1,22 +1,16 @@
-//! Tests of the lab: the faults of texts of each kind, the warnings of scenarios, the lines of traces, pictures, banks,
-//! plays, and machines that are driven.
+//! Tests of scenario texts, of the shell, and of the lab: its texts, forms, reports and pictures, machines that are driven,
+//! and orders of calls and of atomic steps.
 #![tactic(auto)]
 
 #[cfg(test)]
-mod banks;
+mod forms;
 #[cfg(test)]
-mod drawings;
+mod lab;
 #[cfg(test)]
-mod expects;
+mod rows;
 #[cfg(test)]
-mod faults;
+mod scenario;
 #[cfg(test)]
-mod kinds;
+mod shell;
 #[cfg(test)]
-mod lines;
-#[cfg(test)]
-mod lives;
-#[cfg(test)]
-mod plays;
-#[cfg(test)]
-mod warned;
+mod step_orders;

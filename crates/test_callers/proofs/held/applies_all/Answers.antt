@@ -1,6 +1,0 @@
-use Rattle.std.proofs.Common.{ap, sym, subst}
-use Rattle.evl_kernel.specs.state.Callbacks.{AnswersByPlan}
-use Rattle.test_callers.proofs.held.applies_all.Goals as goal
-
-pub applies_one-requires : goal.applies_one-requires
-applies_one-requires g c = subst (λ k. AnswersByPlan g.C.Handler.declared g.C.Handler.plan k.machine.first.callbacks) (sym c.loop-step.invariant) c.requires

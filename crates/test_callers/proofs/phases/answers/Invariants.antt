@@ -1,5 +1,0 @@
-use Rattle.std.proofs.Common.{◌≡◌, All}
-use Rattle.test_callers.proofs.phases.answers.Given as goal
-
-abbrev pub invariant-loop-number : goal.invariant-loop-number
-invariant-loop-number g l = All (λ c. c.machine ≡ l.machine) l.callers.items

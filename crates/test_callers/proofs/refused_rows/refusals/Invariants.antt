@@ -1,5 +1,0 @@
-use Rattle.std.proofs.Common.{◌≡◌, All}
-use Rattle.test_callers.proofs.refused_rows.refusals.Given as goal
-
-abbrev pub invariant-loop-step : goal.invariant-loop-step
-invariant-loop-step g l = All (λ c. c.machine ≡ l.machine) l.callers.items

@@ -1,0 +1,15 @@
+use Rattle.std.proofs.Common.{◌≡◌, sym, subst}
+use Rattle.std.specs.Prelude.{All}
+use Rattle.std.proofs.lemmas.List.Elements.{All-head, All-push, All-tail}
+use Rattle.test_hosts.proofs.RunLemmas.{one_moved}
+use Rattle.test_hosts.proofs.runs.hands_of.Goals as goal
+
+pub loop-caller-preserved : goal.loop-caller-preserved
+loop-caller-preserved g c =
+    let m = c.args.machine.now in
+    let left = subst (All (λ x. x.machine ≡ m)) c.in-Some.ensures.steps.0 c.loop-caller.invariant.1 in
+    let first = All-head (λ x. x.machine ≡ m) c.in-Some.caller c.next.new.self.rest.items left in (
+      subst (All (λ h. h.caller.machine ≡ m)) (sym c.in-Ok.ensures.items) (All-push (λ h. h.caller.machine ≡ m) c.loop-caller.hands.items _ c.loop-caller.invariant.0 first),
+      All-tail (λ x. x.machine ≡ m) c.in-Some.caller c.next.new.self.rest.items left,
+      one_moved _ _ _ _ _ _ _ c.in-Some.ensures.steps.0 c.in-Ok.ensures.items c.loop-caller.invariant.2,
+    )

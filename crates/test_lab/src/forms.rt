@@ -1,0 +1,2 @@
+//! Tests of the forms for programs: the list of the calls, what is found in texts, and how machines stand, as JSON.
+mod json;

@@ -1,0 +1,3 @@
+//! Tests of the orders of callers' atomic steps.
+mod turns;
+mod words;

@@ -1,4 +1,0 @@
-use Rattle.test_shell.proofs.histories.make.Goals as goal
-
-pub returns : goal.returns
-returns g c = record { by_plan = c.apply.ensures.by_plan }

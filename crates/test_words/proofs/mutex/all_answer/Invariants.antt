@@ -1,6 +1,0 @@
-use Rattle.std.proofs.Common.{All}
-use Rattle.evl_words.specs.MutexCalls.{IsSeatOf}
-use Rattle.test_words.proofs.mutex.all_answer.Given as goal
-
-abbrev pub invariant-loop-part : goal.invariant-loop-part
-invariant-loop-part l = All (λ seat. IsSeatOf seat l.word) l.seats.items

@@ -1,8 +1,0 @@
-use Rattle.std.proofs.Common.{sym, subst}
-use Rattle.std.specs.Prelude.{All}
-use Rattle.evl_words.specs.MutexCalls.{IsSeatOf}
-use Rattle.evl_words.proofs.MutexEnds.{all_new}
-use Rattle.test_words.proofs.mutex.made.Goals as goal
-
-pub returns-in-Ok : goal.returns-in-Ok
-returns-in-Ok c = (c.in-Ok.ensures.ok.2, subst (λ l. All (λ seat. IsSeatOf seat c.in-Ok.made.0) l) (sym c.in-Ok.ensures.ok.3) (all_new c.in-Ok.made.0 0 c.args.seats))
