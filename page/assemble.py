@@ -7,7 +7,7 @@ import base64, gzip, hashlib, html, json, os, re, shutil, subprocess, sys
 HERE = os.path.dirname(os.path.abspath(__file__))
 # Each after those that it imports: the one file has them one after another.
 MODULES = ('now', 'program', 'text', 'stays', 'reads', 'states', 'asks', 'kept', 'complete', 'parts', 'editor', 'picture', 'steps',
-           'orders', 'console', 'exercise', 'make', 'mine', 'qr', 'share', 'brought', 'bars', 'page')
+           'schedules', 'orders', 'console', 'exercise', 'make', 'mine', 'qr', 'share', 'brought', 'bars', 'page')
 # A line of a trace in a lesson: a click goes to its step.
 STEP = r'<button class="at" data-step="\1">\g<0></button>'
 # The text of the page's first lesson; page/stories.md explains it.
@@ -123,6 +123,9 @@ def lessons_of(top):
     for it in lessons:
         it['story'] = with_links(it['story'], titles)
     lessons += exercises()
+    tasks = folder_of(top, 'tasks')
+    own_tasks = {name: own.pop(name) for name in [*own] if os.path.isfile(os.path.join(tasks, name + '.toml'))}
+    lessons += texts_with_stories('Task sets', (tasks,), own_tasks)
     lessons += texts_with_stories('Orders', (orders, f'{orders}/asked', f'{orders}/steps'), own)
     told = named_stories(read(top, 'docs/use/CALLERS_TEXT.md'), '###')
     lessons += texts_with_stories('Callers', (folder_of(top, 'callers'),), told)

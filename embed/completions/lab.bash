@@ -18,7 +18,7 @@ _lab() {
         live) words="--bank --limit --prompt --help" ;;
         callers) words="--bank --limit --help" files=toml ;;
         orders) words="--bank --most --outcome --state --ask --order --answers --json --help" ;;
-        run) words="--bank --json --csv --trace --scenario --svg --help" files=toml ;;
+        run) words="--bank --json --csv --trace --scenario --svg --bound --help" files=toml ;;
         help) mapfile -t COMPREPLY < <(compgen -W "--json $("${COMP_WORDS[0]}" help 2>/dev/null | cut -d' ' -f2)" -- "$word"); return ;;
         draw) words="--bank --outcome --svg --perfetto --down --across --upto --page --help" ;;
         *) words=--help ;;

@@ -45,6 +45,20 @@ export async function checked(it) {
   // Of orders the one in the text is no matter.
   return told.filter(found => found.fault || !own.status && it.kind !== 'orders');
 }
+/**
+ * The schedule of a task set: its chart and its report, with the bounds of theory, or why there is none. A run that is cut off
+ * has both too, and says why; so does one of which something asked isn't so. A run that was stopped is reported.
+ * @param {Text} it
+ */
+export async function schedule_of(it) {
+  const ask = (/** @type {string} */ form) => short.ask(['run', form, FILE, ...over(it)], files_of(it));
+  const [chart, report] = [await ask('--svg'), await ask('--bound')], is_run = [0, 1, 5].includes(report.status);
+  const why = report.status && report.status !== 2 && !report.err ? [left_out('run', 'it ended early')] : [];
+  const refused = report.status === -2 ? [left_out('run', report.err)]
+    : read_refused(report.err, it.text).map(told => ({ ...told, fault: !is_run }));
+  return { chart: is_run ? chart.out : '', report: is_run ? report.out : '', is_run,
+    told: [...chart.status === -2 ? [left_out('drawn', chart.err)] : [], ...refused, ...is_run ? [] : why] };
+}
 /** A scenario in its other form, of lines or of tables, or why there is none. @param {string} text */
 export async function converted(text) {
   const words = ['convert', is_lines(text) ? '--toml' : '--lines', FILE];

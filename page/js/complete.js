@@ -81,11 +81,12 @@ function offered_in_lines(line, text) {
   return { size: call.length, words: [...threads_on(text), ...heads] };
 }
 /**
- * What may come at a place of a text: how many characters before it are replaced, and the words.
+ * What may come at a place of a text: how many characters before it are replaced, and the words; in a task set nothing.
  * @param {string} text @param {number} at @param {string} kind
  */
 export function offered(text, at, kind) {
   const line = text.slice(text.lastIndexOf('\n', at - 1) + 1, at), before = text.slice(0, at);
+  if (kind === 'tasks') return null;
   if (is_lines(text)) return offered_in_lines(line, text);
   if (/#/.test(line.replace(/"[^"]*"?/g, ''))) return null;
   const head = line.match(/^\s*(\[+\w*)$/);

@@ -74,7 +74,7 @@ function fix_of(it) {
   return at < 0 ? null : { from: at, to: at + near[1].length, word: near[2] };
 }
 export function show_faults() {
-  const well = { play: 'no fault, no warning', orders: 'no fault', callers: 'no fault' }[now.kind] || '';
+  const well = { play: 'no fault, no warning', orders: 'no fault', callers: 'no fault', tasks: 'no fault' }[now.kind] || '';
   const items = now.told.slice(0, MOST_FAULTS).map((it, i) => {
     const fix = fix_of(it), place = `${it.fault ? 'fault' : 'warning'} ${it.where}`.trim();
     const button = fix ? ` <button class="fix" data-fix="${i}">write ${escaped(fix.word)}</button>` : '';

@@ -1,6 +1,7 @@
 // The page: lessons, tabs, bars, keys, and what is done when a text changes.
 import { $, all, escaped, now, on, text_now, NARROW } from './now.js';
 import { begin_program, calls, checked, converted, run, stop_orders, stop_runs } from './asks.js';
+import { hide_schedule, show_schedule } from './schedules.js';
 import { close_offers, offer_calls, offer_key, take_offer } from './complete.js';
 import { begin_console, console_key, offer_in_line, say, scenario_of_console } from './console.js';
 import { find, go_to, indent, offer_in_bank, offer_in_text, open_side, paint, paint_all } from './editor.js';
@@ -60,11 +61,17 @@ async function play() {
   now.steps = steps_of(text);
   now.kind = kind_of(text);
   now.viewed = null;
+  $('viewed').hidden = true;
+  if (now.kind !== 'tasks') hide_schedule();
   show_kind(was);
   begin_console();
   if (now.kind === 'orders') {
     now.told = await checked(text_now());
     if (mine === now.turn) await play_orders(mine);
+  } else if (now.kind === 'tasks') {
+    const told = await show_schedule(mine);
+    if (mine !== now.turn) return;
+    now.told = told;
   } else if (now.kind === 'bank' || now.kind === 'empty') {
     now.told = await checked(text_now());
     show_none(now.kind === 'empty' ? 'The text is empty.' : 'These are callbacks: they belong in their own tab.');
@@ -85,7 +92,6 @@ async function play() {
 async function play_orders(mine) {
   show_faults();
   paint();
-  $('viewed').hidden = true;
   show_none('An outcome is shown here after all orders have been explored.');
   const answer = await go_orders(mine, text_now());
   if (mine !== now.turn || !answer) return;

@@ -34,9 +34,9 @@ const lines_of_err = (/** @type {string} */ err) =>
  */
 export function read_refused(err, text) {
   return lines_of_err(err).map(line => {
-    const says = line.replace(/^lab: /, '').replace(`${FILE}:`, '').trim(), place = says.match(/^(\d+):(\d+): (.*)$/);
+    const says = line.replace(/^lab: /, '').replace(`${FILE}:`, '').trim(), place = says.match(/^(\d+):(?:(\d+):)? (.*)$/);
     if (!place) return { fault: true, column: 0, says, where: '' };
-    return { fault: true, ...place_in(text.split('\n'), +place[1], +place[2]), says: place[3], where: `line ${place[1]}` };
+    return { fault: true, ...place_in(text.split('\n'), +place[1], +(place[2] || 1)), says: place[3], where: `line ${place[1]}` };
   });
 }
 /** The same in one line, which has no place where another says it. @param {string} err */

@@ -8,7 +8,7 @@ export const CALLERS_WORDS = { try_lock_stax: ['stax', 'as'], unlock_stax: ['pas
   begin_lock_mutex: ['mutex', 'until', 'as'], finish_lock_mutex: ['as'], try_unlock_mutex: ['pass'],
   unlock_mutex_fast: ['pass'], take: [], give: [] };
 /** @type {Record<string, string>} */
-export const KINDS = { play: 'scenario', orders: 'orders', callers: 'callers', bank: 'callbacks', empty: 'empty' };
+export const KINDS = { play: 'scenario', orders: 'orders', callers: 'callers', tasks: 'task set', bank: 'callbacks', empty: 'empty' };
 
 /** A line without its comment; a # in quotes begins none. @param {string} line */
 export function bare_of(line) {
@@ -53,6 +53,7 @@ export function kind_of(text) {
   const lines = text.split('\n').map(line => bare_of(line).trim()).filter(Boolean), whole = lines.join('\n');
   const has = (/** @type {RegExp} */ form) => form.test(whole);
   if (!lines.length) return 'empty';
+  if (has(/^\[\[\s*task\s*\]\]|^task\s*=/m)) return 'tasks';
   const scenario = has(/^\[\s*board\s*\]|^\[\[\s*(step|setup)\s*\]\]|^(step|setup|board)\b\s*[=.]/m);
   if (!scenario && has(/^\[\[\s*callback\s*\]\]|^callback\s*=/m)) return 'bank';
   if (has(/^\[\s*ask\s*\]|^ask\s*[=.]|^\[\[\s*setup\s*\]\]|^setup\s*=/m)) return 'orders';

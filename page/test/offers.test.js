@@ -41,6 +41,8 @@ test('tables, the board and the callbacks', () => {
   assert.ok(at('[board]\nthreads = 1\n|')?.words.includes('sems = '));
   assert.ok(!at('[board]\nthreads = 1\n|')?.words.includes('threads = '));
   assert.equal(at('# a comment |'), null);
+  assert.equal(at('[|', 'tasks'), null);
+  assert.equal(at('[[task]]\ndoes = ["run 1ms"]\n[ask]\n|', 'tasks'), null);
   assert.deepEqual(at('[|', 'bank')?.words, ['[[callback]]']);
   assert.deepEqual(at('|', 'bank')?.words, ['[[callback]]']);
   assert.deepEqual(at('[[callback]]\na|', 'bank')?.words, ['accepts = ', 'do = ']);

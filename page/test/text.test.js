@@ -14,11 +14,15 @@ const texts = name => fs.readdirSync(folder(name)).filter(it => it.endsWith('.to
   .map(it => [it, fs.readFileSync(path.join(folder(name), it), 'utf8')]);
 
 test('the kind of each text of the repository is seen', () => {
-  const kinds = { orders: 'orders', 'orders/steps': 'orders', scenarios: 'play', 'scenarios/lessons': 'play', banks: 'bank', callers: 'callers' };
+  const kinds = { orders: 'orders', 'orders/steps': 'orders', scenarios: 'play', 'scenarios/lessons': 'play', banks: 'bank', callers: 'callers', tasks: 'tasks' };
   for (const [name, kind] of Object.entries(kinds)) {
     assert.ok(texts(name).length > 0, name);
     for (const [file, text] of texts(name)) assert.equal(kind_of(text), kind, file);
   }
+});
+test('a task set is seen in each form of TOML', () => {
+  const texts = ['[[task]]\ndoes = ["run 1ms"]\n', 'task = [{ does = ["run 1ms"] }]\n', '[board]\nsems = [0]\n[[ task ]]\n', '# [[task]]\n[board]\nthreads = 1\n'];
+  assert.deepEqual(texts.map(kind_of), ['tasks', 'tasks', 'tasks', 'play']);
 });
 test('a word that is typed on is no longer the word that was reported', () => {
   const cases = [['T1 finsh', 'finsh', 3, 3], ['T1 finsh2', 'fins', 3, -1], ['x = 3, lien = "lien"', 'lien', 0, 7],

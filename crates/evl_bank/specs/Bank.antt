@@ -36,6 +36,8 @@ flagging = record { kinds = 2; plan = plan_of 1 1 (PostFlags (record { 0 = 0 }) 
 abbrev pub stopping : Handler
 stopping = record { kinds = 16; plan = plan_of 2 1 (StopTimer (record { 0 = 0 })) }
 
+-- rule: The program's bank is callbacks 0 to 7 with their kinds and plans.
+--   clauses: play_program; with_program_bank
 -- callbacks 0 to 7
 abbrev pub program_bank : List Handler
 program_bank = quiet_handler ∷ posting 1 ∷ posting 2 ∷ propagating ∷ posting_line ∷ flagging ∷ stopping ∷ quiet_handler ∷ []

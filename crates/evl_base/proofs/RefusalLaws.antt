@@ -4,6 +4,6 @@ use Rattle.std.proofs.Common.{refl}
 use Rattle.std.specs.List.{range_with_len}
 use Rattle.evl_base.specs.Refusal.{number_of, refusals}
 
--- each stands at its number
+-- each is at its number
 pub in-order : map number_of refusals ≡ range_with_len 1 (length refusals)
 in-order = refl

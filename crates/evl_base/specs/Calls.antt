@@ -30,7 +30,7 @@ thread_words = word.Attach ∷ word.Detach ∷ word.SetPolicy ∷ word.SetStage 
 abbrev pub clock_words : List StepWord
 clock_words = word.Tick ∷ word.Now ∷ word.NewTimer ∷ word.StartTimer ∷ word.StopTimer ∷ word.DropTimer ∷ word.Overruns ∷ thread_words
 
--- all words, by families, each with those above behind it
+-- all words, by families, each followed by those above
 abbrev pub words : List StepWord
 words = word.Request ∷ word.Free ∷ word.Arrive ∷ word.Post ∷ word.Stall ∷ word.Unstall ∷ clock_words
 

@@ -1,4 +1,4 @@
--- What stands behind the keys of a call: the kinds of values, the keys of a form with their values, and their texts in a trace.
+-- The values of the keys of a call: the kinds of values, the keys of a form with their values, and their texts in a trace.
 use Rattle.std.specs.Prelude.{ℕ, List, [], ◌∷◌, ◌++◌, codes, Bool, true, false, Option, Some, None, ◌||◌, if◌then◌else◌}
 use Rattle.std.specs.Fmt.{decimal}
 use Rattle.std.specs.Str.{bytes_eq}
@@ -21,7 +21,7 @@ use Rattle.evl_base.specs.declared.way.Way.{Way}
 
 -- ---- values
 
--- what stands behind a key of this kind
+-- the value of a key of this kind
 abbrev pub Value : Kind → Type 0
 Value kind.Byte = ℕ
 Value kind.Half = ℕ
@@ -37,7 +37,7 @@ Value kind.Truth = Bool
 
 -- ---- keys
 
--- a key, the kind of its value, and the value that stands in where the key may be left out
+-- a key, the kind of its value, and the value that is taken where the key may be left out
 pub record Key : Type 0 where
   pub name : List ℕ
   pub kind : Kind
@@ -49,7 +49,7 @@ required_key kind name = record { name = name; kind = kind; default = None }
 abbrev pub optional_key : (kind : Kind) → Value kind → List ℕ → Key
 optional_key kind default name = record { name = name; kind = kind; default = Some default }
 
--- the kind of the value behind a key of this name, in each call that has it
+-- the kind of the value of a key of this name, in each call that has it
 unfoldable pub kind_named : List ℕ → Kind
 kind_named key =
     if bytes_eq key (codes "callback") then kind.Byte
@@ -98,7 +98,7 @@ told_as kind.Bytes x = a_bytes x
 told_as kind.Until x = a_until x
 told_as kind.Truth x = a_truth x
 
--- a key with what stands behind it
+-- a key with its value
 abbrev pub Keyed : Type 0
 Keyed = List ℕ × Told
 
@@ -117,7 +117,7 @@ abbrev pub truth_text : Bool → List ℕ
 truth_text true = codes "true"
 truth_text false = codes "false"
 
--- what stands behind a key
+-- the value of a key
 abbrev pub value_text : Told → List ℕ
 value_text (a_byte x) = decimal x
 value_text (a_half x) = decimal x

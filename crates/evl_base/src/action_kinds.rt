@@ -3,6 +3,7 @@ ghost use Rattle.std.specs.Prelude.{⊤, ◌≡◌, ◌∷◌, [], codes};
 
 use bitflags::{Flag, Flags, bitflag_items};
 
+// rule: There are five kinds of action, the bits 1, 2, 4, 8 and 16.
 /// A set of kinds of actions, as a callback declares them.
 #[derive(Clone, Copy, PartialEq, Eq)]
 pub struct ActionKinds(u8);

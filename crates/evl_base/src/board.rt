@@ -8,6 +8,10 @@ use crate::mutex_kind::MutexKind;
 use crate::refusal::Refusal;
 use arrayvec::ArrayVec;
 
+// rule: By the types: at most 64 semaphores, 64 flag groups, 16 cross-buffers, 32 mutexes, 16 quota groups, 16 staxes;
+//   transfers of at most 256 bytes; two stages, two ways, four policies, three takes with 32-bit masks, three kinds of
+//   mutex, 16-bit numbers of objects.
+//   also: Stage; Way; Policy; Take; MutexKind
 /// The elements of a kernel, as they are opened.
 #[derive(Drop)]
 pub struct Board {

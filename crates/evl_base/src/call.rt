@@ -1,4 +1,4 @@
-//! The calls of the kernel, and the list of them: how a call is copied, told in a trace, read from a table, written and
+//! The calls of the kernel, and the list of them: how a call is copied, written in a trace, read from a table, written and
 //! read from C comes of that list.
 ghost use Rattle.std.specs.Prelude.{◌≡◌, ◌≤◌, ◌+◌};
 ghost use Rattle.evl_base.specs.Call.{boxes_in_call};
@@ -231,7 +231,7 @@ pub enum StepWord {
     Finish,
 }
 
-/// The list of the calls, by families, handed to a macro behind what is given to it: each with its word, the name of
+/// The list of the calls, by families, handed to a macro after what is given to it: each with its word, the name of
 /// that, its keys in the order in which they are written, and the kind of its answers. A key has the kind of its value,
 /// the type round a number of the kernel, and the value that it has where it is left out.
 #[macro_export]

@@ -1,4 +1,4 @@
-//! What a call says in a trace: its word, then each key with what stands behind it.
+//! What a call says in a trace: its word, then each key with its value.
 ghost use Rattle.std.specs.Prelude.{Some};
 
 use crate::call::Call;
@@ -7,7 +7,7 @@ use crate::fields::{Field, Fields, Named, Until};
 use crate::way::Hex;
 use std::fmt;
 
-/// What stands behind a key of a call.
+/// The value of a key of a call.
 #[derive(Drop)]
 struct Shown<'a>(Field<'a>);
 
@@ -33,7 +33,7 @@ impl<'a> fmt::Display for Shown<'a> {
     }
 }
 
-/// A key of a call with what stands behind it.
+/// A key of a call with its value.
 #[derive(Drop)]
 struct Pair<'a>(Named<'a>);
 

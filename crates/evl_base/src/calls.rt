@@ -1,4 +1,4 @@
-//! What is made of the list of the calls: the word with a number, the word of a call, and what stands behind the keys of
+//! What is made of the list of the calls: the word with a number, the word of a call, and the values of the keys of
 //! a call.
 ghost use Rattle.std.specs.Prelude.{◌≡◌, slice_get};
 ghost use Rattle.evl_base.specs.Call.{call_word};
@@ -33,7 +33,7 @@ macro_rules! name {
     };
 }
 
-/// What is told of a field.
+/// What is said of a field.
 macro_rules! told {
     ($field:ident Bytes) => { $field };
     ($field:ident $kind:ident) => { *$field };
@@ -51,7 +51,7 @@ macro_rules! listed {
     };
 }
 
-/// The keys of a call with what stands behind them.
+/// The keys of a call with their values.
 macro_rules! fields {
     (($call:expr) [$($family:ident {
         $($variant:ident $name:literal {
@@ -97,7 +97,7 @@ pub fn step_word(call: &Call) -> &'static str
     each_call!(name(call))
 }
 
-/// The keys of a call with what stands behind them.
+/// The keys of a call with their values.
 pub fn fields_in(call: &Call) -> Fields<'_>
     ensures { all_told result ≡ told_in call.now }
 {

@@ -1,4 +1,4 @@
-//! The fields of a call: each key with what stands behind it, and how a trace tells it.
+//! The fields of a call: each key with its value, and how a trace writes it.
 ghost use Rattle.std.specs.Prelude.{◌≡◌, Some};
 ghost use Rattle.evl_base.specs.Fields.{kind_named};
 
@@ -9,7 +9,7 @@ use crate::transfer::Transfer;
 use crate::way::Way;
 use std::fmt;
 
-/// The kinds of what stands behind the keys of calls: numbers of 8, 16, 32 and 64 bits, what else stands in texts, the
+/// The kinds of the values of the keys of calls: numbers of 8, 16, 32 and 64 bits, what else is in texts, the
 /// date of a deadline, and truth.
 #[derive(Clone, Copy, PartialEq, Eq)]
 pub enum Kind {
@@ -26,7 +26,7 @@ pub enum Kind {
     Truth,
 }
 
-/// The kind of what stands behind a key of this name, in each call that has it.
+/// The kind of the value of a key of this name, in each call that has it.
 #[tactic(auto, unfolding(crate::specs::Fields::kind_named))]
 pub fn kind_named(key: &str) -> Kind
     ensures { result ≡ kind_named key.now }
@@ -46,7 +46,7 @@ pub fn kind_named(key: &str) -> Kind
     }
 }
 
-/// What stands behind a key of a call, by its kind.
+/// The value of a key of a call, by its kind.
 #[derive(Clone, Copy)]
 pub enum Field<'a> {
     Byte(u8),
@@ -62,7 +62,7 @@ pub enum Field<'a> {
     Truth(bool),
 }
 
-/// A key of a call with what stands behind it.
+/// A key of a call with its value.
 #[derive(Clone, Copy)]
 pub struct Named<'a> {
     pub key: &'static str,

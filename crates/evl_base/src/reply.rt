@@ -11,7 +11,7 @@ use std::fmt;
 /// What a call that wasn't refused answers.
 #[derive(Drop)]
 pub enum Reply {
-    /// The call is done, and there is nothing to tell.
+    /// The call is done, and there is nothing to say.
     Done,
     /// The caller waits from now on.
     Begun,

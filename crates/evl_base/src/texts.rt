@@ -9,6 +9,11 @@ use crate::play::Play;
 use crate::refusal::Refusal;
 use crate::reply::Reply;
 
+// rule: A text is appended whole, or not at all.
+//   clauses: put_call; put_reply; put_play: same, text
+// refusals: put_call, put_reply, put_play
+//   order: NoMemory
+//   clauses: put_call: refusal
 /// Appends the text of a call: its step word, then each key with its value. `NoMemory` where the buffer couldn't grow;
 /// it is then as it was.
 pub fn put_call(buffer: &mut Vec<u8>, call: &Call) -> Result<(), Refusal>

@@ -23,6 +23,13 @@ impl Model for Transfer {
 }
 
 impl Transfer {
+    // rule: A transfer's bytes are what it was given; its room is made ahead.
+    //   clauses: Transfer::{empty, of, as_slice, to_bytes, set}; Spares::{new, keep, pair, take}; Call::copied;
+    //   Reply::copied
+    //   rows: bytes_are_copied
+    // refusals: Transfer::empty, Spares::keep
+    //   order: NoMemory
+    //   clauses: Transfer::empty: refusal; Spares::keep: refusal
     /// No bytes yet. `NoMemory` where the box was refused.
     pub fn empty(alloc: Global) -> Result<Transfer, Refusal>
         ensures none { IfOk result (λ t. t.items ≡ []) }
@@ -34,6 +41,9 @@ impl Transfer {
         }
     }
 
+    // refusals: Transfer::of
+    //   order: TooBig, NoMemory
+    //   clauses: Transfer::of: big, refusal
     /// These bytes in a box of their own. Refused, in this order: `TooBig` above 256 bytes, `NoMemory` where the box was
     /// refused.
     pub fn of(alloc: Global, bytes: &[u8]) -> Result<Transfer, Refusal>
@@ -78,7 +88,7 @@ impl Transfer {
     }
 }
 
-/// Boxes that wait for the bytes of transfers to come: how many there are. Whoever has made enough of them before a
+/// Boxes that wait for the bytes of transfers to come: how many there are. A caller that has made enough of them before a
 /// change needs no memory in the midst of it.
 #[derive(Drop)]
 pub struct Spares<A: Allocator> {

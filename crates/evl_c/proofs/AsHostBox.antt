@@ -1,4 +1,4 @@
--- The same of a machine's caller: the seal and its parts own what a box at the same types owns.
+-- The seal of a machine's caller and its parts own what a box at the same types owns.
 use mir.Syntax.{impl, tnil, dnil}
 use mathlib.Core.List.{[]}
 use denote.Signature.{Slot, plain}

@@ -8,13 +8,13 @@ use Rattle.evl_plans.specs.declared.planned.Planned.{Planned}
 use Rattle.evl_hosts.specs.Hosts.{new_host, new_hosts}
 
 module _ {A B : Type 0} (holds : A → Option B) where
-  -- the front hold nothing, and the one behind it neither
+  -- the front ones hold nothing, and the one after them doesn't either
   pub free_more : (xs : List A) (i : ℕ) (y : A) → i < length xs → holds y ≡ None → map holds (take i xs) ≡ replicate i None → map holds (take (i + 1) (set xs i y)) ≡ replicate (i + 1) None
   free_more xs i y below none front =
       ap (λ (ys : List A). map holds ys) (take_more_set xs i y below) ∙ (map-append holds (take i xs) (y ∷ [])
       ∙ (ap (λ (os : List (Option B)). os ++ holds y ∷ []) front ∙ (ap (λ (o : Option B). replicate i None ++ o ∷ []) none ∙ replicate-append-replicate i 1 None)))
 
-  -- the front hold the first of all, and the one behind it the next
+  -- the front ones hold the first of all, and the one after them the next
   pub put_more : (xs : List A) (i : ℕ) (y : A) (next : B) (rest : List B) (all : List (Option B)) → i < length xs → holds y ≡ Some next
       → map holds (take i xs) ++ map (λ b. Some b) (next ∷ rest) ≡ all → map holds (take (i + 1) (set xs i y)) ++ map (λ b. Some b) rest ≡ all
   put_more xs i y next rest all below is whole =

@@ -1,4 +1,4 @@
--- What is told of orders, by what each call of the body tells.
+-- What C learns of orders, by what each call of the body answers.
 use Rattle.std.proofs.Common.{◌≡◌, ◌∙◌, ◌-◌, ℕ, ne_eqb, Bor, List, Option, Some, None, IsSomeAnd, Result, Ok, Err, IfOk, option_map, position, slice_get, string_bytes, ap, refl}
 use Rattle.lab_orders.specs.declared.tallies.Tally.{Tally}
 use Rattle.lab_scenario_orders.specs.Answers.{first_impossible}
@@ -10,7 +10,7 @@ use Rattle.lab_scenario_orders.specs.declared.outcomes.Outcomes.{Outcomes}
 use Rattle.evl_c.specs.Orders.{Answer, answer_in, first_against, impossible_in, outcomes_answer, refuses, scenario_answer}
 use Rattle.evl_c.specs.declared.orders.Told.{Told}
 
--- what is told in the one way is told in the other
+-- an answer that is so in the one way is so in the other
 pub answered_as : (E : Type 0) (Was Is : Answer → Type 0) (r : Result Told E) → ((a : Answer) → Was a → Is a) → IfOk r (λ told. Was (answer_in told)) → IfOk r (λ told. Is (answer_in told))
 answered_as E Was Is (Ok told) same h = same (answer_in told) h
 answered_as E Was Is (Err e) same h = tt

@@ -1,5 +1,5 @@
 -- What is drawn of a text, by what each call of the body draws.
-use Rattle.std.proofs.Common.{◌≡◌, ◌∙◌, ◌⊎◌, inl, inr, ℕ, ◌-◌, List, Bool, true, false, Option, Some, None, Result, Ok, Err, length, map, refl, sym, ap, ap₂, subst}
+use Rattle.std.proofs.Common.{◌≡◌, ◌∙◌, ◌⊎◌, inl, inr, ℕ, ◌-◌, List, Option, Some, None, Result, map, refl, sym, subst}
 use Rattle.std.specs.Prelude.{IfSome}
 use Rattle.std.specs.List.{All}
 use Rattle.evl_kernel.specs.state.States.{Handler}
@@ -9,20 +9,15 @@ use Rattle.evl_plans.specs.Traces.{Refuses}
 use Rattle.lab_traces.specs.Says.{IsLine, IsMisread, read_of, says_some, text_of, whole_lines}
 use Rattle.lab_traces.specs.declared.traces.Misread.TheVariants as misread
 use Rattle.lab_traces.specs.declared.traces.TraceLine.{TraceLine}
-use Rattle.lab_drawing.specs.Pictures.{going_text, shown_with}
 use Rattle.lab_drawing.specs.declared.frames.Goes.{Goes}
-use Rattle.lab_drawing.specs.declared.frames.Shows.TheVariants.{Words}
 use Rattle.lab_drawing.specs.declared.marks.Mark.{Mark}
-use Rattle.lab_drawing.specs.declared.moments.Moment.{Moment}
 use Rattle.lab_reports.specs.Events.{events_text}
 use Rattle.evl_c.specs.Given.{IsUnreadAs}
-use Rattle.evl_c.specs.Pictures.{AreLinesOf, AreMomentsOf, DrawsGiven, DrawsPage, DrawsPlayed, Ends, IsPicture, Origin, Outcome, callers, events_of, goes_for, moments_at, of_fault, origin_of, outcome_of, page_at, picture, picture_text, scenario, trace}
+use Rattle.lab_caller_pictures.specs.Drawings.{IsPicture, Origin}
+use Rattle.evl_c.specs.Pictures.{AreLinesOf, DrawsGiven, DrawsPage, DrawsPlayed, Ends, Outcome, events_of, of_fault, outcome_of, picture}
 use Rattle.evl_c.specs.declared.pictures.Form.{Form}
 use Rattle.evl_c.specs.declared.pictures.Picture.{Picture}
-use Rattle.evl_c.specs.declared.pictures.Source.{Source}
-use Rattle.evl_c.specs.declared.pictures.Source.TheVariants as source
 use Rattle.evl_c.specs.declared.pictures.Undrawn.{Undrawn}
-use Rattle.evl_c.specs.declared.pictures.Way.{Way}
 
 -- what comes of a body in the one way comes of it in the other
 pub ends_as : (Was Is : Outcome → Type 0) (r : Result Picture Undrawn) → ((o : Outcome) → Was o → Is o) → Ends Was r → Ends Is r
@@ -36,50 +31,11 @@ pub events_is : (marks : List Mark) → events_text marks ≡ events_of marks
 unfolding events_of
 events_is marks = refl
 
-callers_is : (goes : Goes) (marks : List Mark) (moments : List Moment) → going_text goes Words moments marks ≡ picture_text goes callers marks moments
-unfolding picture_text
-callers_is goes marks moments = refl
-
-trace_is : (goes : Goes) (marks : List Mark) (moments : List Moment) → going_text goes (shown_with moments) moments marks ≡ picture_text goes trace marks moments
-unfolding picture_text
-trace_is goes marks moments = refl
-
-scenario_is : (goes : Goes) (text : List ℕ) (marks : List Mark) (moments : List Moment)
-    → going_text goes (shown_with moments) moments marks ≡ picture_text goes (scenario text) marks moments
-unfolding picture_text
-scenario_is goes text marks moments = refl
-
 -- ---- a page
 
-module _ (bank : List Handler) where
-  same_picture : (goes : Goes) (origin : Origin) (marks page : List Mark) (number : ℕ) (known behind : List Moment) (text : List ℕ) → AreMomentsOf bank origin marks known → page ≡ page_at marks number
-      → behind ≡ moments_at marks known number → text ≡ picture_text goes origin page behind → IsPicture bank goes origin marks number text
-  same_picture goes origin marks page number known behind text are page_is behind_is text_is =
-      (known, are, text_is ∙ ap₂ (λ (p : List Mark) (b : List Moment). picture_text goes origin p b) page_is behind_is)
-
-  -- of callers, and of anything else
-  pub told_picture : (goes : Goes) (s : Source) (marks page : List Mark) (number : ℕ) (known behind : List Moment) (text : List ℕ) → s ≡ source.Callers → AreMomentsOf bank (origin_of s) marks known
-      → page ≡ page_at marks number → behind ≡ moments_at marks known number → text ≡ going_text goes Words behind page → IsPicture bank goes (origin_of s) marks number text
-  told_picture goes s marks page number known behind text is are page_is behind_is text_is =
-      same_picture goes (origin_of s) marks page number known behind text are page_is behind_is
-      (text_is ∙ callers_is goes page behind ∙ ap (λ (o : Source). picture_text goes (origin_of o) page behind) (sym is))
-
-  pub known_picture : (goes : Goes) (s : Source) (marks page : List Mark) (number : ℕ) (known behind : List Moment) (text : List ℕ) → (s ≡ source.Callers → ⊥) → AreMomentsOf bank (origin_of s) marks known
-      → page ≡ page_at marks number → behind ≡ moments_at marks known number → text ≡ going_text goes (shown_with behind) behind page → IsPicture bank goes (origin_of s) marks number text
-  known_picture goes source.Callers marks page number known behind text isnt are page_is behind_is text_is = absurd (isnt refl)
-  known_picture goes source.Trace marks page number known behind text isnt are page_is behind_is text_is =
-      same_picture goes trace marks page number known behind text are page_is behind_is (text_is ∙ trace_is goes page behind)
-  known_picture goes (source.Scenario t) marks page number known behind text isnt are page_is behind_is text_is =
-      same_picture goes (scenario t.now) marks page number known behind text are page_is behind_is (text_is ∙ scenario_is goes t.now page behind)
-
-  pub is_page : (asked : ℕ) (way : Way) (origin : Origin) (marks : List Mark) (goes : Goes) (before count all : ℕ) (text : List ℕ) → goes ≡ goes_for way count → count ≡ length marks
-      → before ≡ asked - 1 → IsPicture bank goes origin marks before text → DrawsPage bank asked way origin marks all (picture text all)
-  is_page asked way origin marks goes before count all text goes_is many is h = (
-    text,
-    subst (λ (n : ℕ). IsPicture bank (goes_for way (length marks)) origin marks n text) is
-        (subst (λ (g : Goes). IsPicture bank g origin marks before text) (goes_is ∙ ap (goes_for way) many) h),
-    refl,
-  )
+pub is_page : (asked : ℕ) (goes : Option Goes) (origin : Origin) (marks : List Mark) (before all : ℕ) (text : List ℕ) → before ≡ asked - 1 → IsPicture origin goes marks before text
+    → DrawsPage asked goes origin marks all (picture text all)
+is_page asked goes origin marks before all text is h = (text, subst (λ (n : ℕ). IsPicture origin goes marks n text) is h, refl)
 
 -- ---- a text
 

@@ -1,4 +1,4 @@
--- What C is told of answers and plays.
+-- What C learns of answers and plays.
 use Rattle.std.specs.Prelude.{ℕ, ℤ, pos, negsuc, Bool, true, false, List, [], length, Option, Some, None, Result, Ok, Err}
 use Rattle.evl_base.specs.Refusal.{number_of}
 use Rattle.evl_base.specs.declared.numbers.ThreadId.{ThreadId}
@@ -47,7 +47,7 @@ abbrev pub count_of : Reply → ℤ
 count_of (Count count) = count
 count_of _ = pos 0
 
--- the number that a reply tells: of bytes how many they are
+-- the number that a reply brings: of bytes how many they are
 abbrev pub value_of : Reply → ℕ
 value_of (Bits bits) = bits
 value_of (Number number) = number
@@ -66,7 +66,7 @@ reply_form reply = record {
   plays = 0;
 }
 
--- what a refused call tells
+-- what C learns of a refused call
 abbrev pub refused_form : Refusal → AnswerForm
 refused_form refusal = record {
   refusal = number_of refusal;
@@ -83,11 +83,11 @@ abbrev pub outcome_form : Result Reply Refusal → AnswerForm
 outcome_form (Ok reply) = reply_form reply
 outcome_form (Err refusal) = refused_form refusal
 
--- what an answer tells, with the index of its first play and how many plays it made
+-- what C learns of an answer, with the index of its first play and how many plays it made
 abbrev pub answer_form : Result Reply Refusal → ℕ → ℕ → AnswerForm
 answer_form answer first_play plays = record (outcome_form answer) { first_play = first_play; plays = plays }
 
--- what is told where nothing was called, for this status
+-- what C learns where nothing was called, for this status
 abbrev pub not_called : ℕ → AnswerForm
 not_called status = record {
   refusal = 0;
@@ -105,7 +105,7 @@ abbrev pub bytes_of : Result Reply Refusal → List ℕ
 bytes_of (Ok (Bytes bytes)) = bytes.items
 bytes_of _ = []
 
--- what a play tells
+-- what C learns of a play
 abbrev pub play_form : Play → PlayForm
 play_form Clock = record { kind = 0; stage = 0; handled = false; element = 0; count = 0; missed = 0 }
 play_form (Timer timer count missed handled) = record { kind = 1; stage = 0; handled = handled; element = timer.0; count = count; missed = missed }

@@ -15,8 +15,11 @@ use Rattle.evl_c.specs.Answers.{answer_form, bytes_of}
 use Rattle.evl_c.specs.Windows.{window}
 use Rattle.evl_c.specs.declared.answers.AnswerForm.{AnswerForm}
 
--- The kernel answered the call, settled and entered it, all as its `apply` says; C was told of the answer, and the bytes that it
--- brought stand in the buffer.
+-- rule: A kernel that C opens has exactly its board, callbacks and limit. Each call is one of the kernel's, and C gets
+--   its answer and bytes; `NoMemory` comes only without room. A word that is no call changes nothing.
+--   clauses: evlsim_c_open; evlsim_c_apply; evlsim_c_apply_bare: none, refused; evlsim_c_reset; evlsim_c_close
+-- The kernel answered the call, settled and entered it, all as its `apply` says; C got the answer, and the bytes that it
+-- brought are in the buffer.
 pub record Applied (old new : KernelView Planned) (caller : ℕ) (call : Call) (buffer told : List ℕ) (answer : AnswerForm) : Type 0 where
   pub reply : Result Reply Refusal
   pub entry : IsTrue (makes_entry reply) → AddsEntry old.history caller call reply new.history

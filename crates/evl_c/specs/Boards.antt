@@ -25,7 +25,7 @@ abbrev pub is_board : BoardForm → Bool
 is_board form = nat_le (length form.sems.now) 64 && (nat_le (length form.flags.now) 64 && (nat_le (length form.xbufs.now) 16
     && (nat_le (length form.mutexes.now) 32 && (nat_le (length form.groups.now) 16 && list_all has_kind form.mutexes.now))))
 
--- the board that a form stands for
+-- the board that a form describes
 abbrev pub board_of : BoardForm → Board
 board_of form = record {
   threads = form.threads;

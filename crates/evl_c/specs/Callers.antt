@@ -1,4 +1,4 @@
--- What C is told of a text of callers: what `lab callers` prints.
+-- What C learns of a text of callers: what `lab callers` prints.
 use Rattle.std.specs.Prelude.{◌≡◌, ◌⊎◌, ◌-◌, ◌^◌, min, ℕ, List, [], ◌++◌, false, length, map, string_bytes, Option, Some, None, IsSomeAnd}
 use Rattle.evl_kernel.specs.state.Openings.{can_open}
 use Rattle.evl_kernel.specs.state.States.{Handler}
@@ -71,7 +71,11 @@ PlaysCallers bank limit text story =
     ((asked : CallersText) × IsRead limit text asked × TellsPlayed bank asked story)
     ⊎ ((e : Fault) × IsRefused limit text e × IsSomeAnd (fault_ended e) (λ s. story ≡ s))
 
--- C is told so, or memory ran out, and nothing is told
+-- rule: C's buffer has what `lab callers` prints; or C learns which step cannot be made, with why in words, a fault of
+--   the text, or, only if board, bank or limit are outside their limits, that no machine has its board.
+--   also: Callers.{PlaysCallers, ended}
+--   clauses: evlsim_c_callers
+-- C gets this, or memory ran out, and C gets the status alone
 abbrev pub TellsCallers : List Handler → Option ℕ → List ℕ → ℕ → List ℕ → List ℕ → Played → ℕ → Type 0
 TellsCallers bank limit text start old new played status =
     ((story : Story) × PlaysCallers bank limit text story × (new ≡ window story.text start old)

@@ -1,4 +1,4 @@
--- Which calls C's forms are: the kind of a form is the place of a word among evl_scenario's words, and each kind of value behind
+-- Which calls C's forms are: the kind of a form is the place of a word among evl_scenario's words, and each kind of value after
 -- a key of the word has its place in the form.
 use Rattle.std.specs.Prelude.{ℕ, Bool, true, false, nat_le, nat_lt, nat_eq, not, ◌&&◌, ◌||◌, List, [], ◌∷◌, length, slice_get, Option, Some, None, if◌then◌else◌}
 use Rattle.std.specs.Option.{unwrap_or}
@@ -63,7 +63,7 @@ value_in kind.Bytes form bytes = record { items = bytes }
 value_in kind.Until form bytes = until_of form
 value_in kind.Truth form bytes = not (nat_eq form.choice 0)
 
--- the form for the keys behind one of this kind: the second number of 16 bits is `other`, and of 64 bits `span`
+-- the form for the keys after one of this kind: the second number of 16 bits is `other`, and of 64 bits `span`
 abbrev pub after_value : Kind → CallForm → CallForm
 after_value kind.Half form = record form { element = form.other }
 after_value kind.Number form = record form { date = form.span }
@@ -75,7 +75,7 @@ abbrev pub values_in : (keys : List Key) → CallForm → List ℕ → Values ke
 values_in [] form bytes = tt
 values_in (key ∷ keys) form bytes = (value_in key.kind form bytes, values_in keys (after_value key.kind form) bytes)
 
--- the call of a word that a form stands for; one word by itself, so that this is opened only where the word is known
+-- the call of a word that a form describes; one word by itself, so that this is opened only where the word is known
 abbrev pub call_filled : StepWord → CallForm → List ℕ → Call
 call_filled Finish form bytes = call_with Finish (values_in (fields_of Finish) form bytes)
 call_filled word form bytes = call_with word (values_in (fields_of word) form bytes)
@@ -84,7 +84,7 @@ call_filled word form bytes = call_with word (values_in (fields_of word) form by
 abbrev pub word_of : CallForm → StepWord
 word_of form = unwrap_or (slice_get words form.kind) Finish
 
--- the call that a form stands for
+-- the call that a form describes
 abbrev pub call_of : CallForm → List ℕ → Call
 call_of form bytes = call_filled (word_of form) form bytes
 
@@ -94,7 +94,7 @@ abbrev pub is_bare_sync : ℕ → Bool
 is_bare_sync kind = nat_eq kind 19 || (nat_eq kind 20 || (nat_eq kind 21 || (nat_eq kind 22 || (nat_eq kind 25
     || (nat_eq kind 33 || nat_eq kind 34)))))
 
--- the same of all calls
+-- kinds of any calls that have an element and nothing else
 abbrev pub is_bare : ℕ → Bool
 is_bare kind = nat_eq kind 2 || (nat_eq kind 10 || (nat_eq kind 11 || (nat_eq kind 12 || (nat_eq kind 18 || is_bare_sync kind))))
 

@@ -1,4 +1,4 @@
--- What C is told of the faults of a text: what `lab check` prints.
+-- What C learns of the faults of a text: what `lab check` prints.
 use Rattle.std.specs.Prelude.{◌≡◌, ◌⊎◌, ℕ, Bool, true, false, List, [], ◌++◌, codes, decimal, string_bytes, Option, Some, None, IsSomeAnd}
 use Rattle.evl_kernel.specs.state.States.{Handler}
 use Rattle.evl_scenario.specs.Scenarios.{scenario_of}
@@ -23,7 +23,7 @@ abbrev pub warnings_unless : Bool → List ℕ → List ℕ
 warnings_unless true warned = []
 warnings_unless false warned = warned
 
--- behind a text stands a line for each fault of a text of this kind, or else for each warning, and whether it is at fault is answered
+-- a line is added for each fault of a text of this kind, or else for each warning, and the answer says whether the text is at fault
 pub record Checks (bank : List Handler) (kind : TextKind) (name text before after : List ℕ) (at_fault : Bool) : Type 0 where
   pub reported : List ℕ
   pub reports : Reports kind name text before reported at_fault
@@ -42,13 +42,19 @@ place_text name fault.Board = Some (place_line name 1 1 (codes "a line with the 
 place_text name fault.TooLong = Some (place_line name 1 1 (codes "a scenario of at most 1048576 bytes is wanted"))
 place_text name fault.Memory = None
 
--- what stands for a text is checked; of a text of lines that can't be read its first fault is told
+-- what a text is taken for is checked; of a text of lines that can't be read its first fault is reported
 abbrev pub ChecksText : List Handler → List ℕ → List ℕ → List ℕ → List ℕ → Bool → Type 0
 ChecksText bank name text before after at_fault =
     ((plain : List ℕ) × IsPlain text plain × Checks bank (checked_kind plain) name plain before after at_fault)
     ⊎ ((e : LinesFault) × IsUnread text e × IsSomeAnd (place_text name e) (λ line. after ≡ before ++ line) × (at_fault ≡ true))
 
--- those lines stand in the buffer, and C is told their length and whether the text is at fault
+-- rule: C's buffer has the lines that `lab check` has of the text under that name, from the byte that C names: its
+--   kind's faults, or else a scenario's warnings over the plans, or of a text of lines the first that cannot be read.
+--   Their length, and whether they are faults, is reported. For a name that is no UTF-8, for want of memory and for
+--   invalid plans nothing is written.
+--   also: Checks.ChecksText
+--   clauses: evlsim_c_check; evlsim_c_check_over
+-- those lines are in the buffer, and C gets their length and whether the text is at fault
 pub record TellsChecked (bank : List Handler) (name text : List ℕ) (start : ℕ) (old new : List ℕ) (told : Checked) : Type 0 where
   pub printed : List ℕ
   pub checks : ChecksText bank name text [] printed told.is_at_fault

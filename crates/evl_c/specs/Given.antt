@@ -1,4 +1,4 @@
--- What stands for a text of C's: for a text of lines its scenario, for any other text itself.
+-- What a text of C's is taken for: a text of lines for its scenario, any other text for itself.
 use Rattle.std.specs.Prelude.{◌≡◌, ◌⊎◌, ◌-◌, ◌^◌, min, ℕ, List, Option, Result, Err}
 use Rattle.evl_kernel.specs.state.States.{Handler}
 use Rattle.evl_scenario.specs.declared.faults.Fault.{Fault}
@@ -8,7 +8,7 @@ use Rattle.lab_lines.specs.Kinds.{IsPlain, IsUnread}
 use Rattle.lab_lines.specs.declared.texts.LinesFault.{LinesFault}
 use Rattle.lab_lines.specs.declared.texts.LinesFault.TheVariants as lines
 
--- the fault of a scenario by which C is told why a text of lines can't be read: a line as a step
+-- the fault of a scenario from which C learns why a text of lines can't be read: a line as a step
 abbrev pub fault_of : LinesFault → Fault
 fault_of lines.Text = fault.Text
 fault_of (lines.Line line unread) = fault.Step (min line (2 ^ 32 - 1))
@@ -16,11 +16,16 @@ fault_of lines.Board = fault.Board
 fault_of lines.TooLong = fault.Text
 fault_of lines.Memory = fault.Memory
 
--- a text of lines can't be read, of which C is told by this fault
+-- a text of lines can't be read, which C learns from this fault
 abbrev pub IsUnreadAs : List ℕ → Fault → Type 0
 IsUnreadAs text e = (why : LinesFault) × IsUnread text why × (e ≡ fault_of why)
 
--- the trace of what stands for a text, or such a fault
+-- rule: A text of lines is taken for its scenario, at orders for its text of callers. One that cannot be read is
+--   refused by play and picture as a scenario at fault is: its line as a step, without a board as a bad board, too long
+--   as a bad text.
+--   also: Given.IsUnreadAs; Pictures.DrawsGiven; Orders.TellsGiven
+--   clauses: plain_of; callers_of
+-- the trace of what a text is taken for, or such a fault
 abbrev pub IsTraceOf : List Handler → Option ℕ → List ℕ → Result (List ℕ) Fault → Type 0
 IsTraceOf bank limit text trace =
     ((plain : List ℕ) × IsPlain text plain × (trace ≡ trace_of bank limit plain)) ⊎ ((e : Fault) × IsUnreadAs text e × (trace ≡ Err e))

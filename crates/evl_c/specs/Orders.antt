@@ -1,4 +1,4 @@
--- What C is told of the orders of a text's callers: what `lab orders` prints.
+-- What C learns of the orders of a text's callers: what `lab orders` prints.
 use Rattle.std.specs.Prelude.{◌≡◌, ◌⊎◌, ◌+◌, ◌-◌, ◌^◌, min, nat_eq, ℕ, ℤ, pos, negsuc, Bool, true, false, MatchBool, if◌then◌else◌, List, [], ◌++◌, codes, decimal, length, position, slice_get, string_bytes, Option, Some, None, IsSomeAnd, option_and_then, unwrap_or}
 use Rattle.toml.specs.Parse.{parse_document}
 use Rattle.evl_kernel.specs.state.States.{Handler}
@@ -40,9 +40,9 @@ use Rattle.evl_c.specs.Windows.{window}
 use Rattle.evl_c.specs.declared.orders.Ordered.{Ordered}
 use Rattle.evl_c.specs.declared.orders.Told.{Told}
 
--- ---- what is told
+-- ---- what C learns
 
--- a text, what is told beside it, and the status
+-- a text, what C learns beside it, and the status
 pub record Answer : Type 0 where
   pub text : List ℕ
   pub ordered : Ordered
@@ -218,7 +218,7 @@ text_answer Mixed = Some (refuses 3 0 (codes "a [[setup]] behind a [[step]]"))
 text_answer Limit = Some (refuses 2 0 (codes "more steps than the limit"))
 
 module _ (bank : List Handler) (most one : ℕ) where
-  -- the outcomes of all orders, or that there are more of these, or of runs of one length, than a count can tell
+  -- the outcomes of all orders, or that there are more of these, or of runs of one length, than a count can hold
   abbrev pub TellsOutcomes : Callers → Ask → Answer → Type 0
   TellsOutcomes callers asks answer =
       ((found : Outcomes) × AreOutcomes callers bank asks.watches.items most found × (answer ≡ outcomes_answer one callers asks found (first_against asks found.all.items)))
@@ -241,12 +241,19 @@ module _ (bank : List Handler) (most one : ℕ) where
       ((callers : Callers) × AreCallersIn text callers × TellsAsked callers text answer)
       ⊎ ((e : TextFault) × IsRefused text e × IsSomeAnd (text_answer e) (λ a. answer ≡ a))
 
-  -- a text of lines stands for its text of callers, if it can be read
+  -- a text of lines is taken for its text of callers, if it can be read
   abbrev pub TellsGiven : List ℕ → Answer → Type 0
   TellsGiven text answer =
       ((plain : List ℕ) × IsOfCallers text plain × TellsText plain answer) ⊎ ((e : Fault) × IsUnreadAs text e × IsSomeAnd (fault_answer e) (λ a. answer ≡ a))
 
-  -- C is told so, or memory ran out, and nothing is told
+  -- rule: C's buffer has the report of all orders that `lab orders` has, or the scenario of one outcome, and C gets
+  --   their numbers, the first outcome against `[ask]`, what that asks, and whether orders were cut off. Else the
+  --   answer says why: the text's fault and step; in words what cannot be asked (why it cannot be read, with its line);
+  --   that there is no such outcome, with the numbers; that the orders, or runs of one length, are more than a count
+  --   holds.
+  --   also: Orders.{TellsGiven, TellsPossible, outcomes_answer}
+  --   clauses: evlsim_c_orders
+  -- C gets this, or memory ran out, and C gets the status alone
   abbrev pub TellsOrders : List ℕ → ℕ → List ℕ → List ℕ → Ordered → ℕ → Type 0
   TellsOrders text start old new ordered status =
       ((answer : Answer) × TellsGiven text answer × (new ≡ window answer.text start old) × (ordered ≡ answer.ordered) × (status ≡ answer.status))

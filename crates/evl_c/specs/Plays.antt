@@ -11,7 +11,7 @@ use Rattle.evl_c.specs.Windows.{window}
 abbrev pub limit_given : ℕ → Option ℕ
 limit_given limit = if nat_eq limit 0 then None else Some limit
 
--- the end of a play, whose `Ok` is the trace's length, and what stands in the buffer then
+-- the end of a play, whose `Ok` is the trace's length, and what is in the buffer then
 abbrev pub Ends : Result (List ℕ) Fault → ℕ → List ℕ → List ℕ → Result ℕ Fault → Type 0
 Ends trace start old new (Ok count) = (text : List ℕ) × (trace ≡ Ok text) × (count ≡ length text) × (new ≡ window text start old)
 Ends trace start old new (Err fault) = Refuses trace fault × (new ≡ old)
@@ -25,12 +25,12 @@ status_of (Err (Step n)) = 3
 status_of (Err Memory) = 4
 status_of (Err Write) = 4
 
--- the length that an end tells
+-- the length that an end reports
 abbrev pub length_of : Result ℕ Fault → ℕ
 length_of (Ok count) = count
 length_of (Err fault) = 0
 
--- the step that an end tells, from 1
+-- the step that an end reports, from 1
 abbrev pub step_of : Result ℕ Fault → ℕ
 step_of (Ok count) = 0
 step_of (Err Text) = 0
@@ -39,7 +39,11 @@ step_of (Err (Step n)) = n
 step_of (Err Memory) = 0
 step_of (Err Write) = 0
 
--- a play ended somehow, and told its end
+-- rule: After a play C's buffer begins with the trace from the byte that C names, as far as there is room, and is else
+--   as before. The trace's length is given.
+--   also: Windows.window
+--   clauses: evlsim_c_play; evlsim_c_play_over
+-- a play ended somehow, and reported its end
 pub record Plays (trace : Result (List ℕ) Fault) (start : ℕ) (old new : List ℕ) (count step status : ℕ) : Type 0 where
   pub end : Result ℕ Fault
   pub ends : Ends trace start old new end
@@ -47,7 +51,7 @@ pub record Plays (trace : Result (List ℕ) Fault) (start : ℕ) (old new : List
   pub step_is : step ≡ step_of end
   pub status_is : status ≡ status_of end
 
--- so did one of what stands for a text
+-- so did a play of what a text is taken for
 abbrev pub PlaysText : List Handler → Option ℕ → List ℕ → ℕ → List ℕ → List ℕ → ℕ → ℕ → ℕ → Type 0
 PlaysText bank limit text start old new count step status =
     (trace : Result (List ℕ) Fault) × IsTraceOf bank limit text trace × Plays trace start old new count step status

@@ -66,7 +66,7 @@ pub fn stage_number(stage: Stage) -> u8
     }
 }
 
-// What a reply tells, apart from its plays.
+// What C learns of a reply, apart from its plays.
 fn reply_form(reply: &Reply) -> AnswerForm
     ensures { result ≡ answers.reply_form reply.now }
 {
@@ -103,7 +103,7 @@ fn has_more(reply: &Reply) -> bool
     }
 }
 
-// The count that a reply tells, or 0.
+// The count that a reply brings, or 0.
 fn count_of(reply: &Reply) -> i64
     ensures { result ≡ answers.count_of reply.now }
 {
@@ -113,7 +113,7 @@ fn count_of(reply: &Reply) -> i64
     }
 }
 
-// What an answer tells, apart from its plays.
+// What C learns of an answer, apart from its plays.
 fn told(answer: &Result<Reply, Refusal>) -> AnswerForm
     ensures { result ≡ answers.outcome_form answer.now }
 {
@@ -132,7 +132,7 @@ fn told(answer: &Result<Reply, Refusal>) -> AnswerForm
     }
 }
 
-// What an answer tells, with where its plays are.
+// What C learns of an answer, with where its plays are.
 fn answer_form(answer: &Result<Reply, Refusal>, first_play: usize, plays: usize) -> AnswerForm
     ensures { result ≡ answers.answer_form answer.now first_play plays }
 {
@@ -143,7 +143,7 @@ fn answer_form(answer: &Result<Reply, Refusal>, first_play: usize, plays: usize)
     }
 }
 
-/// What is told where nothing was called, for this status.
+/// What C learns where nothing was called, for this status.
 pub fn not_called(status: u32) -> AnswerForm
     ensures { result ≡ answers.not_called status }
 {
@@ -169,7 +169,7 @@ fn bytes_of(answer: &Result<Reply, Refusal>) -> &[u8]
     }
 }
 
-// Tells of any answer, which ends here. It stands by itself, so that the short way of `tell` pays nothing for it.
+// Reports any answer, which ends here. It is its own function, so that the short way of `tell` pays nothing for it.
 #[inline(never)]
 fn tell_any(
     answer: Result<Reply, Refusal>,
@@ -185,8 +185,8 @@ fn tell_any(
     *form = answer_form(&answer, first_play, plays);
 }
 
-/// Tells of an answer, with where its plays are, and puts its bytes into a buffer. Most calls are done and tell nothing
-/// else: for them there is a short way. The answer comes by value, so that it is stored for the long way alone.
+/// Reports an answer, with where its plays are, and puts its bytes into a buffer. Most calls are done and have no more
+/// to report: for them there is a short way. The answer comes by value, so that it is stored for the long way alone.
 #[inline(always)]
 pub fn tell(
     answer: Result<Reply, Refusal>,
@@ -215,7 +215,7 @@ pub fn tell(
     }
 }
 
-// What a play of the clock tells, and each other one where it has nothing to tell.
+// What C learns of a play of the clock, and of each other play in the fields that it doesn't use.
 const CLOCK_PLAY: PlayForm = PlayForm {
     kind: 0,
     stage: 0,
@@ -225,7 +225,7 @@ const CLOCK_PLAY: PlayForm = PlayForm {
     missed: 0,
 };
 
-/// What a play tells.
+/// What C learns of a play.
 pub fn play_form(play: &Play) -> PlayForm
     ensures { result ≡ answers.play_form play.now }
 {

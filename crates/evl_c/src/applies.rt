@@ -14,7 +14,7 @@ use crate::held::Held;
 use evl_base::{Call, ThreadId};
 use std::alloc::Global;
 
-// Makes a call, puts the bytes that it brought into a buffer, and tells of it.
+// Makes a call, puts the bytes that it brought into a buffer, and reports its answer.
 #[inline(always)]
 fn make_call(kernel: &mut Held, caller: u16, call: Call, out: &mut [u8], form: &mut AnswerForm)
     ensures { Applied kernel.old kernel.new caller call out.old out.new form.new }
@@ -28,7 +28,7 @@ fn make_call(kernel: &mut Held, caller: u16, call: Call, out: &mut [u8], form: &
 /// Makes a call of a thread, with these bytes where it is a write; the bytes that it brings go into the buffer, as many
 /// as there is room for.
 ///
-/// 0: the call is answered, or refused, as `answer` tells. 4: no memory for the bytes of a write. 6: no kernel is
+/// 0: the call is answered, or refused, as `answer` says. 4: no memory for the bytes of a write. 6: no kernel is
 /// there. 7: a number of the call is out of its range, or there are more than 256 bytes. But for 0 nothing is done.
 #[unsafe(no_mangle)]
 pub extern "C" fn evlsim_c_apply(
@@ -64,7 +64,7 @@ pub extern "C" fn evlsim_c_apply(
 
 /// Makes a call of a thread that has an element and nothing else, as `evlsim_c_apply` does, in fewer steps.
 ///
-/// 0: the call is answered, or refused, as `answer` tells. 6: no kernel is there. 7: calls of this kind have more. But
+/// 0: the call is answered, or refused, as `answer` says. 6: no kernel is there. 7: calls of this kind have more. But
 /// for 0 nothing is done, and `answer` says so.
 #[unsafe(no_mangle)]
 pub extern "C" fn evlsim_c_apply_bare(
@@ -104,7 +104,7 @@ fn event_at(kernel: &Held, index: usize) -> Option<PlayForm>
     }
 }
 
-/// Tells of a play of a kernel's history, by its index, from 0: those of a call are the `plays` from `first_play` on.
+/// Reports a play of a kernel's history, by its index, from 0: those of a call are the `plays` from `first_play` on.
 ///
 /// 0: done. 6: no kernel is there. 7: there is no such play. But for 0 nothing is written.
 #[unsafe(no_mangle)]

@@ -115,7 +115,7 @@ fn read_kinds(forms: &[MutexForm]) -> ArrayVec<MutexKind, 32>
     kinds
 }
 
-/// The board that a form stands for; it has no stage exclusion locks.
+/// The board that a form describes; it has no stage exclusion locks.
 pub fn read_board(form: &BoardForm<'_>) -> Board
     requires { is_board form.now ≡ true }
     ensures { result ≡ board_of form.now }

@@ -16,7 +16,7 @@ use lab_callers::{Ending, Played as Made, StepFault, play_callers};
 use lab_callers_text::{CallersText, read_callers};
 use std::alloc::{AllocError, Global};
 
-/// A text that is told of callers, the step at fault, and the status.
+/// The text that C gets for callers, the step at fault, and the status.
 #[derive(Drop)]
 pub struct Story {
     pub text: String,
@@ -24,7 +24,7 @@ pub struct Story {
     pub status: u32,
 }
 
-// What is told of a fault of a text. Want of memory isn't told: it is this function's own error.
+// What C gets for a fault of a text. For want of memory there is nothing: that is this function's own error.
 fn refuse(alloc: Global, fault: Fault) -> Result<Story, AllocError>
     ensures { IfOk result (λ told. IsSomeAnd (fault_ended fault) (λ story. story_in told ≡ story)) }
 {
@@ -65,7 +65,7 @@ fn whole(made: Made) -> Result<Story, AllocError>
     })
 }
 
-// What is told of steps that were made, or of the one that can't be.
+// What C gets for steps that were made, or for the one that can't be.
 fn tell_made(alloc: Global, made: Made) -> Result<Story, AllocError>
     ensures { IfOk result (λ told. story_in told ≡ ended made) }
 {
@@ -104,7 +104,7 @@ fn play_over(
 }
 
 /// Makes the calls of a text's callers on staxes, mutexes and the core, over callbacks with these plans, and puts what
-/// each was answered, and what stands in the word that it went to, from the byte `start` on, into the buffer, as much as
+/// each was answered, and what is in the word that it went to, from the byte `start` on, into the buffer, as much as
 /// there is room for. `limit` (1 to 1,000,000) replaces the text's; at 0 that stays.
 ///
 /// 0: done. 1: bad text. 2: bad board. 3: bad step; of one that can't be made the buffer gets why. 4: no memory. 5: bad

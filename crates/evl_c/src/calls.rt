@@ -161,7 +161,7 @@ fn word_of(form: &CallForm) -> StepWord
     numbered_word(form.kind as usize).unwrap_or(StepWord::Finish)
 }
 
-// The call of a word that a form stands for. `NoMemory` where it carries bytes and a box for them was refused.
+// The call of a word that a form describes. `NoMemory` where it carries bytes and a box for them was refused.
 fn filled(word: StepWord, alloc: Global, form: &CallForm, bytes: &[u8]) -> Result<Call, Refusal>
     requires { length bytes.now ≤ 256 }
     ensures call { IfOk result (λ call. call ≡ calls.call_filled word form.now bytes.now) }
@@ -182,7 +182,7 @@ pub fn is_call(form: &CallForm, bytes: &[u8]) -> bool
         && bytes.len() <= 256
 }
 
-/// The call that a form stands for. `NoMemory` where it carries bytes and a box for them was refused.
+/// The call that a form describes. `NoMemory` where it carries bytes and a box for them was refused.
 pub fn read_call(alloc: Global, form: &CallForm, bytes: &[u8]) -> Result<Call, Refusal>
     requires { calls.is_call form.now bytes.now ≡ true }
     ensures call { IfOk result (λ call. call ≡ calls.call_of form.now bytes.now) }

@@ -22,7 +22,7 @@ const NO_BOARD: &str = "a line with the board is wanted, as board threads=2 sems
 
 const TOO_LONG: &str = "a scenario of at most 1048576 bytes is wanted";
 
-/// What a check told (embed/include/evlsim/abi.h: `evlsim_checked`).
+/// What a check reports (embed/include/evlsim/abi.h: `evlsim_checked`).
 #[repr(C)]
 #[derive(Clone, Copy)]
 pub struct Checked {
@@ -32,7 +32,7 @@ pub struct Checked {
     pub is_at_fault: bool,
 }
 
-// Tells the warnings of a scenario without fault; a text of another kind has none.
+// Reports the warnings of a scenario without fault; a text of another kind has none.
 fn warn(
     alloc: Global,
     plans: &[Planned],
@@ -52,7 +52,7 @@ fn warn(
     }
 }
 
-// Tells the faults of a text of a kind, or its warnings where it has none, and whether it has a fault.
+// Reports the faults of a text of a kind, or its warnings where it has none, and answers whether it has a fault.
 fn tell_faults(
     alloc: Global,
     plans: &[Planned],
@@ -70,7 +70,7 @@ fn tell_faults(
     Ok(false)
 }
 
-// Tells a fault at a line and a byte.
+// Reports a fault at a line and a byte.
 fn put_at(
     told: &mut String,
     name: &str,
@@ -84,7 +84,7 @@ fn put_at(
     Ok(())
 }
 
-// Tells why a text of lines can't be read.
+// Reports why a text of lines can't be read.
 fn put_place(told: &mut String, name: &str, fault: &LinesFault) -> Result<(), AllocError>
     ensures { OnOk result (IsSomeAnd (place_text name.now fault.now) (λ line. string_bytes told.new ≡ string_bytes told.old ++ line)) }
 {
@@ -99,7 +99,7 @@ fn put_place(told: &mut String, name: &str, fault: &LinesFault) -> Result<(), Al
     }
 }
 
-// Tells the faults of a text, or its warnings where it has none, and whether it has a fault.
+// Reports the faults of a text, or its warnings where it has none, and answers whether it has a fault.
 fn tell_plain(
     alloc: Global,
     plans: &[Planned],
@@ -113,7 +113,7 @@ fn tell_plain(
     tell_faults(alloc, plans, kind, name, text, told)
 }
 
-// The same of what stands for a text; of a text of lines that can't be read its first fault.
+// Reports the faults or warnings of what a text is taken for; of a text of lines that can't be read its first fault.
 fn tell_given(
     alloc: Global,
     plans: &[Planned],
@@ -196,6 +196,12 @@ fn check_over(
     }
 }
 
+// rule: Each export ends in one of the answers that it lists.
+//   clauses: evlsim_c_check; evlsim_c_check_over; evlsim_c_open; evlsim_c_apply; evlsim_c_apply_bare; evlsim_c_event;
+//   evlsim_c_ask; evlsim_c_trace; evlsim_c_scenario; evlsim_c_call_text; evlsim_c_refusal_text; evlsim_c_machine_open;
+//   evlsim_c_try_call; evlsim_c_caller_ask; evlsim_c_caller_trace; evlsim_c_try_lock_mutex; evlsim_c_begin_lock_mutex;
+//   evlsim_c_finish_lock_mutex; evlsim_c_unlock_mutex_fast; evlsim_c_try_unlock_mutex; evlsim_c_try_lock_stax;
+//   evlsim_c_unlock_stax
 /// Puts what `lab check` prints of a text in a file of this name, from the byte `start` on, into the buffer, as much as
 /// there is room for: its faults, or of a scenario without one the warnings of a run over the program's callbacks.
 ///

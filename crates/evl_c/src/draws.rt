@@ -7,13 +7,14 @@ ghost use Rattle.evl_c.specs.Forms.{are_plans, handler_of};
 ghost use Rattle.evl_c.specs.Pictures.{DrawsBytes, Ends, failed};
 
 use crate::forms::{PlanForm, are_plans, read_plans};
-use crate::pictures::{Asked, Form, Picture, Undrawn, Way, draw};
+use crate::pictures::{Asked, Form, Picture, Undrawn, draw};
 use crate::plans::program_plans;
 use crate::plays;
 use crate::windows::put_window;
+use lab_drawing::Goes;
 use std::alloc::Global;
 
-/// What drawing told (embed/include/evlsim/abi.h: `evlsim_drawn`).
+/// What drawing reports (embed/include/evlsim/abi.h: `evlsim_drawn`).
 #[repr(C)]
 #[derive(Clone, Copy)]
 pub struct Drawn {
@@ -27,7 +28,7 @@ pub struct Drawn {
     pub step: u32,
 }
 
-// What is told where there is nothing to tell.
+// What C gets where there is nothing to report.
 const NOTHING: Drawn = Drawn {
     length: 0,
     pages: 0,
@@ -47,14 +48,14 @@ fn form_of(number: u8) -> Form
     ensures { result ≡ draws.form_of number }
 {
     match number {
-        0 => Form::Svg(Way::Fitting),
-        1 => Form::Svg(Way::Down),
-        2 => Form::Svg(Way::Across),
+        0 => Form::Svg(None),
+        1 => Form::Svg(Some(Goes::Down)),
+        2 => Form::Svg(Some(Goes::Across)),
         _ => Form::Events,
     }
 }
 
-// The status that tells why nothing is drawn.
+// The status that says why nothing is drawn.
 fn status_of(why: Undrawn) -> u32
     ensures told { result ≡ draws.status_of (failed why) }
     ensures other { result ≢ 5 }
@@ -67,7 +68,7 @@ fn status_of(why: Undrawn) -> u32
     }
 }
 
-// What else is told of it.
+// What else C learns of it.
 fn drawn_of(why: Undrawn) -> Drawn
     ensures { result ≡ draws.drawn_of (failed why) }
 {
@@ -139,7 +140,7 @@ fn draw_over(
     }
 }
 
-/// Puts the picture of a trace, of a scenario over the program's callbacks, or of what `lab callers` tells, from the
+/// Puts the picture of a trace, of a scenario over the program's callbacks, or of what `lab callers` prints, from the
 /// byte `start` on, into the buffer, as much as there is room for. `form`: 0 to 2 SVG (fitting, down, across), 3
 /// trace events; `page`: of SVG, from 1.
 ///

@@ -35,7 +35,7 @@ pub struct PlanForm {
     pub kinds: u8,
     /// How many of the rows there are, 0 to 4.
     pub count: u8,
-    /// The rows, of which those behind `count` aren't looked at.
+    /// The rows, of which only the first `count` are looked at.
     pub rows: [RowForm; 4],
 }
 
@@ -67,7 +67,7 @@ fn is_sound_row(kinds: u8, row: &(u64, Action)) -> bool
     1 <= row.0 && kinds & kind == kind
 }
 
-// The same of each row.
+// Whether each row has a period of 1 or more, and these kinds have its action's.
 fn are_sound_rows(kinds: u8, rows: &[(u64, Action)]) -> bool
     ensures { result ≡ list_all (is_sound_row kinds) rows.now }
 {
@@ -134,7 +134,7 @@ pub fn are_plans(forms: &[PlanForm]) -> bool
     forms.len() <= 64 && is_each_plan(forms)
 }
 
-// The callback that a form stands for.
+// The callback that a form describes.
 fn read_plan(form: &PlanForm) -> Planned
     requires { is_plan form.now ≡ true }
     ensures { callbacks.handler_of result ≡ handler_of form.now }

@@ -1,4 +1,4 @@
-//! What stands for a text of C's: for a text of lines its scenario, for any other text itself.
+//! What a text of C's is taken for: a text of lines for its scenario, any other text for itself.
 ghost use Rattle.std.specs.Prelude.{◌≡◌, IfErr, IfOk};
 ghost use Rattle.lab_lines.specs.Kinds.{IsOfCallers, IsPlain};
 ghost use Rattle.evl_c.specs.Given as given;
@@ -8,7 +8,7 @@ use evl_scenario::Fault;
 use lab_lines::{LinesFault, callers_text, plain_text};
 use std::alloc::Global;
 
-// The fault of a scenario by which C is told why a text of lines can't be read: a line as a step.
+// The fault of a scenario from which C learns why a text of lines can't be read: a line as a step.
 fn fault_of(fault: &LinesFault) -> Fault
     ensures { result ≡ given.fault_of fault.now }
 {
@@ -31,7 +31,7 @@ fn copied(alloc: Global, text: &[u8]) -> Result<Vec<u8>, Fault>
     }
 }
 
-// What stands for a text.
+// What a text is taken for.
 fn plain_given(alloc: Global, given: Vec<u8>) -> Result<Vec<u8>, Fault>
     ensures plain { IfOk result (λ plain. IsPlain given.items plain.items) }
     ensures unread { IfErr result (IsUnreadAs given.items) }
@@ -42,7 +42,7 @@ fn plain_given(alloc: Global, given: Vec<u8>) -> Result<Vec<u8>, Fault>
     }
 }
 
-/// What stands for a text; of a text of lines that can't be read the fault by which C is told why.
+/// What a text is taken for; of a text of lines that can't be read the fault from which C learns why.
 pub fn plain_of(alloc: Global, text: &[u8]) -> Result<Vec<u8>, Fault>
     ensures plain { IfOk result (λ plain. IsPlain text.now plain.items) }
     ensures unread { IfErr result (IsUnreadAs text.now) }
@@ -53,7 +53,7 @@ pub fn plain_of(alloc: Global, text: &[u8]) -> Result<Vec<u8>, Fault>
     }
 }
 
-// The text of callers that stands for a text.
+// The text of callers that a text is taken for.
 fn callers_given(alloc: Global, given: Vec<u8>) -> Result<Vec<u8>, Fault>
     ensures plain { IfOk result (λ plain. IsOfCallers given.items plain.items) }
     ensures unread { IfErr result (IsUnreadAs given.items) }
@@ -64,7 +64,7 @@ fn callers_given(alloc: Global, given: Vec<u8>) -> Result<Vec<u8>, Fault>
     }
 }
 
-/// The text of callers that stands for a text; of a text of lines that can't be read the fault by which C is told why.
+/// The text of callers that a text is taken for; of a text of lines that can't be read the fault that says why to C.
 pub fn callers_of(alloc: Global, text: &[u8]) -> Result<Vec<u8>, Fault>
     ensures plain { IfOk result (λ plain. IsOfCallers text.now plain.items) }
     ensures unread { IfErr result (IsUnreadAs text.now) }

@@ -107,12 +107,14 @@ impl Held {
         ensures trace { IfOk result (λ text. string_bytes text ≡ history_trace self.now.history.board self.now.limit self.now.history.entries self.now.history.plays) }
         ensures refused { IfErr result (λ e. e ≡ Refusal.NoMemory) }
     {
+        let kernel = self.machine.kernel();
+        let entries = kernel.history().to_vec(alloc)?;
         match trace_history(
             alloc,
             &self.board,
             self.limit,
-            self.machine.kernel().history(),
-            self.machine.kernel().plays(),
+            entries.as_slice(),
+            kernel.plays(),
         ) {
             Ok(text) => Ok(text),
             Err(refusal) => Err(refusal),
@@ -126,11 +128,9 @@ impl Held {
         ensures reads_back { IfOk result (λ text. scenario_of None (string_bytes text) ≡ Ok (script_of_history self.now.history.board self.now.limit self.now.history.entries)) }
         ensures refused { IfErr result (λ e. IsUnwritten e (script_of_history self.now.history.board self.now.limit self.now.history.entries)) }
     {
-        write_scenario(
-            alloc,
-            &self.board,
-            self.limit,
-            self.machine.kernel().history(),
-        )
+        match self.machine.kernel().history().to_vec(alloc) {
+            Ok(entries) => write_scenario(alloc, &self.board, self.limit, entries.as_slice()),
+            Err(_) => Err(Unwritten::Memory),
+        }
     }
 }

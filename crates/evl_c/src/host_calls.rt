@@ -14,9 +14,9 @@ use evl_base::MutexId;
 use std::alloc::Global;
 
 /// Makes a call of the kernel by a caller, as `evlsim_c_apply` makes one of a thread, without waiting for the core.
-/// Where its plays are isn't told.
+/// C doesn't learn where its plays are.
 ///
-/// 0: the call is answered, or refused, as `answer` tells. 4: no memory for the bytes of a write. 6: no caller is
+/// 0: the call is answered, or refused, as `answer` says. 4: no memory for the bytes of a write. 6: no caller is
 /// there. 7: a number of the call is out of its range, or there are more than 256 bytes. But for 0 nothing is done.
 #[unsafe(no_mangle)]
 pub extern "C" fn evlsim_c_try_call(
@@ -52,7 +52,7 @@ pub extern "C" fn evlsim_c_try_call(
 
 /// Locks a mutex, or once more, without waiting.
 ///
-/// 0: it is locked (done), or refused, as `answer` tells. 6: no caller is there. But for 0 nothing is done, and `answer`
+/// 0: it is locked (done), or refused, as `answer` says. 6: no caller is there. But for 0 nothing is done, and `answer`
 /// says so.
 #[unsafe(no_mangle)]
 pub extern "C" fn evlsim_c_try_lock_mutex(
@@ -78,7 +78,7 @@ pub extern "C" fn evlsim_c_try_lock_mutex(
 
 /// Begins to lock a mutex, with a deadline where it is timed.
 ///
-/// 0: it is locked (done), or waited for (begun), or refused, as `answer` tells. 6: no caller is there. But for 0 nothing
+/// 0: it is locked (done), or waited for (begun), or refused, as `answer` says. 6: no caller is there. But for 0 nothing
 /// is done, and `answer` says so.
 #[unsafe(no_mangle)]
 pub extern "C" fn evlsim_c_begin_lock_mutex(
@@ -107,7 +107,7 @@ pub extern "C" fn evlsim_c_begin_lock_mutex(
 
 /// Ends the caller's wait for a mutex, where that is over.
 ///
-/// 0: it is locked (done), or the deadline came first (timed out), or the end is refused, as `answer` tells. 6: no caller
+/// 0: it is locked (done), or the deadline came first (timed out), or the end is refused, as `answer` says. 6: no caller
 /// is there. But for 0 nothing is done, and `answer` says so.
 #[unsafe(no_mangle)]
 pub extern "C" fn evlsim_c_finish_lock_mutex(
@@ -132,7 +132,7 @@ pub extern "C" fn evlsim_c_finish_lock_mutex(
 
 /// Unlocks a mutex at its word alone.
 ///
-/// 0: it is unlocked (done), or refused, as `answer` tells. 6: no caller is there. But for 0 nothing is done, and `answer`
+/// 0: it is unlocked (done), or refused, as `answer` says. 6: no caller is there. But for 0 nothing is done, and `answer`
 /// says so.
 #[unsafe(no_mangle)]
 pub extern "C" fn evlsim_c_unlock_mutex_fast(
@@ -158,7 +158,7 @@ pub extern "C" fn evlsim_c_unlock_mutex_fast(
 
 /// Unlocks a mutex, which the kernel hands on where others claim it.
 ///
-/// 0: it is unlocked (done), or refused, as `answer` tells. 6: no caller is there. But for 0 nothing is done, and `answer`
+/// 0: it is unlocked (done), or refused, as `answer` says. 6: no caller is there. But for 0 nothing is done, and `answer`
 /// says so.
 #[unsafe(no_mangle)]
 pub extern "C" fn evlsim_c_try_unlock_mutex(

@@ -14,7 +14,7 @@ use std::alloc::Global;
 
 /// Enters a stax, without waiting.
 ///
-/// 0: it is entered (done), or refused, as `answer` tells. 6: no caller is there. But for 0 nothing is done, and `answer`
+/// 0: it is entered (done), or refused, as `answer` says. 6: no caller is there. But for 0 nothing is done, and `answer`
 /// says so.
 #[unsafe(no_mangle)]
 pub extern "C" fn evlsim_c_try_lock_stax(
@@ -38,7 +38,7 @@ pub extern "C" fn evlsim_c_try_lock_stax(
     0
 }
 
-// Tells of a stax that was left.
+// Reports how a stax was left.
 fn tell_left(told: Result<bool, Refusal>, answer: &mut AnswerForm)
     ensures { answer.new ≡ host_calls.left_form told }
 {
@@ -53,7 +53,7 @@ fn tell_left(told: Result<bool, Refusal>, answer: &mut AnswerForm)
 
 /// Leaves a stax. `more` of the answer says whether the caller was the last one in it and others want in.
 ///
-/// 0: it is left (done), or refused, as `answer` tells. 6: no caller is there. But for 0 nothing is done, and `answer`
+/// 0: it is left (done), or refused, as `answer` says. 6: no caller is there. But for 0 nothing is done, and `answer`
 /// says so.
 #[unsafe(no_mangle)]
 pub extern "C" fn evlsim_c_unlock_stax(

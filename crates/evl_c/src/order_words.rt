@@ -139,7 +139,7 @@ fn facts_words(
     format!(in alloc; "{at}text {number} of {key} {why}")
 }
 
-/// Why it can't be read what is asked. Want of memory isn't told: it is this function's own error.
+/// Why what is asked can't be read. For want of memory there are no words: that is this function's own error.
 pub fn ask_words(alloc: Global, fault: AskFault) -> Result<String, AllocError>
     ensures { IfOk result (λ words. IsSomeAnd (orders.ask_words fault) (λ w. string_bytes words ≡ w)) }
 {

@@ -24,7 +24,7 @@ use std::alloc::{AllocError, Global};
 #[repr(C)]
 #[derive(Clone, Copy)]
 pub struct Ordered {
-    /// How many bytes the text has that is told.
+    /// How many bytes the text has that C gets.
     pub length: usize,
     /// How many orders there are, at most 2^64 - 1.
     pub total: u64,
@@ -54,7 +54,7 @@ pub struct Ordered {
     pub is_whole: bool,
 }
 
-// What is told where nothing is gone through.
+// What C learns where nothing is gone through.
 const NOTHING: Ordered = Ordered {
     length: 0,
     total: 0,
@@ -73,7 +73,7 @@ const NOTHING: Ordered = Ordered {
     is_whole: false,
 };
 
-/// A text that is told, what is told beside it, and the status.
+/// The text that C gets, what C learns beside it, and the status.
 #[derive(Drop)]
 pub struct Told {
     pub text: String,
@@ -125,7 +125,7 @@ fn refuse(status: u32, step: u32, words: String) -> Told
     }
 }
 
-// The same of a fault of a scenario. Want of memory isn't told: it is this function's own error.
+// The refusal for a fault of a scenario. For want of memory there is none: that is this function's own error.
 fn refuse_fault(alloc: Global, fault: Fault) -> Result<Told, AllocError>
     ensures { IfOk result (λ told. IsSomeAnd (fault_answer fault) (λ answer. answer_in told ≡ answer)) }
 {
@@ -137,7 +137,7 @@ fn refuse_fault(alloc: Global, fault: Fault) -> Result<Told, AllocError>
     }
 }
 
-// The same of a fault of a text.
+// The refusal for a fault of a text.
 fn refuse_text(alloc: Global, fault: TextFault) -> Result<Told, AllocError>
     ensures { IfOk result (λ told. IsSomeAnd (text_answer fault) (λ answer. answer_in told ≡ answer)) }
 {
@@ -198,7 +198,7 @@ fn numbers_of(ask: &Ask, answered: &Answered, length: usize) -> Ordered
     }
 }
 
-// What is told of outcomes beside this text.
+// What C learns of outcomes, beside this text.
 fn tell_numbers(ask: &Ask, answered: &Answered, text: String, status: u32) -> Told
     ensures { answer_in result ≡ record { text = string_bytes text; ordered = numbers_of ask.now answered.now.outcomes answered.now.against (length (string_bytes text)); status = status } }
 {
@@ -325,7 +325,7 @@ fn impossible_in<'a>(
     first_impossible(alloc, callers, ask)
 }
 
-// Tells of such an answer; where there is none, goes through all orders.
+// Reports such an answer; where there is none, goes through all orders.
 fn tell_found(
     alloc: Global,
     wanted: Wanted<'_>,
@@ -360,7 +360,7 @@ fn tell_possible(
     tell_found(alloc, wanted, callers, ask, found)
 }
 
-// Tells what is asked of the callers of a text.
+// Answers what is asked of the callers of a text.
 fn tell_callers(
     alloc: Global,
     wanted: Wanted<'_>,
@@ -388,7 +388,7 @@ fn tell_text(alloc: Global, wanted: Wanted<'_>, text: &[u8]) -> Result<Told, All
     }
 }
 
-// The same of the text of callers that stands for a text.
+// Goes through all orders of the text of callers that a text is taken for.
 fn tell_given(alloc: Global, wanted: Wanted<'_>, text: &[u8]) -> Result<Told, AllocError>
     ensures { IfOk result (λ told. TellsGiven (map callbacks.handler_of wanted.entry.plans.now) wanted.entry.most wanted.entry.outcome text.now (answer_in told)) }
 {

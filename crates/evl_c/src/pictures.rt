@@ -1,38 +1,26 @@
-//! Pictures of texts: of a trace, of a scenario, which is played, or of what `lab callers` tells.
+//! Pictures of texts: of a trace, of a scenario, which is played, or of what `lab callers` prints.
 ghost use Rattle.std.specs.Prelude.{◌≡◌, ◌≤◌, ◌++◌, length, map, None, Ok, string_bytes, IfErr, IfOk, true};
 ghost use Rattle.evl_plans.specs.Told.{handler_of};
 ghost use Rattle.evl_plans.specs.Traces.{Refuses};
 ghost use Rattle.evl_scenario.specs.Lines.{line_feed};
 ghost use Rattle.evl_shell.specs.Runs as runs;
-ghost use Rattle.lab_drawing.specs.Pictures.{going_text, shown_with};
-ghost use Rattle.lab_drawing.specs.declared.frames.Shows.TheVariants.{Words};
+ghost use Rattle.lab_caller_pictures.specs.Drawings.{callers, origin_of, scenario};
 ghost use Rattle.evl_c.specs.Pictures as pictures;
-ghost use Rattle.evl_c.specs.Pictures.{AreMomentsOf, DrawsBytes, DrawsGiven, DrawsLines, DrawsMarks, DrawsPage, DrawsPlayed, DrawsSvg, DrawsText, DrawsTrace, DrawsWhole, Ends, IsPicture, failed, goes_for, of_fault, origin_of, text_in};
+ghost use Rattle.evl_c.specs.Pictures.{DrawsBytes, DrawsGiven, DrawsLines, DrawsMarks, DrawsPage, DrawsPlayed, DrawsSvg, DrawsText, DrawsTrace, DrawsWhole, Ends, failed, of_fault, text_in};
 
 use crate::given::plain_of;
 use evl_plans::{Planned, trace_plans};
 use evl_scenario::Fault;
-use lab_drawing::{
-    Goes, Mark, Moment, lanes_of, marks_of, page, page_count, page_moments, told_moments,
-    write_down, write_svg, write_told, write_told_down,
-};
-use lab_moments::moments_of;
+use lab_caller_pictures::{Source, picture_of};
+use lab_drawing::{Goes, Mark, marks_of, page_count};
 use lab_reports::write_events;
 use lab_traces::{Misread, TraceLine, read_lines};
 use std::alloc::{AllocError, Global};
 
-/// Which way a picture goes: down where it has few marks, else across, where neither is asked for.
-#[derive(Clone, Copy, PartialEq, Eq)]
-pub enum Way {
-    Fitting,
-    Down,
-    Across,
-}
-
-/// In which form a picture is wanted.
+/// In which form a picture is wanted: an SVG, and which way it goes if that is asked for, or trace events.
 #[derive(Clone, Copy, PartialEq, Eq)]
 pub enum Form {
-    Svg(Way),
+    Svg(Option<Goes>),
     Events,
 }
 
@@ -64,109 +52,8 @@ pub enum Undrawn {
     Memory,
 }
 
-// What stands between the lines of callers and what is told of their machine's end.
+// What comes between the lines of callers and the report of their machine's end.
 const CLOSING: &str = "\nclose -> ";
-
-// What marks come from: a trace alone, a scenario that was played, or the lines of callers.
-#[derive(Clone, Copy, PartialEq, Eq)]
-enum Source<'a> {
-    Trace,
-    Scenario(&'a str),
-    Callers,
-}
-
-// How the lanes of marks stand after each step of a scenario.
-fn scenario_moments(
-    alloc: Global,
-    plans: &[Planned],
-    marks: &[Mark<'_>],
-    text: &str,
-) -> Result<Vec<Moment>, AllocError>
-    ensures { IfOk result (λ moments. AreMomentsOf (map handler_of plans.now) (pictures.scenario text.now) marks.now moments.items) }
-{
-    let lanes = lanes_of(alloc, marks)?;
-    moments_of(alloc, plans, text.as_bytes(), lanes.as_slice())
-}
-
-// How the lanes of marks stand after each entry, as far as their source tells it.
-fn known_moments(
-    alloc: Global,
-    plans: &[Planned],
-    marks: &[Mark<'_>],
-    source: Source<'_>,
-) -> Result<Vec<Moment>, AllocError>
-    ensures { IfOk result (λ moments. AreMomentsOf (map handler_of plans.now) (origin_of source.entry) marks.now moments.items) }
-{
-    match source {
-        Source::Trace => Ok(Vec::new(alloc)),
-        Source::Scenario(text) => scenario_moments(alloc, plans, marks, text),
-        Source::Callers => told_moments(alloc, marks),
-    }
-}
-
-// The most lines of which a picture goes down where no way is asked for.
-const MOST_DOWN: usize = 60;
-
-// Which way a picture of so many marks goes.
-fn goes_for(way: Way, count: usize) -> Goes
-    ensures { result ≡ goes_for way count }
-{
-    match way {
-        Way::Down => Goes::Down,
-        Way::Across => Goes::Across,
-        Way::Fitting if count <= MOST_DOWN => Goes::Down,
-        Way::Fitting => Goes::Across,
-    }
-}
-
-// The picture of callers' marks that goes this way.
-fn told_picture(
-    alloc: Global,
-    marks: &[Mark<'_>],
-    moments: &[Moment],
-    goes: Goes,
-) -> Result<Vec<u8>, AllocError>
-    ensures { IfOk result (λ picture. picture.items ≡ going_text goes Words moments.now marks.now) }
-{
-    match goes {
-        Goes::Across => write_told(alloc, marks, moments),
-        Goes::Down => write_told_down(alloc, marks, moments),
-    }
-}
-
-// The picture of other marks that goes this way.
-fn known_picture(
-    alloc: Global,
-    marks: &[Mark<'_>],
-    moments: &[Moment],
-    goes: Goes,
-) -> Result<Vec<u8>, AllocError>
-    ensures { IfOk result (λ picture. picture.items ≡ going_text goes (shown_with moments.now) moments.now marks.now) }
-{
-    match goes {
-        Goes::Across => write_svg(alloc, marks, moments),
-        Goes::Down => write_down(alloc, marks, moments),
-    }
-}
-
-// The picture of a page of marks, from 0, that goes this way.
-fn picture_of(
-    alloc: Global,
-    plans: &[Planned],
-    marks: &[Mark<'_>],
-    source: Source<'_>,
-    goes: Goes,
-    number: usize,
-) -> Result<Vec<u8>, AllocError>
-    ensures { IfOk result (λ picture. IsPicture (map handler_of plans.now) goes (origin_of source.entry) marks.now number picture.items) }
-{
-    let known = known_moments(alloc, plans, marks, source)?;
-    let behind = page_moments(marks, known.as_slice(), number);
-    match source {
-        Source::Callers => told_picture(alloc, page(marks, number), behind, goes),
-        _ => known_picture(alloc, page(marks, number), behind, goes),
-    }
-}
 
 // The picture of a page of marks, of so many.
 fn draw_page(
@@ -174,14 +61,13 @@ fn draw_page(
     asked: Asked<'_>,
     marks: &[Mark<'_>],
     source: Source<'_>,
-    way: Way,
+    goes: Option<Goes>,
     all: usize,
 ) -> Result<Picture, Undrawn>
-    ensures { Ends (DrawsPage (map handler_of asked.entry.plans.now) asked.entry.page way (origin_of source.entry) marks.now all) result }
+    ensures { Ends (DrawsPage asked.entry.page goes (origin_of source.entry) marks.now all) result }
 {
-    let goes = goes_for(way, marks.len());
     let number = (asked.page as usize).saturating_sub(1);
-    match picture_of(alloc, asked.plans, marks, source, goes, number) {
+    match picture_of(alloc, marks, source, goes, number) {
         Ok(text) => Ok(Picture { text, pages: all }),
         Err(_) => Err(Undrawn::Memory),
     }
@@ -193,15 +79,15 @@ fn draw_svg(
     asked: Asked<'_>,
     marks: &[Mark<'_>],
     source: Source<'_>,
-    way: Way,
+    goes: Option<Goes>,
 ) -> Result<Picture, Undrawn>
-    ensures { Ends (DrawsSvg (map handler_of asked.entry.plans.now) asked.entry.page way (origin_of source.entry) marks.now) result }
+    ensures { Ends (DrawsSvg asked.entry.page goes (origin_of source.entry) marks.now) result }
 {
     let all = page_count(marks);
     if asked.page as usize > all {
         Err(Undrawn::Beyond(all))
     } else {
-        draw_page(alloc, asked, marks, source, way, all)
+        draw_page(alloc, asked, marks, source, goes, all)
     }
 }
 
@@ -225,22 +111,22 @@ fn draw_marks(
     marks: &[Mark<'_>],
     source: Source<'_>,
 ) -> Result<Picture, Undrawn>
-    ensures { Ends (DrawsMarks (map handler_of asked.entry.plans.now) asked.entry.page asked.entry.form (origin_of source.entry) marks.now) result }
+    ensures { Ends (DrawsMarks asked.entry.page asked.entry.form (origin_of source.entry) marks.now) result }
 {
     match asked.form {
-        Form::Svg(way) => draw_svg(alloc, asked, marks, source, way),
+        Form::Svg(goes) => draw_svg(alloc, asked, marks, source, goes),
         Form::Events => draw_events(alloc, marks),
     }
 }
 
-// The picture of the lines of a trace, with how the lanes stand as far as their source tells it.
+// The picture of the lines of a trace, with how the lanes stand as far as their source says.
 fn draw_lines(
     alloc: Global,
     asked: Asked<'_>,
     lines: &[TraceLine<'_>],
     source: Source<'_>,
 ) -> Result<Picture, Undrawn>
-    ensures { Ends (DrawsLines (map handler_of asked.entry.plans.now) asked.entry.page asked.entry.form (origin_of source.entry) lines.now) result }
+    ensures { Ends (DrawsLines asked.entry.page asked.entry.form (origin_of source.entry) lines.now) result }
 {
     match marks_of(alloc, lines) {
         Ok(marks) => draw_marks(alloc, asked, marks.as_slice(), source),
@@ -259,16 +145,14 @@ fn text_in(bytes: &[u8]) -> &str
 }
 
 // The picture of a trace that was made of a scenario.
-fn draw_trace(
-    alloc: Global,
-    asked: Asked<'_>,
-    trace: &[u8],
-    scenario: &str,
-) -> Result<Picture, Undrawn>
-    ensures { Ends (DrawsTrace (map handler_of asked.entry.plans.now) asked.entry.page asked.entry.form (pictures.scenario scenario.now) (text_in trace.now)) result }
+fn draw_trace(alloc: Global, asked: Asked<'_>, trace: &[u8], text: &str) -> Result<Picture, Undrawn>
+    ensures { Ends (DrawsTrace asked.entry.page asked.entry.form (scenario (map handler_of asked.entry.plans.now) text.now) (text_in trace.now)) result }
 {
     match read_lines(alloc, text_in(trace)) {
-        Ok(lines) => draw_lines(alloc, asked, lines.as_slice(), Source::Scenario(scenario)),
+        Ok(lines) => {
+            let source = Source::Scenario(asked.plans, text);
+            draw_lines(alloc, asked, lines.as_slice(), source)
+        }
         Err(_) => Err(Undrawn::Memory),
     }
 }
@@ -311,7 +195,7 @@ fn draw_scenario(
     }
 }
 
-// The same of what stands for a text.
+// Plays what a text that is no trace is taken for: the picture of its trace.
 fn draw_given(alloc: Global, asked: Asked<'_>, text: &str, line: usize) -> Result<Picture, Undrawn>
     requires few { length asked.plans.now ≤ 64 }
     ensures { Ends (DrawsGiven (map handler_of asked.entry.plans.now) asked.entry.page asked.entry.form text.now line) result }
@@ -357,7 +241,7 @@ fn draw_callers(
     text: &str,
 ) -> Result<Picture, Undrawn>
     requires few { length asked.plans.now ≤ 64 }
-    ensures { Ends (DrawsWhole (map handler_of asked.entry.plans.now) asked.entry.page asked.entry.form pictures.callers (front.now ++ line_feed) text.now) result }
+    ensures { Ends (DrawsWhole (map handler_of asked.entry.plans.now) asked.entry.page asked.entry.form callers (front.now ++ line_feed) text.now) result }
 {
     match with_line_feed(alloc, front) {
         Ok(told) => draw_whole(alloc, asked, told.as_str(), Source::Callers, text),
@@ -376,8 +260,8 @@ fn draw_text(alloc: Global, asked: Asked<'_>, text: &str) -> Result<Picture, Und
     }
 }
 
-/// The picture that is asked for of a trace, of a scenario over at most 64 callbacks, or of what is told of callers;
-/// one of a scenario also shows how its machine stands. `Text` where the bytes are no UTF-8, `Neither` where they are
+/// The picture that is asked for of a trace, of a scenario over at most 64 callbacks, or of what `lab callers` prints;
+/// one of a scenario also shows its machine's state. `Text` where the bytes are no UTF-8, `Neither` where they are
 /// none of these, `Beyond` where there are fewer pages, `Memory` where a growth was refused.
 pub fn draw(alloc: Global, asked: Asked<'_>, bytes: &[u8]) -> Result<Picture, Undrawn>
     requires few { length asked.plans.now ≤ 64 }

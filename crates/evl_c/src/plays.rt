@@ -16,7 +16,7 @@ use evl_plans::trace_plans;
 use evl_shell::Fault;
 use std::alloc::Global;
 
-/// What a play told (embed/include/evlsim/abi.h: `evlsim_played`).
+/// What a play reports (embed/include/evlsim/abi.h: `evlsim_played`).
 #[repr(C)]
 #[derive(Clone, Copy)]
 pub struct Played {
@@ -43,7 +43,7 @@ fn trace_text(
     }
 }
 
-// The trace of what stands for a text.
+// The trace of what a text is taken for.
 fn trace_given(
     alloc: Global,
     plans: &[PlanForm],
@@ -123,6 +123,9 @@ fn play_over(
     }
 }
 
+// rule: A refused text gives exactly its fault and step, and leaves the buffer; so does want of memory. Invalid plans
+//   are refused exactly.
+//   clauses: evlsim_c_play; evlsim_c_play_over
 /// Plays a scenario's text, in TOML or as lines, over the program's callbacks, and puts its trace, from the byte `start`
 /// on, into the buffer, as much as there is room for. `limit` (1 to 1,000,000) replaces the text's; at 0 that stays.
 ///
@@ -141,6 +144,8 @@ pub extern "C" fn evlsim_c_play(
     play_over(alloc, &program_plans(), text, limit, start, out, played)
 }
 
+// rule: C's plans are callbacks that declare and answer what they say; the program's are those of its bank.
+//   clauses: evlsim_c_play_over; program_plans
 /// The same over callbacks with these plans, at most 64. 5: a number of a plan is out of its range, it declares fewer
 /// kinds than it has, or there are more than 64; then nothing is played, and the buffer is as before.
 #[unsafe(no_mangle)]

@@ -1,4 +1,4 @@
-//! What a kernel tells C besides its calls.
+//! What C learns of a kernel besides its calls.
 ghost use Rattle.std.specs.Prelude.{◌≡◌, option_map};
 ghost use Rattle.evl_c.specs.Readings as readings;
 
@@ -28,7 +28,7 @@ pub struct QuestionForm {
     pub place: usize,
 }
 
-/// What is told (embed/include/evlsim/abi.h: `evlsim_reading`).
+/// What C learns (embed/include/evlsim/abi.h: `evlsim_reading`).
 #[repr(C)]
 #[derive(Clone, Copy)]
 pub struct ReadingForm {
@@ -157,7 +157,7 @@ fn stored(kernel: &KernelOf<Planned, Global>, xbuf: XbufId, way: Way) -> Reading
     }
 }
 
-// What is told of the threads and the date.
+// What C learns of the threads and the date.
 fn thread_reading(kernel: &KernelOf<Planned, Global>, form: &QuestionForm) -> ReadingForm
     ensures { result ≡ readings.thread_reading kernel.now form.now }
 {
@@ -174,7 +174,7 @@ fn thread_reading(kernel: &KernelOf<Planned, Global>, form: &QuestionForm) -> Re
     }
 }
 
-// What is told of the elements and the lines.
+// What C learns of the elements and the lines.
 fn element_reading(kernel: &KernelOf<Planned, Global>, form: &QuestionForm) -> ReadingForm
     ensures { result ≡ readings.element_reading kernel.now form.now }
 {
@@ -189,7 +189,7 @@ fn element_reading(kernel: &KernelOf<Planned, Global>, form: &QuestionForm) -> R
     }
 }
 
-/// What a kernel tells to a question.
+/// What a kernel answers to a question.
 pub fn read(kernel: &KernelOf<Planned, Global>, form: &QuestionForm) -> ReadingForm
     ensures { result ≡ readings.reading_of kernel.now form.now }
 {
@@ -205,7 +205,7 @@ impl Question for QuestionForm {
 
     ghost told_of = { λ form kernel. readings.reading_of kernel form };
 
-    // What the kernel of a machine tells.
+    // What the kernel of a machine answers.
     fn ask(&self, kernel: &KernelOf<Planned, Global>) -> ReadingForm {
         read(kernel, self)
     }

@@ -30,7 +30,7 @@ macro_rules! text {
     };
 }
 
-/// Puts a text, from a byte on, into a buffer, and tells its length.
+/// Puts a text, from a byte on, into a buffer, and reports its length.
 pub fn tell_text(text: &str, start: usize, out: &mut [u8], length: &mut usize)
     ensures { TellsText text.now start out.old out.new length.new }
 {
@@ -125,6 +125,8 @@ fn text_of(word: StepWord) -> &'static str
     each_call!(text(word))
 }
 
+// rule: The number of a word gives its name and keys, that of a refusal its name, or exactly that there is none.
+//   clauses: evlsim_c_call_text; evlsim_c_refusal_text; told
 /// Puts the text of a call's word, from the byte `start` on, into the buffer, as much as there is room for: the word's
 /// name and its keys, with blanks between.
 ///
@@ -148,7 +150,7 @@ pub extern "C" fn evlsim_c_call_text(
     0
 }
 
-/// Puts the name of a refusal, as it stands in a trace, from the byte `start` on, into the buffer, as much as there is
+/// Puts the name of a refusal, as it is in a trace, from the byte `start` on, into the buffer, as much as there is
 /// room for.
 ///
 /// 0: done, and `length` is the whole name's. 7: no refusal has this number. But for 0 nothing is written.

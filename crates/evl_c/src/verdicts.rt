@@ -56,7 +56,7 @@ fn state_against(watches: &[Watch], firsts: &[First], is_whole: bool) -> Option<
     None
 }
 
-/// The same of outcomes.
+/// The place of the first question about moments that the outcomes are against.
 pub fn first_state(ask: &Ask, found: &Outcomes) -> Option<usize>
     ensures { result ≡ verdicts.first_state ask.now found.now }
 {

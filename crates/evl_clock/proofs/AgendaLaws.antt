@@ -76,7 +76,7 @@ itself : (a : Entry) (q : Bool) → is_before a a ≡ q → q ≡ false
 itself a true e = absurd (not_both a a e e)
 itself a false e = refl
 
--- behind what isn't after the one stands no more before the other
+-- what is before an entry is before all that aren't before that entry
 with_not : (a b c : Entry) → Before a b → (b.date < c.date) ⊎ ((c.date ≡ b.date) × (b.place ≤ c.place)) → Before a c
 with_not a b c (inl h) (inl k) = inl (omega arith)
 with_not a b c (inl h) (inr k) = inl (omega (arith, k.0))
@@ -94,7 +94,7 @@ past e x xs h = ap (λ q. if q then x ∷ with_entry e xs else e ∷ x ∷ xs) h
 here : (e x : Entry) (xs : List Entry) → is_before e x ≡ false → with_entry e (x ∷ xs) ≡ e ∷ x ∷ xs
 here e x xs h = ap (λ q. if q then x ∷ with_entry e xs else e ∷ x ∷ xs) h
 
--- two behind each other, in front of the rest
+-- two next to each other, in front of the rest
 in_front : (x y : Entry) (rest : List Entry) (p : Bool) → is_before x y ≡ p → (x.place ≡ y.place → ⊥)
     → (if p then y ∷ x ∷ rest else x ∷ y ∷ rest) ≡ (if is_before y x then x ∷ y ∷ rest else y ∷ x ∷ rest)
 in_front x y rest true e other = sym (ap (λ q. if q then x ∷ y ∷ rest else y ∷ x ∷ rest) (not-back x y e))
@@ -234,7 +234,7 @@ taken-again e (x ∷ xs) = by (is_before e x) refl (taken-again e xs)
     by true f h = ap (λ q. remove (x ∷ with_entry e xs) (if q then suc (place_of e (with_entry e xs)) else 0)) f ∙ ap (λ l. x ∷ l) h
     by false f h = ap (λ q. remove (e ∷ x ∷ xs) (if q then suc (place_of e (x ∷ xs)) else 0)) (itself e (is_before e e) refl)
 
--- what falls due after it stands before its place, and nothing else
+-- what falls due after it is before its place, and nothing else is
 all-at : (P : Entry → Type 0) (xs : List Entry) (k : ℕ) (d : Entry) → AllByRecursion P xs → k < length xs → P (slice_index_or xs k d)
 all-at P [] k d h inside = absurd (omega arith)
 all-at P (x ∷ xs) zero d h inside = h.0

@@ -1,4 +1,4 @@
--- What stands behind what is due, and how many items are due after each of them fell due.
+-- The date of each item that is due, at its place; and how many items are due after each of them fell due.
 use Rattle.std.proofs.Common.{◌≡◌, ℕ, suc, zero, ◌+◌, ◌*◌, ◌/◌, ◌-◌, ◌^◌, ◌==◌, ◌≤◌, ◌<◌, ⊎_elim, Bool, true, false, nat_le, nat_lt, List, [], ◌∷◌, length, map, Option, Some, None, if◌then◌else◌, option_map, slice_index_or, slice_set, refl, sym, ap, ◌∙◌, arith, length-append}
 use Rattle.std.proofs.lemmas.Bool.Decides.{nat_tests}
 use Rattle.std.proofs.lemmas.List.{length-map}
@@ -17,7 +17,7 @@ use Rattle.evl_clock.specs.Searching.{deadlines_due, least_in, sooner_item, time
 use Rattle.evl_clock.specs.Timers.{after_fire, date_of, missed_of, next_date, state_after, stopped}
 use Rattle.evl_clock.proofs.LeastLaws.{earliest-least, either, least-append}
 
--- what is found stands at a place, and is due
+-- what is found lies at a place, and is due
 pub record Stands (kind : ℕ → Item) (now n : ℕ) (dates : List (Option ℕ)) (d : ℕ × Item) : Type 0 where
   pub place : ℕ
   pub item_is : d.1 ≡ kind (n + place)

@@ -1,4 +1,4 @@
--- A clock's agenda: what is due next stands last, and each change keeps it.
+-- A clock's agenda: what is due next lies last, and each change keeps it.
 use Rattle.std.proofs.Common.{◌≡◌, ℕ, suc, zero, ◌+◌, ◌-◌, ◌≤◌, ◌<◌, ◌⊎◌, ⊎_elim, Bool, true, false, nat_lt, List, [], ◌∷◌, ◌++◌, length, length-append, map, min, take, Option, Some, None, IfSome, is_none, replicate, slice_index_or, slice_set, if◌then◌else◌, refl, sym, ap, ◌∙◌, subst, arith}
 use Rattle.std.specs.List.{AllByRecursion}
 use Rattle.std.proofs.lemmas.Bool.Decides.{nat_tests}
@@ -59,7 +59,7 @@ module _ {C : Type 0} where
   places : (c : Clock C) → IsSoundClock c → length (dates_of c) ≡ timer_count + length c.deadlines
   places c sound = omega (arith, length-append (map timer_date c.timers) c.deadlines, length-map c.timers timer_date, sound.timers)
 
-  -- each date stands at the place of its item
+  -- each date lies at the place of its item
   dated_slot : (c : Clock C) (t : ℕ) (o : Item) → IsSoundClock c → IsDated c t o → slice_index_or (dates_of c) (slot o) None ≡ Some t
   dated_slot c t (item.Timer id) sound e = at_timer c id.0 (timer_inside c id.0 t e) ∙ e
   dated_slot c t (item.Deadline thread) sound e = at_deadline c thread.0 (timer_count + thread.0) sound refl ∙ e
@@ -234,7 +234,7 @@ module _ {C : Type 0} where
   kept-taken c xs ys room room_after n after h inside others same taken =
       subst (λ ts. IsKept (record { now = c.now; timers = ts; deadlines = c.deadlines }) ys room_after) (sym taken) (kept-timer c xs ys room room_after n None h inside others same)
 
-  -- a timer that doesn't run stands in a free place
+  -- a timer that doesn't run is in a free place
 
   free_is : (c : Clock C) (n : ℕ) → free_place c ≡ Some n → timer_at c n ≡ None
   free_is c n e = nothing (timer_at c n) (position-Some is_none c.timers n None e).1

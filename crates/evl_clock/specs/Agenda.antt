@@ -10,7 +10,7 @@ use Rattle.evl_clock.specs.Limits.{timer_count}
 abbrev pub entry : ℕ → ℕ → Entry
 entry place date = record { date = date; place = place }
 
--- timers have the first places, deadlines those behind them
+-- timers have the first places, deadlines those after them
 abbrev pub item_at : ℕ → Item
 item_at place = if nat_lt place timer_count then timer place else deadline (place - timer_count)
 
@@ -18,7 +18,7 @@ item_at place = if nat_lt place timer_count then timer place else deadline (plac
 abbrev pub is_before : Entry → Entry → Bool
 is_before a b = if a.date == b.date then nat_lt a.place b.place else nat_lt a.date b.date
 
--- what falls due first stands last
+-- what falls due first is last
 abbrev pub first_entry : List Entry → Option Entry
 first_entry entries = slice_get entries (length entries - 1)
 

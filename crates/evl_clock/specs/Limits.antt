@@ -2,6 +2,10 @@
 use Rattle.std.specs.Prelude.{ℕ}
 use Rattle.evl_base.specs.Limits.{thread_limit}
 
+-- rule: There are 64 timers, and one deadline for each of at most 256 threads; a new one replaces it.
+--   also: Limits.thread_count; Clocks.with_deadline
+--   clauses: Clock::set_deadline; Clock::clear_deadline: state
+--   rows: a_clock_has_deadlines_for_its_threads
 -- the places for timers, from 0 on
 abbrev pub timer_count : ℕ
 timer_count = 64

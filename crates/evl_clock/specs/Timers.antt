@@ -10,6 +10,8 @@ use Rattle.evl_clock.specs.declared.timer.Timer.{Timer}
 use Rattle.evl_clock.specs.declared.timer_state.TimerState.{TimerState}
 use Rattle.evl_clock.specs.declared.timer_state.TimerState.TheVariants.{Idle, Running, Ended}
 
+-- rule: A timer's kinds are POST_SEM, POST_FLAGS and STOP_TIMER; any other bit is `Invalid`.
+--   rows: kinds
 -- the kinds that a timer's callback may declare: it neither hands its event on in-band nor posts an out-of-band line
 abbrev pub timer_kinds : ℕ
 timer_kinds = 1 + 2 + 16
@@ -18,6 +20,11 @@ timer_kinds = 1 + 2 + 16
 abbrev pub is_timer_allowed : ℕ → Bool
 is_timer_allowed kinds = declares timer_kinds kinds
 
+-- rule: A fire misses `(now - date) / interval` periods; the next date is the first after now. With interval 0 the
+--   timer becomes idle; past 2^64 - 1 it has ended.
+--   also: Timers.{next_date, state_after}
+--   clauses: TimerState::{date, missed, after_fire}
+--   rows: periodic_timer; end_of_time; past_the_end; next_date_past_the_end; timer_misses_periods
 -- how many whole periods lie between its date and now
 abbrev pub missed_of : ℕ → ℕ → ℕ → ℕ
 missed_of now date interval = if interval == 0 then 0 else (now - date) / interval
@@ -47,11 +54,18 @@ date_of (Running date interval) = Some date
 date_of Idle = None
 date_of Ended = None
 
+-- rule: Overruns and counts stop at 2^64 - 1. A start clears the overruns and keeps the count; a stop keeps both.
+--   also: Timers.{started, stopped}
+--   clauses: Clock::{start, stop}
+--   rows: overruns_stay
 -- the overruns stay at 2^64 - 1 once there
 abbrev pub overrun : ℕ → ℕ → ℕ
 overrun overruns more = min (overruns + more) 18446744073709551615
 
 module _ {C : Type 0} where
+  -- rule: A new timer is idle with count 0, also at a number used before.
+  --   also: Clocks.with_new_timer
+  --   clauses: Clock::new_timer: ok
   -- a timer that was never started
   abbrev pub made : C → ℕ → Timer C
   made callback tag = record { callback = callback; tag = tag; count = 0; overruns = 0; state = Idle }
@@ -63,6 +77,8 @@ module _ {C : Type 0} where
   abbrev pub stopped : Timer C → Timer C
   stopped t = record t { state = Idle }
 
+  -- rule: An unhandled fire counts, misses and moves the date as any other.
+  --   rows: stops_itself
   -- a timer after its fire
   abbrev pub after_fire : ℕ → Timer C → Timer C
   after_fire now t = record t {
@@ -71,6 +87,10 @@ module _ {C : Type 0} where
     state = state_after now t.state;
   }
 
+  -- rule: The stored callback is called with exactly line 0, stage oob, the timer's tag, its count and the date now.
+  --   also: Timers.HasFired
+  --   clauses: Clock::next_due
+  --   rows: periodic_timer
   -- the next call of a timer's callback
   abbrev pub fire_of : Timer C → ℕ → Fire
   fire_of t now = record { line = record { 0 = 0 }; stage = Oob; tag = t.tag; count = one_more t.count; moment = now }

@@ -7,7 +7,7 @@ use crate::due::Item;
 use evl_base::{ThreadId, TimerId};
 use std::alloc::Allocator;
 
-/// How many places there are for timers. Those of deadlines stand behind them.
+/// How many places there are for timers. Those of deadlines stand after them.
 pub const TIMERS: u16 = 64;
 
 /// A date at which the item of a place falls due.
@@ -97,7 +97,7 @@ pub fn enter<A: Allocator>(agenda: &mut Vec<Entry, A>, place: u16, date: Option<
     }
 }
 
-// The same of a place that gets a date.
+// As `enter`, of a place that gets a date.
 #[inline(never)]
 fn enter_at<A: Allocator>(agenda: &mut Vec<Entry, A>, place: u16, date: u64)
     requires ordered { IsOrdered agenda.old.items }
@@ -123,7 +123,7 @@ pub fn leave<A: Allocator>(agenda: &mut Vec<Entry, A>, place: u16, date: Option<
     }
 }
 
-// The same of a place that has a date.
+// As `leave`, of a place that has a date.
 #[inline(always)]
 fn leave_at<A: Allocator>(agenda: &mut Vec<Entry, A>, place: u16, date: u64)
     requires ordered { IsOrdered agenda.old.items }

@@ -81,6 +81,9 @@ fn no_agenda<A: Allocator>(alloc: A, threads: usize) -> Result<Vec<Entry, A>, Al
 }
 
 impl<C: Drop, A: Allocator + Clone> ClockOf<C, A> {
+    // refusals: Clock::new, for_threads
+    //   order: NoMemory
+    //   clauses: Clock::new: refusal
     /// A clock at date 0 with no timers and no deadlines. It has room for 64 timers and for the deadlines of
     /// `MAX_THREADS` threads. `NoMemory` where that room was refused.
     pub fn new(alloc: A) -> Result<ClockOf<C, A>, Refusal>
@@ -177,6 +180,9 @@ impl<C, A: Allocator> ClockOf<C, A> {
         }
     }
 
+    // rule: `advance` is `Range` exactly past 2^64 - 1, and says whether something is due.
+    //   clauses: Clock::advance
+    //   rows: end_of_time
     /// Moves the date by so many nanoseconds, and says whether something is due then. `Range` exactly where the date
     /// would be past 2^64 - 1. A refused call changes nothing. (Xenomai 4: EVL clocks)
     pub fn advance(&mut self, delta: u64) -> Result<bool, Refusal>

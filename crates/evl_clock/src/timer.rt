@@ -47,7 +47,7 @@ impl<C> Timer<C> {
 }
 
 impl<C: Handler> Timer<C> {
-    /// Calls its callback once, and tells with what, how many periods it missed, and the answer.
+    /// Calls its callback once, and says with what, how many periods it missed, and the answer.
     pub fn fire(&mut self, now: u64) -> (Fire, u64, Answer)
         ensures fired { HasFired C.declared C.plan C.gives now self.old result.0 result.1 result.2 }
         ensures after { self.new ≡ after_fire now self.old }

@@ -1,4 +1,4 @@
-//! The core's table: the lock's word, 0 where the kernel is in the slot and 1 where a seat has it, and behind it a word
+//! The core's table: the lock's word, 0 where the kernel is in the slot and 1 where a seat has it, and after it a word
 //! for each mutex of the board.
 use crate::kernel_box::KernelBox;
 use crate::views::{Made, ThreadView};

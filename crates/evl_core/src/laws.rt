@@ -14,6 +14,8 @@ pub fn core_events_keep_order<C>()
     ensures { CoreEventsKeepOrder C }
 {}
 
+// rule: The core's conditions hold after any atomic steps in which the thread that has the kernel makes no take.
+//   clauses: core_world_stands; gate_world_stands; mutex_world_stands; one_world_stands; core_events_keep_order
 /// From the opening on it holds after any list of atomic steps, among which hands of threads are split and joined.
 pub fn core_world_stands<C>()
     ensures { CoreWorldStands C }
@@ -35,6 +37,10 @@ pub fn rule_is_one_world<C>()
     ensures rule { (first : KernelView C) → (s : State (Option (KernelView C)) (CoreHand C)) → (d : OneDealing (KernelView C) (KernelView C)) → LiesSo s d → StandsInOne past_of room_of ComesFrom (ceilings_of first) (mutex_count first) first d → KeptKnown first s }
 {}
 
+// rule: A thread loses a take only to another: while no other has the kernel, nothing that it may come to know within
+//   the rule counts more lost takes, or fewer.
+//   clauses: takes_are_lost_to_another; free_core_turns_no_token_away
+//   rows: quiet_core_is_never_busy
 /// A take is lost to another thread alone. Of two worlds that keep their conditions and differ in what one thread knows,
 /// and in words and histories as they may, that thread has lost as many takes in the one as in the other, unless another
 /// thread had the kernel in the first: no step, whatever it does, counts a lost take while the core is free.
@@ -58,7 +64,7 @@ pub fn free_core_is_quiet<C>()
 
 /// Whenever the core of a running machine is free, the recorded owner of a mutex, if there is one, is the owner in its
 /// word, owning or offered; a mutex with waiters has its mark set, and one without has a recorded owner only at a
-/// ceiling, where whoever is in the word is recorded; the mark never stands alone; and the word offers the mutex to
+/// ceiling, where the thread in the word is recorded; the mark is never by itself; and the word offers the mutex to
 /// just the thread whose unfinished wait ended with it (Xenomai 4: EVL mutex).
 pub fn free_core_is_tied<C>()
     ensures { (first : KernelView C) → (s : State (Option (KernelView C)) (CoreHand C)) → KeptKnown first s → slice_index s.words 0 ≡ 0 → LiesTied first s.words s.homes }

@@ -22,6 +22,10 @@ use evl_words::{
 use std::alloc::Allocator;
 use std::marker::Brand;
 
+// rule: Steps on a mutex's word under the kernel note what they did. A caller's places say how often it holds a mutex,
+//   and why a lock is refused.
+//   clauses: try_there; try_held; unlock_there; claim; settle; offer; free; forget; accept; MutexPlaces::{of,
+//   holds_any, depth, is_free, refusal, number, own, nest, spend}
 /// Takes a mutex without a ceiling that the thread doesn't have. `Busy` where another has it.
 #[inline(always)]
 pub fn try_there<C: Drop, A: Allocator>(

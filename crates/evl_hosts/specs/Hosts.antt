@@ -38,6 +38,13 @@ new_host machine caller = record { machine = machine; caller = Some caller; stax
 abbrev pub new_hosts : MachineState Planned → ℕ → List HostState
 new_hosts machine threads = map (new_host machine) (newcomers_of machine threads)
 
+-- rule: Each call is one of the machine's by this caller, with that answer, and changes nothing else. A pass that it
+--   brings is kept after the others, the first one of the mutex or stax is spent, and one that comes back is kept
+--   again. Without a pass, or without room for one, nothing is done.
+--   also: Hosts.{CallsKernel, TriesMutex, BeginsMutex, FinishesMutex, UnlocksMutexFast, UnlocksMutex, TriesToEnter,
+--   LeavesBy, LacksRoom}
+--   clauses: Host::{try_call, try_lock_mutex, begin_lock_mutex, finish_lock_mutex, unlock_mutex_fast, try_unlock_mutex,
+--   try_lock_stax, unlock_stax}
 -- the caller does this at its machine, and has these passes then
 pub record Steps (does : CallerState Planned → CallerState Planned → Type 0) (staxes : List StaxPass) (mutexes : List MutexPass) (old new : HostState) : Type 0 where
   pub before : CallerState Planned
@@ -76,7 +83,7 @@ FinishesMutex r old new =
     LacksRoom r old new
     ⊎ ((told : Result Ended Refusal) × (r ≡ ended_reply told) × Steps (λ a b. FinishesToLock a told b) old.staxes (old.mutexes ++ ended_given told) old new)
 
--- The first pass of a mutex is spent in this way. A pass that comes back stands behind the others; without one nothing is done.
+-- The first pass of a mutex is spent in this way. A pass that comes back goes after the others; without one nothing is done.
 abbrev pub SpendsMutex : (CallerState Planned → MutexPass → Result (Unit {0}) (Refusal × MutexPass) → CallerState Planned → Type 0) → MutexId → Result Reply Refusal → HostState → HostState → Type 0
 SpendsMutex does mutex r old new =
     ((position (is_of_mutex mutex.0) old.mutexes ≡ None) × (r ≡ Err NotOwner) × (new ≡ old))
@@ -89,7 +96,7 @@ UnlocksMutexFast mutex r old new = SpendsMutex (λ a pass told b. UnlocksFast a 
 abbrev pub UnlocksMutex : MutexId → Result Reply Refusal → HostState → HostState → Type 0
 UnlocksMutex mutex r old new = SpendsMutex (λ a pass told b. TriesToUnlock a pass told b) mutex r old new
 
--- the same of a stax, of which is told whether others want in
+-- as `UnlocksMutex`, of a stax, with whether others want in
 abbrev pub LeavesBy : StaxId → Result Bool Refusal → HostState → HostState → Type 0
 LeavesBy stax r old new =
     ((position (is_of_stax stax.0) old.staxes ≡ None) × (r ≡ Err NotOwner) × (new ≡ old))
@@ -105,6 +112,14 @@ abbrev pub bytes_of : Result (String Global) Refusal → Result (List ℕ) Refus
 bytes_of (Ok text) = Ok (string_bytes text)
 bytes_of (Err refusal) = Err refusal
 
+-- rule: A caller's trace is that of the history of all callers, which it takes the core to read and gives back, by two
+--   steps on the core; or a step found that another has the core, or a growth was refused.
+--   also: Hosts.{TakesAndGives, TellsTrace}
+--   clauses: Host::trace
+-- rule: The kernel's answer to a question of a caller is what it says in one take, after which the core is given back
+--   and nothing entered; or a step found that another has the core.
+--   also: Hosts.{TakesAndGives, Looks}
+--   clauses: Host::look
 -- the caller finds that another has the kernel, and has lost a take more
 abbrev pub FindsTaken : {T : Type 0} → MachineState Planned → Result T Refusal → CallerState Planned → CallerState Planned → Type 0
 FindsTaken machine r a b = (r ≡ Err CoreBusy) × (b ≡ turned_away b.lock a) × FailsToTake machine.first a.account a.lock b.account b.lock
@@ -115,15 +130,19 @@ TakesAndGives machine k a b =
     (h : HeldState Planned) × (h.kernel ≡ k) × TookKernel a h × Takes machine.first a.account a.lock h.caller.account h.caller.lock
     × (b ≡ returned k.history b.lock h.caller) × Gives machine.first h.caller.account h.caller.lock k b.account b.lock
 
--- The trace of the kernel that the caller takes is told, or there is no memory for it. Or another has the kernel.
+-- The trace of the kernel that the caller takes is given, or there is no memory for it. Or another has the kernel.
 abbrev pub TellsTrace : MachineState Planned → Result (List ℕ) Refusal → CallerState Planned → CallerState Planned → Type 0
 TellsTrace machine r a b =
     FindsTaken machine r a b ⊎ ((k : KernelView Planned) × TakesAndGives machine k a b × ((r ≡ Ok (kernel_trace machine k)) ⊎ (r ≡ Err NoMemory)))
 
--- What the kernel that the caller takes tells is told. Or another has the kernel.
+-- What the kernel that the caller takes says is given. Or another has the kernel.
 abbrev pub Looks : {T : Type 0} → MachineState Planned → (KernelView Planned → T) → Result T Refusal → CallerState Planned → CallerState Planned → Type 0
 Looks machine told_of r a b = FindsTaken machine r a b ⊎ ((k : KernelView Planned) × TakesAndGives machine k a b × (r ≡ Ok (told_of k)))
 
+-- rule: The callers of a machine that is opened so are those of a new machine of just this board, bank and limit, in
+--   the threads' order, without passes. Why there is none is exact.
+--   also: Hosts.new_hosts
+--   clauses: open_hosts
 -- the callers of a machine that was made of these
 abbrev pub AreOpened : Board → List Planned → ℕ → List HostState → Type 0
 AreOpened board bank limit hosts = (machine : MachineState Planned) × IsOpened (λ p. p.kinds.0) (λ p. p.plan) board bank limit machine.first × (hosts ≡ new_hosts machine board.threads)

@@ -8,7 +8,7 @@ use crate::shared::Shared;
 use evl_base::{Call, Refusal, Reply};
 use evl_machine::CallerOf;
 use evl_plans::Planned;
-use evl_scenario::trace_history;
+use evl_shell::trace_kernel;
 use evl_words::{MutexPass, StaxPass};
 use std::alloc::Global;
 use std::marker::Model;
@@ -78,12 +78,12 @@ impl Host {
                 return Err(Refusal::CoreBusy);
             }
         };
-        let text = trace_history(
+        let text = trace_kernel(
             alloc,
+            alloc,
+            held.kernel(),
             self.shared.board(),
             self.shared.limit(),
-            held.kernel().history(),
-            held.kernel().plays(),
         );
         self.caller = Some(held.give());
         text

@@ -8,16 +8,16 @@ use evl_kernel::KernelOf;
 use evl_plans::Planned;
 use std::alloc::Global;
 
-/// What may be asked of a kernel: it is told by the kernel's state and history alone.
+/// What may be asked of a kernel: the answer follows from the kernel's state and history alone.
 pub trait Question {
     ghost use Rattle.std.specs.Prelude.{◌≡◌};
     ghost use Rattle.evl_kernel.specs.state.KernelViews.{KernelView};
     ghost use Rattle.evl_plans.specs.declared.planned.Planned.{Planned};
 
-    /// What is told.
+    /// What is answered.
     type Told;
 
-    /// What a kernel tells.
+    /// What a kernel says.
     ghost told_of: { Self → KernelView Planned → Self.Told };
 
     /// Asks a kernel.
@@ -26,7 +26,7 @@ pub trait Question {
 }
 
 impl Host {
-    /// What the kernel tells to a question, by one take and one give: no call is entered. `CoreBusy` where another caller
+    /// What the kernel says to a question, by one take and one give: no call is entered. `CoreBusy` where another caller
     /// has the kernel.
     pub fn look<Q: Question>(&mut self, question: &Q) -> Result<Q::Told, Refusal>
         ensures looked { Steps (λ a b. Looks self.old.machine (Q.told_of question.now) result a b) self.old.staxes self.old.mutexes self.old self.new }

@@ -39,7 +39,7 @@ pub fn take_stax(passes: &mut Vec<StaxPass>, stax: StaxId) -> Option<StaxPass>
     Some(passes.remove(place))
 }
 
-/// Keeps a pass behind the others, for which there is room.
+/// Keeps a pass after the others, for which there is room.
 pub fn keep<P: Drop>(passes: &mut Vec<P>, pass: P)
     requires room { vec_len passes.old < vec_capacity passes.old }
     ensures { passes.new.items ≡ passes.old.items ++ pass ∷ [] }

@@ -27,7 +27,7 @@ impl Host {
         }
     }
 
-    /// Leaves a stax, as the machine's `unlock_stax`, and tells whether it was the last one and others want in.
+    /// Leaves a stax, as the machine's `unlock_stax`, and says whether it was the last one and others want in.
     /// `NotOwner` where the caller has no pass of it.
     pub fn unlock_stax(&mut self, stax: StaxId) -> Result<bool, Refusal>
         ensures left { LeavesBy stax result self.old self.new }

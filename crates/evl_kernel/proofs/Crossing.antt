@@ -7,9 +7,9 @@ use Rattle.std.specs.declared.alloc.Allocator.{Ghosts}
 use Rattle.std.specs.contracts.vec.Vec as Vec
 use Rattle.std.proofs.CrossingOver.{crosses}
 use Rattle.std.proofs.Crossing as heap
-use Rattle.evl_base.specs.contracts.entry.Entry as Entry
 use Rattle.evl_base.specs.contracts.play.Play as Play
-use Rattle.evl_base.proofs.Crossing.{board_send, declared_send, entry_send, play_send, spares_send, transfer_send}
+use Rattle.evl_base.proofs.Crossing.{board_send, declared_send, play_send, spares_send, transfer_send}
+use Rattle.evl_history.proofs.Crossing.{history_send}
 use Rattle.evl_pipeline.proofs.Crossing.{pipeline_send}
 use Rattle.evl_clock.proofs.Crossing.{clock_send}
 use Rattle.evl_sched.proofs.Crossing.{sched_send}
@@ -45,9 +45,6 @@ lists_send =
 module _ (C A : RattleType) (g : Ghosts A.Denot) where
   plays_send : IsSend A → Frees g g.dealloc_token → IsSend (Vec.the_row Play.the_row A g)
   plays_send a f = search (play_send, crosses, sendable) depth 20
-
-  entries_send : IsSend A → Frees g g.dealloc_token → IsSend (Vec.the_row Entry.the_row A g)
-  entries_send a f = search (entry_send, crosses, sendable) depth 20
 
   places_send : IsSend C → IsSend A → Frees g g.dealloc_token → IsSend (Vec.the_row (BankPlace.the_row C) A g)
   places_send s a f = search (declared_send, crosses, sendable) depth 20 fits 20000
@@ -90,5 +87,5 @@ module _ (C A : RattleType) (g : Ghosts A.Denot) where
 
   pub kernel_send : IsSend C → IsSend A → Frees g g.dealloc_token → IsSend (KernelOf.the_row C A g)
   kernel_send s a f =
-      let records = records_send s a f in let board = board_send in let plays = plays_send C A g a f in let entries = entries_send C A g a f in let spares = spares_send A g a f in
-      view_send _ _ _ _ _ (declared_send (KernelInside.the_type C A g) (board, (records, (entries, (plays, (spares, (lists_send, (search sendable, (search sendable, tt)))))))))
+      let records = records_send s a f in let board = board_send in let plays = plays_send C A g a f in let history = history_send A g a f in let spares = spares_send A g a f in
+      view_send _ _ _ _ _ (declared_send (KernelInside.the_type C A g) (board, (records, (history, (plays, (spares, (lists_send, (search sendable, (search sendable, tt)))))))))

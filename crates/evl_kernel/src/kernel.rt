@@ -26,13 +26,14 @@ mod room;
 
 use crate::allocators::another;
 use crate::kernel::quick::writes_quickly;
-use crate::kernel::room::{find_room, lower_fence, make_room};
+use crate::kernel::room::{find_room, keep_box, lower_fence, make_room};
 use crate::records::Records;
 use crate::served_lists::ServedLists;
 use evl_base::{
-    Board, Call, Entry, LineNo, MutexId, Play, Refusal, Reply, Spares, Stage, ThreadId, TimerId,
+    Board, Call, LineNo, MutexId, Play, Refusal, Reply, Spares, Stage, ThreadId, TimerId,
 };
 use evl_clock::TimerState;
+use evl_history::History;
 use evl_pipeline::{Callback, Handler};
 use std::alloc::{Allocator, Global};
 use std::marker::Model;
@@ -50,12 +51,12 @@ const MAX_CALLBACKS: usize = 64;
 pub struct KernelOf<C, A: Allocator> {
     board: Board,
     records: Records<C, A>,
-    history: Vec<Entry, A>,
+    history: History<A>,
     plays: Vec<Play, A>,
     spares: Spares<A>,
     lists: ServedLists,
     limit: usize,
-    // a history that is shorter finds room for one entry more, and so do the plays of its call
+    // where the history is shorter, one call more finds room for its plays and a box for its bytes
     fence: usize,
 }
 
@@ -82,17 +83,21 @@ fn can_open(board: &Board, callbacks: usize, limit: u32) -> bool
     board.check().is_ok() && callbacks <= MAX_CALLBACKS && 1 <= limit && limit <= MAX_LIMIT
 }
 
-// The same allocator three times more.
-fn three_more<A: Allocator + Clone>(alloc: &A) -> Result<(A, A, A), Refusal>
+// The same allocator twice more.
+fn two_more<A: Allocator + Clone>(alloc: &A) -> Result<(A, A), Refusal>
     ensures refusal { IfErr result (λ e. e ≡ Refusal.NoMemory) }
 {
     let first = another(alloc)?;
     let second = another(alloc)?;
-    let third = another(alloc)?;
-    Ok((first, second, third))
+    Ok((first, second))
 }
 
 impl<C: Handler> KernelOf<C, Global> {
+    // rule: A bank given to a kernel that cannot be made is dropped.
+    //   clauses: Kernel::new
+    // refusals: Kernel::new
+    //   order: Range (board, bank, limit), NoMemory
+    //   clauses: Kernel::new: range
     /// A kernel with the elements of the board, the callbacks of the bank in their places, and an empty history of at
     /// most `limit` entries.
     ///
@@ -134,13 +139,13 @@ impl<C: Handler, A: Allocator> KernelOf<C, A> {
         if !can_open(&board, bank.len(), limit) {
             return Err(Refusal::Range);
         }
-        let allocs = three_more(&alloc)?;
+        let history = History::new(&alloc)?;
+        let allocs = two_more(&alloc)?;
         let lists = ServedLists::new(boxes)?;
         match Records::new(alloc, boxes, &board, bank) {
             Ok(records) => {
-                let history = Vec::new(allocs.0);
-                let plays = Vec::new(allocs.1);
-                let spares = Spares::new(allocs.2, boxes);
+                let plays = Vec::new(allocs.0);
+                let spares = Spares::new(allocs.1, boxes);
                 Ok(KernelOf {
                     board,
                     records,
@@ -156,8 +161,15 @@ impl<C: Handler, A: Allocator> KernelOf<C, A> {
         }
     }
 
+    // rule: `reserve(n)` is `HistoryFull` exactly if fewer than n places are left; else the next n calls meet neither
+    //   that nor want of memory.
+    //   clauses: Kernel::reserve: full, room; Kernel::apply: memory, room
+    //   rows: reserve_limits
+    // refusals: Kernel::reserve
+    //   order: HistoryFull, NoMemory
+    //   clauses: Kernel::reserve: full
     /// Makes room for the entries and plays of the next `n` calls of `apply`, which then answer neither `NoMemory` nor
-    /// `HistoryFull`.
+    /// `HistoryFull`: some 350 bytes a call (16 a row, 80 a whole entry, 256 of bytes), 350 MB for 1,000,000.
     ///
     /// `HistoryFull` exactly where the history has fewer than `n` places left; `NoMemory` where the room was refused.
     /// All but the room is as before: the history, and where each callback is.
@@ -179,6 +191,13 @@ impl<C: Handler, A: Allocator> KernelOf<C, A> {
         make_room(&mut self.history, &mut self.plays, &mut self.spares, n)
     }
 
+    // rule: A full history, then want of memory, come first, without an entry; every other refusal has one.
+    //   clauses: Kernel::apply: entry, full, memory, none
+    //   rows: reserve_limits
+    // rule: `NoMemory` comes only if no room had been made for the call.
+    //   clauses: Kernel::apply: memory; Kernel::reserve: memory
+    //   rows: room_is_refused_in_short_memory; call_without_memory; each_request_is_refused_once;
+    //   each_request_for_room_is_refused_once
     /// Answers a call of a thread, settles, and enters the call with its answer into the history. `HistoryFull` exactly
     /// at the limit, `NoMemory` where room for the entry was refused: neither makes an entry or changes anything. Other
     /// refusals are answers with an entry, the first that applies of `Busy` (the caller has an unfinished wait, and this
@@ -211,12 +230,7 @@ impl<C: Handler, A: Allocator> KernelOf<C, A> {
         if !writes_quickly(&mut self.records, &self.history, fence, caller, &call) {
             return self.apply_and_settle(caller, call);
         }
-        self.history.push_reserved(Entry {
-            caller,
-            call,
-            reply: Ok(Reply::Done),
-            plays: 0,
-        });
+        self.history.push(caller, call, &Ok(Reply::Done), 0);
         Ok(Reply::Done)
     }
 
@@ -246,45 +260,28 @@ impl<C: Handler, A: Allocator> KernelOf<C, A> {
             self.limit,
         )?;
         let before = self.plays.len();
-        match self.records.perform(
+        let answer = self.records.perform(
             caller,
             &call,
             &mut self.plays,
             &mut self.spares,
             &mut self.lists,
-        ) {
-            Err(refusal) => {
-                lower_fence(&mut self.fence, &self.plays, before);
-                self.history.push_reserved(Entry {
-                    caller,
-                    call,
-                    reply: Err(refusal),
-                    plays: self.plays.len() - before,
-                });
-                Err(refusal)
-            }
-            Ok(reply) => {
-                let (given, entered) = doubled(reply, &mut self.spares);
-                lower_fence(&mut self.fence, &self.plays, before);
-                self.history.push_reserved(Entry {
-                    caller,
-                    call,
-                    reply: Ok(entered),
-                    plays: self.plays.len() - before,
-                });
-                Ok(given)
-            }
-        }
+        );
+        lower_fence(&mut self.fence, &self.plays, before);
+        keep_box(&mut self.fence, &mut self.spares);
+        let plays = self.plays.len() - before;
+        self.history.push(caller, call, &answer, plays);
+        answer
     }
 }
 
 impl<C, A: Allocator> KernelOf<C, A> {
     /// All entries, in order.
-    pub fn history(&self) -> &[Entry]
-        ensures entries { result.now ≡ self.now.history.entries }
+    pub fn history(&self) -> &History<A>
+        ensures entries { result.now.entries ≡ self.now.history.entries }
         ensures legal { IsLegal self.now.history }
     {
-        self.history.as_slice()
+        &self.history
     }
 
     /// All plays of all calls, in order.
@@ -399,32 +396,5 @@ impl<C, A: Allocator> KernelOf<C, A> {
         ensures legal { IsLegal self.now.history }
     {
         self.records.waiters(mutex)
-    }
-}
-
-// A reply twice, for the caller and for the entry: its bytes, if it has any, once more in a box that was kept. No
-// reference to the reply is passed on, so it stays in registers.
-#[inline(always)]
-fn doubled<A: Allocator>(reply: Reply, spares: &mut Spares<A>) -> (Reply, Reply)
-    requires { 1 ≤ spares.old }
-    ensures given { result.0 ≡ reply }
-    ensures entered { result.1 ≡ reply }
-    ensures spent { spares.old ≤ spares.new + 1 }
-{
-    match reply {
-        Reply::Done => (Reply::Done, Reply::Done),
-        Reply::Begun => (Reply::Begun, Reply::Begun),
-        Reply::Count(count) => (Reply::Count(count), Reply::Count(count)),
-        Reply::Bits(bits) => (Reply::Bits(bits), Reply::Bits(bits)),
-        Reply::Number(number) => (Reply::Number(number), Reply::Number(number)),
-        Reply::Bytes(bytes) => {
-            let copy = spares.take(bytes.as_slice());
-            (Reply::Bytes(bytes), Reply::Bytes(copy))
-        }
-        Reply::Chosen(thread) => (Reply::Chosen(thread), Reply::Chosen(thread)),
-        Reply::Handed { next, more } => {
-            (Reply::Handed { next, more }, Reply::Handed { next, more })
-        }
-        Reply::TimedOut => (Reply::TimedOut, Reply::TimedOut),
     }
 }

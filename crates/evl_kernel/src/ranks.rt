@@ -77,7 +77,7 @@ fn hand_to<A: Allocator>(sched: &mut SchedOf<A>, thread: ThreadId, rank: u16)
     }
 }
 
-/// The recorded owners are told the base rank of a thread, which has another one, and the ranks are handed on.
+/// The recorded owners are given the base rank of a thread, which has another one, and the ranks are handed on.
 pub(crate) fn base_changed<A: Allocator>(
     elements: &mut Elements<A>,
     changes: &mut ChangedThreads,

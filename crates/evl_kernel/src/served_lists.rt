@@ -1,4 +1,4 @@
-//! Lists into which an element tells whom it served, and what was read of it.
+//! Lists into which an element enters whom it served, and what was read of it.
 ghost use Rattle.std.specs.Prelude.{◌≡◌, IfErr};
 ghost use Rattle.evl_base.specs.declared.refusal.Refusal.{Refusal};
 
@@ -6,9 +6,9 @@ use arrayvec::ArrayVec;
 use evl_base::{Bytes, MAX_THREADS, Refusal};
 use std::alloc::Global;
 
-/// The lists into which an element tells whom it served, a flag group and a cross-buffer, and what was read of a
-/// cross-buffer. They are kept between calls, as each takes time to make; whoever uses one empties it first of what
-/// the call before told.
+/// The lists into which an element enters whom it served, a flag group and a cross-buffer, and what was read of a
+/// cross-buffer. They are kept between calls, as each takes time to make; a call that uses one empties it first of what
+/// the call before entered.
 #[derive(Drop)]
 pub(crate) struct ServedLists {
     pub(crate) of_flags: Box<ArrayVec<evl_sync::TakenBits, MAX_THREADS>>,

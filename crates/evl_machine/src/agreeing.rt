@@ -41,7 +41,7 @@ impl<C: Drop, A: Allocator> MachineOf<C, A> {
         self.agree_by(&mut one.actor, &mut other.actor);
     }
 
-    // The same of who acts for two threads.
+    // As `agree`, of who acts for two threads.
     fn agree_by(&self, one: &mut Actor<C, A>, other: &mut Actor<C, A>)
         requires machine { (one.old.table ≡ self.now.id) × (other.old.table ≡ self.now.id) }
         requires rests { IsCaller (seen one.old.me) one.old.thread × IsCaller (seen other.old.me) other.old.thread }

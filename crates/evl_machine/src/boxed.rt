@@ -1,5 +1,5 @@
 //! The machine of stored callbacks. These types have no `Model`, since they name the callbacks' type; each keeps, as a
-//! fact, that the callbacks answer what is told of them.
+//! fact, that the callbacks answer what is said of them.
 ghost use Rattle.std.specs.Prelude.{◌≡◌, ◌≢◌, ◌⊎◌, ◌↔◌, ⊤, false, is_some, length, map, nat_lt, All, IfOk, IfErr, MatchOption, MatchResult};
 ghost use Rattle.evl_kernel.specs.state.Callbacks.{AnswersByPlan};
 ghost use Rattle.evl_kernel.specs.state.KernelViews.{IsOpened};
@@ -30,7 +30,7 @@ type MachineCore = MachineOf<Callback, Global>;
 
 type HeldCore<'a> = HeldOf<'a, Callback, Global>;
 
-/// The kernel of stored callbacks behind the core's lock, shared by callers on host threads. All calls of `MachineOf`
+/// The kernel of stored callbacks under the core's lock, shared by callers on host threads. All calls of `MachineOf`
 /// are its calls: it lends its machine, with the fact that they ask for.
 #[derive(Drop)]
 pub struct Machine {
@@ -50,7 +50,7 @@ impl Deref for Machine {
 
     ghost deref_gives = { λ machine lent. (lent ≡ machine.of) × AnswersByPlan (λ c. c.kinds.0) (λ c. c.plan.value) lent.first.callbacks };
 
-    // The machine whose calls are these, and whose callbacks answer what is told of them.
+    // The machine whose calls are these, and whose callbacks answer what is said of them.
     #[inline(always)]
     fn deref(&self) -> &MachineCore {
         &self.of
@@ -58,6 +58,9 @@ impl Deref for Machine {
 }
 
 impl Machine {
+    // refusals: Machine::new
+    //   order: Range, NoMemory
+    //   clauses: Machine::new: range
     /// A machine with a new kernel of this board, bank and limit, and a caller for each thread of the board, in the
     /// threads' order. `Range` exactly where a number of the board is outside its limits, the bank has more than 64
     /// callbacks, or `limit` is outside 1 to 1,000,000; `NoMemory` where room for the elements, the core or the callers
@@ -80,7 +83,7 @@ impl Machine {
 
     /// The kernel with all that its callers did, once they are done with the machine.
     ///
-    /// `Invalid` where no caller is handed in; `CoreBusy` where the core stands taken, which the first caller tries to
+    /// `Invalid` where no caller is handed in; `CoreBusy` where the core is taken, which the first caller tries to
     /// take; then `Invalid` where there are fewer callers than threads, and the first caller has given the core back.
     /// The machine and its callers then come back.
     pub fn close(self, callers: Vec<Caller>) -> Result<Kernel, (Refusal, Machine, Vec<Caller>)>
@@ -97,6 +100,8 @@ impl Machine {
         }
     }
 
+    // refusals: take, Held::reserve
+    //   clauses: Machine::take: taken; Held::reserve: reserved
     /// Takes the kernel for as long as the caller likes. The caller comes back only where another has it, with one lost
     /// take more.
     pub fn take(&self, caller: Caller) -> Result<Held<'_>, Caller>
@@ -139,8 +144,10 @@ impl<'a> Held<'a> {
         self.of.kernel()
     }
 
-    /// What stands in a mutex's word, by one load; none where there is no such mutex. It is what the kernel records:
-    /// whom it has as the owner stands there, and where somebody waits, so does the mark; where nobody is recorded,
+    // rule: The thread that has the kernel reads a mutex's word as one tied to the record. No clause says who holds an
+    //   unclaimed mutex without a ceiling.
+    /// What is in a mutex's word, by one load; none where there is no such mutex. It is what the kernel records:
+    /// whom it has as the owner is there, and where somebody waits, so is the mark; where nobody is recorded,
     /// a mutex with a ceiling is free.
     pub fn in_word(&mut self, mutex: MutexId) -> Option<InWord>
         ensures same { self.new.of ≡ self.old.of }

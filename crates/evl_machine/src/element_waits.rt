@@ -61,6 +61,8 @@ impl<C: Handler, A: Allocator> MachineOf<C, A> {
         }
     }
 
+    // refusals: get_sem, wait_flags, read_xbuf, write_xbuf
+    //   clauses: Machine::get_sem: waited, entered
     /// Takes one from a semaphore's count, and waits where it is 0, until a date in nanoseconds, or without a deadline
     /// (Xenomai 4: EVL semaphores). It is one `BeginGet`, as by `call`, and where that is answered `Begun` one `Finish`
     /// once the wait is over, whose answer is the answer: `Done`, or `TimedOut` where the deadline came first.

@@ -43,7 +43,7 @@ pub enum Ended {
     TimedOut,
 }
 
-/// Tries for a mutex with a ceiling that the caller may lock, and tells the kernel of a try that took it.
+/// Tries for a mutex with a ceiling that the caller may lock, and reports a try that took it to the kernel.
 pub(crate) fn lock_raised<C: Handler, A: Allocator>(
     core: &CoreLock<C, A>,
     actor: &mut Actor<C, A>,
@@ -130,7 +130,7 @@ fn hand_on<C: Drop, A: Allocator>(
 }
 
 /// Claims a mutex that the caller doesn't hold, and waits for it where another has it. Where it was won, and has a
-/// ceiling, the kernel is told. All claims are made with the kernel, so nobody else has won it and not settled yet.
+/// ceiling, the kernel learns of it. All claims are made with the kernel, so nobody else has won it and not settled yet.
 pub(crate) fn begin<C: Handler, A: Allocator>(
     core: &CoreLock<C, A>,
     actor: &mut Actor<C, A>,

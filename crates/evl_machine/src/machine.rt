@@ -1,4 +1,4 @@
-//! The machine: the kernel behind the core's lock, and the calls of the kernel by callers that take it in turn.
+//! The machine: the kernel under the core's lock, and the calls of the kernel by callers that take it in turn.
 ghost use Rattle.std.specs.Prelude.{◌≡◌, ◌≢◌, Err, IfErr, IfOk, None, false, length, slice_get, true};
 ghost use Rattle.evl_base.specs.Board.{board_fits};
 ghost use Rattle.evl_base.specs.declared.refusal.Refusal.TheVariants.{CoreBusy};

@@ -20,7 +20,7 @@ impl<C: Handler, A: Allocator> MachineOf<C, A> {
     /// Locks a mutex, or once more (Xenomai 4: EVL mutex). With no step `Busy` in an unfinished wait, `Unknown` where
     /// there is no such mutex, `WrongStage` in-band, `Deadlock` where the caller has it and it doesn't nest, `Limit`
     /// where it has it 255 times. `Busy` where another has it. One with a ceiling is tried with the kernel, which is
-    /// told of it: `CoreBusy` where another has that, `NoMemory` or `HistoryFull` where it has no room, with no step of
+    /// informed of it: `CoreBusy` where another has that, `NoMemory` or `HistoryFull` where it has no room, with no step of
     /// the mutex.
     #[inline(always)]
     pub fn try_lock_mutex(
@@ -74,7 +74,7 @@ impl<C: Handler, A: Allocator> MachineOf<C, A> {
     /// Begins to lock a mutex, and answers whether the caller has it or waits for it until this moment (Xenomai 4: EVL
     /// mutex). Refused with no step as `try_lock_mutex` is. `CoreBusy` where another has the kernel, `NoMemory` or
     /// `HistoryFull` where it has no room: the mutex isn't claimed then. Where another has it, it is claimed, and the
-    /// answer is the kernel's to the wait: a refused one leaves the claim. One with a ceiling that was won is told to
+    /// answer is the kernel's to the wait: a refused one leaves the claim. One with a ceiling that was won is reported to
     /// the kernel.
     pub fn begin_lock_mutex(
         &self,
@@ -201,7 +201,7 @@ impl<C: Handler, A: Allocator> MachineOf<C, A> {
     }
 }
 
-// What a word answered, as a call without the kernel tells it: a pass comes back where others claim the mutex.
+// What a word answered, as a call without the kernel says it: a pass comes back where others claim the mutex.
 #[inline(always)]
 fn fast_answer(told: Unlock) -> Result<(), (Refusal, MutexPass)>
     ensures { FastAnswer result told }

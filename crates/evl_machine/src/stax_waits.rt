@@ -57,7 +57,7 @@ impl<C: Drop, A: Allocator> MachineOf<C, A> {
     /// Enters a stax at the stage of the caller's thread, however long it takes (Dovetail: stax). It tries as
     /// `try_lock_stax` does until it has a pass, or is refused with `Unknown` where there is no such stax, or `Busy`
     /// where the caller holds it. After the first `Again` it sets the claim mark, by which the last caller to leave is
-    /// told that others want in. The core isn't taken.
+    /// informed that others want in. The core isn't taken.
     pub fn lock_stax<R: Wait>(
         &self,
         rt: &R,

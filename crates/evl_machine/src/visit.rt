@@ -31,7 +31,7 @@ impl<C: Drop, A: Allocator> MachineOf<C, A> {
         table.exchange(seat, 0, None)
     }
 
-    /// Puts the kernel back. It goes on from the one that was taken, by calls of the seat's one caller, and what stands
+    /// Puts the kernel back. It goes on from the one that was taken, by calls of the seat's one caller, and what holds
     /// of each mutex's word is tied to what it records.
     #[inline]
     pub(crate) fn give_kernel(&self, seat: &mut CoreSeat<C, A>, kernel: KernelBox<C, A>)

@@ -12,7 +12,7 @@ Decides-waiter a b =
     (Decides-and _ _ (Decides-eqb a.thread b.thread) (Decides-eqb a.rank b.rank))
 
 module _ {X Y Z : Type 0} (f : X → Z) (g : Y → Z) (xs : List X) (ys : List Y) (n : ℕ) (x : X) (y : Y) where
-  -- what stands in a place
+  -- what is at a place
   pub alike-at : n < length ys → x ≡ slice_index_or xs n x → y ≡ slice_index_or ys n y → map f xs ≡ map g ys → f x ≡ g y
   alike-at within there too e =
       ap f there ∙ sym (at-map f xs n x) ∙ ap (λ zs. slice_index_or zs n (f x)) e

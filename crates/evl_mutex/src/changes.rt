@@ -10,7 +10,7 @@ pub trait RankChanges {
     /// Whether a thread is noted.
     ghost is_noted: { Self → ℕ → Bool };
 
-    /// Notes a thread; whoever is noted stays so.
+    /// Notes a thread; a thread that is noted stays so.
     fn note(&mut self, thread: ThreadId)
         ensures noted { (t : ℕ) → is_noted self.new t ≡ (is_noted self.old t || (t == thread.0)) };
 }

@@ -50,6 +50,9 @@ impl<A: Allocator> Model for OwnersOf<A> {
 }
 
 impl<A: Allocator + Clone> OwnersOf<A> {
+    // refusals: Owners::new
+    //   order: NoMemory
+    //   clauses: Owners::new: refusal
     /// So many threads, each of base rank 0, and a mutex of each kind, for which no owner is recorded and nobody waits.
     /// Each mutex has room for all of these threads. `NoMemory` where that room was refused. (Xenomai 4: EVL mutexes)
     pub fn new(alloc: A, threads: u16, kinds: &[MutexKind]) -> Result<OwnersOf<A>, Refusal>
@@ -92,7 +95,7 @@ impl<A: Allocator> OwnersOf<A> {
         ranks::rank_of(&self.lent, &self.ceilings, thread.0)
     }
 
-    /// Writes the effective rank of each thread whose number is below the length of `ranks`, as `effective` tells it.
+    /// Writes the effective rank of each thread whose number is below the length of `ranks`, as `effective` says.
     /// (Xenomai 4: EVL mutexes, priority inheritance and ceilings)
     pub fn ranks(&self, ranks: &mut [u16])
         ensures ranks { ranks.new ≡ ranks_of self.now (length ranks.old) }
@@ -109,6 +112,8 @@ impl<A: Allocator> OwnersOf<A> {
         named(record.owner)
     }
 
+    // rule: Readers give each mutex's recorded owner and waiters, and whether a thread is recorded at any.
+    //   clauses: Owners::{has, owns_any, owner, next, waiters, waiter}
     /// Whether there is such a mutex.
     pub fn has(&self, mutex: MutexId) -> bool
         ensures has { result ≡ nat_lt mutex.0 (length self.now.mutexes) }
@@ -131,6 +136,9 @@ impl<A: Allocator> OwnersOf<A> {
         named(self.mutexes.get(mutex.0 as usize)?.next())
     }
 
+    // refusals: Owners::set_base
+    //   order: Unknown
+    //   clauses: Owners::set_base: answer
     /// Sets the base rank of a thread. Its place in a queue is kept. `Unknown` where there is no such thread; nothing
     /// changes then. (Xenomai 4: EVL scheduling policies; this profile)
     pub fn set_base(&mut self, thread: ThreadId, rank: u16) -> Result<(), Refusal>
@@ -219,7 +227,7 @@ impl<A: Allocator> OwnersOf<A> {
         }
     }
 
-    /// A thread begins to wait for a mutex, whose owner it names, and that owner is recorded. It stands behind the
+    /// A thread begins to wait for a mutex, whose owner it names, and that owner is recorded. It comes after the
     /// waiters of its effective rank or a greater one. Refused, in this order: `Busy` where it waits already; `Unknown`
     /// where there is no such mutex, waiter or owner; `Invalid` where the owner is the waiter, or another owner is
     /// recorded; `Deadlock` where somebody would wait for itself then. A refused call changes nothing. (Xenomai 4: EVL

@@ -23,7 +23,7 @@ module _ {T : Type 0} (blank : T) where
       ap (λ (n : ℕ). slice_set written i x ++ replicate (line_count - n) blank) (length-set written i x)
       ∙ sym (set-append_left written (replicate (line_count - length written) blank) i x there)
 
-  -- blanks stand behind what was written
+  -- blanks come after what was written
   blank-at : (k i : ℕ) → slice_index_or (replicate k blank) i blank ≡ blank
   blank-at zero i = refl
   blank-at (suc k) zero = refl

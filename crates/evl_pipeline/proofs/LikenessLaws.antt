@@ -15,7 +15,7 @@ Decides-option d (Some x) None = (λ e. absurd (false≢true e), λ e. absurd (n
 Decides-option d (Some x) (Some y) = (λ e. ap Some ((d x y).0 e), λ e. (d x y).1 (same_Some x y e))
 
 module _ {X Y : Type 0} (f : X → Y) where
-  -- what stands in a place
+  -- what is at a place
   pub alike-at : (xs ys : List X) (n : ℕ) (x y : X) → n < length xs → n < length ys → x ≡ slice_index_or xs n x → y ≡ slice_index_or ys n y → map f xs ≡ map f ys → f x ≡ f y
   alike-at xs ys n x y inside within there too e =
       ap f there ∙ sym (at-map f xs n x) ∙ ap (λ zs. slice_index_or zs n (f x)) e ∙ at-map f ys n x
@@ -28,7 +28,7 @@ module _ {X Y : Type 0} (f : X → Y) where
       take_more_same (map f xs) (map f ys) n (f x) (omega (arith, inside, length-map xs f)) (omega (arith, within, length-map ys f)) before
       (at-map f xs n x ∙ ap f (sym there) ∙ same ∙ ap f (too ∙ get_or_default ys n y x within) ∙ sym (at-map f ys n x))
 
--- lists that are as long, and have the same in each place before one from which on nothing stands
+-- lists that are as long, and have the same at each place before one from which on there is nothing
 module _ {Y : Type 0} (d : Y) (xs ys : List Y) where
   abbrev pub AreAlike : ℕ → Type 0
   AreAlike n = (k : ℕ) → k < n → slice_index_or xs k d ≡ slice_index_or ys k d
@@ -44,6 +44,6 @@ module _ {Y : Type 0} (d : Y) (xs ys : List Y) where
       (λ k l. ⊎_elim (λ below. before k below) (λ past. none k (omega (arith, first, past)) ∙ sym (nothing k (omega (arith, second, past)))) (cases_lt k n))
 
 module _ {X Y : Type 0} (f : X → Y) (d : X) where
-  -- nothing stands behind, whatever is shown of it
+  -- there is nothing from a place on, whatever is shown of it
   pub nothing-shown : (xs : List X) (a : ℕ) → ((k : ℕ) → a ≤ k → slice_index_or xs k d ≡ d) → (k : ℕ) → a ≤ k → slice_index_or (map f xs) k (f d) ≡ f d
   nothing-shown xs a none k l = at-map f xs k d ∙ ap f (none k l)

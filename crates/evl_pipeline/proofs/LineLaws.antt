@@ -27,7 +27,7 @@ or-more : (a b c : Bool) → (a || b) ≡ true → (b ≡ true → c ≡ true) �
 or-more true b c e more = refl
 or-more false b c e more = more e
 
--- a callback that is written, or that stands elsewhere
+-- a callback that is written, or that is elsewhere
 some-set : {A : Type 0} (xs : List (Option A)) (i q : ℕ) (x : A) → is_some (slice_index_or xs q None) ≡ true → is_some (slice_index_or (slice_set xs i (Some x)) q None) ≡ true
 some-set {A} xs i q x e =
     elim (q == i) as (λ b. (q == i) ≡ b → is_some (slice_index_or (slice_set xs i (Some x)) q None) ≡ true) [
@@ -156,7 +156,7 @@ module _ {C : Type 0} where
       has-more stage (side p stage).installed _ other (has p stage h other left.1)
       (λ some. ap is_some (get_or-set_other (side p stage).installed line other None None (λ q. eqb-false line other left.0 (sym q))) ∙ some))
 
-  -- a stage after a line of it was played, or after its event was taken where no callback stands
+  -- a stage after a line of it was played, or after its event was taken where there is no callback
   pub sound-stepped : (p : Pipeline C) (stage : Stage) (line now : ℕ) (declared : C → ℕ) (plan : C → Plan) (gives : C → Fire → Answer → Type 0) (ran : Option (Fire × Answer)) (s : Side C) → IsSoundPipeline p
       → IfNone ran ((installed_at p stage line ≡ None) × (s ≡ cleared (side p stage) line))
       → IfSome ran (λ r. PlaysOn declared plan gives (side p stage) stage line now r.0 r.1 s)

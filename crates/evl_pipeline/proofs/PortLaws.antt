@@ -39,7 +39,7 @@ pub is_none : {A : Type 0} (o : Option A) → is_some o ≡ false → o ≡ None
 is_none None e = refl
 is_none (Some x) e = cc
 
--- what is found stands within the list
+-- what is found is within the list
 pub within : {A : Type 0} (xs : List (Option A)) (i : ℕ) (x : A) → slice_index_or xs i None ≡ Some x → i < length xs
 within [] i x e = cc
 within (y ∷ xs) zero x e = omega arith
@@ -105,7 +105,7 @@ module _ {C : Type 0} (ports : List (Option Port)) (callbacks : Slab (Held C)) (
   pub port_shown : (line : ℕ) → slice_index_or (map (installed_by callbacks) ports) line None ≡ installed_by callbacks (port_at ports line)
   port_shown line = at-map (installed_by callbacks) ports line None
 
-  -- a callback is seen exactly where a port stands
+  -- a callback is seen exactly where there is a port
   pub seen : (line : ℕ) → is_some (slice_index_or (map (installed_by callbacks) ports) line None) ≡ is_some (port_at ports line)
   seen line = ap is_some (at-map (installed_by callbacks) ports line None) ∙ same_slot line (port_at ports line) refl
 

@@ -23,6 +23,9 @@ module _ {C : Type 0} where
   AreLinked ports callbacks =
       (line : ℕ) (port : Port) → port_at ports line ≡ Some port → option_map (λ held. held.line) (get callbacks port.key) ≡ Some line
 
+  -- rule: There is room for a callback on each line of each stage.
+  --   clauses: Pipeline::new
+  --   rows: only_new_takes_memory; a_new_pipeline_is_refused_in_short_memory
   -- the callbacks of a stage are those that its ports lead to, and there is room for one on each line
   pub record IsSoundBank (ports : List (Option Port)) (callbacks : Slab (Held C)) (unhandled : List ℕ) : Type 0 where
     pub lines : length ports ≡ line_count

@@ -37,7 +37,7 @@ impl Blank for Option<Port> {
     }
 }
 
-/// An item for each line, to a contract. Those behind the last line that was written are blank and aren't written
+/// An item for each line, to a contract. Those after the last line that was written are blank and aren't written
 /// before they have to be, so that a new one costs the same however many lines there are. Only `new` takes memory.
 #[derive(Drop)]
 pub struct ByLine<T: Blank, A: Allocator> {

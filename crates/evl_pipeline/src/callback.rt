@@ -10,6 +10,8 @@ use crate::plan::Plan;
 use evl_base::ActionKinds;
 use std::snapshot::Snapshot;
 
+// rule: A callback keeps its closure, kinds and plan.
+//   clauses: Callback::new; Handler::kinds; Named::name; Handler::told
 /// Code that answers a plan. The running program has the code alone: only contracts read the plan.
 #[derive(Drop)]
 pub struct Callback {

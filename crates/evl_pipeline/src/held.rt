@@ -1,6 +1,6 @@
 //! Installed callbacks.
 
-/// A callback, and the line where it stands.
+/// A callback, and the line where it is.
 #[derive(Drop)]
 pub struct Held<C> {
     pub callback: C,

@@ -41,7 +41,10 @@ impl<C, A: Allocator> Model for PipelineOf<C, A> {
 }
 
 impl<C: Drop, A: Allocator + Clone> PipelineOf<C, A> {
-    /// A pipeline with 4096 lines, where nothing stands, nothing is pending and nothing was counted. It has room for a
+    // refusals: Pipeline::new
+    //   order: NoMemory
+    //   clauses: Pipeline::new: refusal
+    /// A pipeline with 4096 lines, where there is no callback, nothing is pending and nothing was counted. It has room for a
     /// callback on each line of each stage. `NoMemory` where that room was refused.
     pub fn new(alloc: A) -> Result<PipelineOf<C, A>, Refusal>
         ensures opening { IfOk result (λ p. p ≡ opening) }
@@ -124,7 +127,7 @@ impl<C, A: Allocator> PipelineOf<C, A> {
 
     /// Why `request` would refuse a callback that declares `kinds`, if it would: the first that applies of `Unknown`
     /// for a line above 4095, `Invalid` for line 0 and for a kind that isn't allowed on the stage, and `Busy` where a
-    /// callback stands there.
+    /// callback is there.
     pub fn request_refusal(&self, line: LineNo, stage: Stage, kinds: ActionKinds) -> Option<Refusal>
         ensures refusal { result ≡ request_refusal self.now line.0 stage kinds.0 }
     {
@@ -176,6 +179,9 @@ impl<C, A: Allocator> PipelineOf<C, A> {
         Some((Stage::Inband, line))
     }
 
+    // refusals: Pipeline::arrive, post
+    //   order: Unknown
+    //   clauses: Pipeline::arrive: refused
     /// Takes an interrupt on a line. It goes to the out-of-band stage where the line has a callback there, else to the
     /// in-band stage where it has one there; an event that is pending already stays so, once. Where the line has no
     /// callback it counts as spurious; this count stays at 2^64 - 1 once there. `Unknown` for a line above 4095.
@@ -292,9 +298,12 @@ impl<C, A: Allocator> PipelineOf<C, A> {
         }
     }
 
+    // refusals: Pipeline::free
+    //   order: Unknown (line), Invalid, Unknown (nothing there)
+    //   clauses: Pipeline::free: refused
     /// Takes the callback off a line of a stage and gives it back; a pending event of that line and stage is dropped.
     /// Refused, in this order: `Unknown` for a line above 4095, `Invalid` for line 0, which is the clock's, and
-    /// `Unknown` where no callback stands there. A refused call changes nothing.
+    /// `Unknown` where no callback is there. A refused call changes nothing.
     pub fn free(&mut self, line: LineNo, stage: Stage) -> Result<C, Refusal>
         ensures ok { IfOk result (λ callback. (free_refusal self.old line.0 stage ≡ None) × (option_map (λ at. at.callback) (installed_at self.old stage line.0) ≡ Some callback)) }
         ensures state { OnOk result (self.new ≡ freed self.old line.0 stage) }
@@ -316,10 +325,13 @@ impl<C, A: Allocator> PipelineOf<C, A> {
 }
 
 impl<C: Handler, A: Allocator> PipelineOf<C, A> {
+    // refusals: Pipeline::request
+    //   order: Unknown, Invalid (line 0, kinds), Busy
+    //   clauses: Pipeline::request: refused
     /// Lets a callback stand on a line of a stage, with a tag that its fires carry. Its first fire counts 1; how many
     /// answers of the line were unhandled is kept. Refused, in this order: `Unknown` for a line above 4095, `Invalid`
     /// for line 0, which is the clock's, and for kinds of action beyond those that are allowed on the stage (POST_SEM,
-    /// POST_FLAGS, STOP_TIMER, out-of-band also PROPAGATE, in-band also POST_OOB), and `Busy` where a callback stands
+    /// POST_FLAGS, STOP_TIMER, out-of-band also PROPAGATE, in-band also POST_OOB), and `Busy` where a callback is
     /// there. A refused call changes nothing and gives the callback back.
     pub fn request(
         &mut self,
@@ -359,7 +371,7 @@ impl<C: Handler, A: Allocator> PipelineOf<C, A> {
         }
     }
 
-    // Plays a line of a stage. Where no callback stands there, its event is gone.
+    // Plays a line of a stage. Where no callback is there, its event is gone.
     fn play(&mut self, stage: Stage, line: u16, now: u64) -> Option<(Fire, Answer)>
         ensures none { IfNone result ((installed_at self.old stage line ≡ None) × (side self.new stage ≡ cleared (side self.old stage) line)) }
         ensures some { IfSome result (λ ran. PlaysOn C.declared C.plan C.gives (side self.old stage) stage line now ran.0 ran.1 (side self.new stage)) }

@@ -1,6 +1,6 @@
 //! What a line shows of its callback.
 
-/// The name of a callback, and what its calls tell.
+/// The name of a callback, and what its calls say.
 #[derive(Clone, Copy, PartialEq, Eq)]
 pub struct Shown {
     pub number: u8,

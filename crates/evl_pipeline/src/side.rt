@@ -49,7 +49,7 @@ impl<C, A: Allocator> Model for SideOf<C, A> {
 }
 
 impl<C, A: Allocator + Clone> SideOf<C, A> {
-    /// A stage where nothing stands and nothing is pending.
+    /// A stage without callbacks, where nothing is pending.
     pub fn new(alloc: A) -> Result<SideOf<C, A>, AllocError>
         ensures empty { IfOk result (λ s. s ≡ empty_side) }
     {
@@ -141,7 +141,7 @@ impl<C, A: Allocator> SideOf<C, A> {
         self.unhandled.get(line)
     }
 
-    /// Whether a callback stands on the line.
+    /// Whether a callback is on the line.
     pub fn is_installed(&self, line: u16) -> bool
         ensures installed { result ≡ is_some (callback_on self.now line) }
     {
@@ -156,7 +156,7 @@ impl<C, A: Allocator> SideOf<C, A> {
         self.log.insert(line);
     }
 
-    /// Installs a callback on a line where none stands.
+    /// Installs a callback on a line where none is.
     pub fn install(&mut self, line: u16, callback: C, tag: u32)
         requires range { line < line_count }
         requires free { callback_on self.old line ≡ None }
@@ -196,7 +196,7 @@ fn count_unless<A: Allocator>(counts: &mut ByLine<u64, A>, line: u16, handled: b
 }
 
 impl<C: Handler, A: Allocator> SideOf<C, A> {
-    /// Plays a line: its event is gone, and its callback, if one stands there, is called.
+    /// Plays a line: its event is gone, and its callback, if one is there, is called.
     #[inline(always)]
     pub fn play(&mut self, stage: Stage, line: u16, now: u64) -> Option<(Fire, Answer)>
         ensures none { IfNone result ((callback_on self.old line ≡ None) × (self.new ≡ cleared self.old line)) }

@@ -18,7 +18,7 @@ use Rattle.evl_plans.specs.declared.faults.BankFault.TheVariants as fault
 abbrev pub from_one : ℕ → Option ℕ
 from_one n = if nat_le 1 n then Some n else None
 
--- the count at a key, which is 1 where nothing stands there
+-- the count at a key, which is 1 where nothing is there
 abbrev pub count_at : List ℕ → Members → Option ℕ
 count_at key ms = option_and_then from_one (value_or number_from 1 (get_member key ms))
 
@@ -67,7 +67,7 @@ abbrev pub rows_in : Option Items → Result (List (ℕ × Action)) Part
 rows_in None = Err Rows
 rows_in (Some values) = rows_from 1 values
 
--- the rows at a key, of which there are none where nothing stands there
+-- the rows at a key, of which there are none where nothing is there
 abbrev pub rows_at : Option Data → Result (List (ℕ × Action)) Part
 rows_at None = Ok []
 rows_at (Some value) = rows_in (as_array value)
@@ -77,7 +77,7 @@ with_accepts None rows = Err Accepts
 with_accepts (Some accepts) (Ok rows) = Ok (of_rows accepts rows)
 with_accepts (Some accepts) (Err part) = Err part
 
--- the callback that a table stands for, or the part that can't be read
+-- the callback that a table means, or the part that can't be read
 abbrev pub callback_in : Members → Result Handler Part
 callback_in ms =
     if has_only (codes "accepts" ∷ codes "do" ∷ []) ms then with_accepts (count_at (codes "accepts") ms) (rows_at (get_member (codes "do") ms))
@@ -109,7 +109,7 @@ abbrev pub callbacks_at : Option Data → Result (List Handler) BankFault
 callbacks_at None = Ok []
 callbacks_at (Some value) = callbacks_in (as_array value)
 
--- the bank that a document stands for: its one key is `callback`, with tables
+-- the bank that a document means: its one key is `callback`, with tables
 abbrev pub bank_in : Members → Result (List Handler) BankFault
 bank_in ms = if has_only (codes "callback" ∷ []) ms then callbacks_at (get_member (codes "callback") ms) else Err fault.Document
 
@@ -117,6 +117,10 @@ abbrev pub document_bank : Option Members → Result (List Handler) BankFault
 document_bank None = Err fault.Text
 document_bank (Some ms) = bank_in ms
 
+-- rule: A text of callbacks is read as exactly the callbacks that it asks for, or refused for the first, and the part
+--   of it, that cannot be read.
+--   clauses: read_bank
+--   rows: a_bank_of_ones_own_is_played; banks_at_fault_are_refused
 -- the bank that a text is
 abbrev pub bank_of : List ℕ → Result (List Handler) BankFault
 bank_of text = if is_utf8 text then document_bank (parse_document text) else Err fault.Text

@@ -28,7 +28,7 @@ fn read_callback(table: &Table) -> Result<Planned, Part>
     }
 }
 
-/// The callback that a value stands for, which is the one with this number, from 0, of 64 at most: a table with
+/// The callback that a value means, which is the one with this number, from 0, of 64 at most: a table with
 /// `accepts` (1 where it is left out) and `do` (no rows where it is left out). Else the first part that can't be read.
 pub fn read_callback_at(number: usize, value: &Value) -> Result<Planned, Part>
     ensures ok { IfOk result (λ planned. callback_at number (view value.now) ≡ Ok (handler_of planned)) }

@@ -39,7 +39,7 @@ impl fmt::Display for Part {
 pub enum BankFault {
     /// The text isn't UTF-8, or is no TOML document.
     Text,
-    /// The document has a key but `callback`, or no list stands there.
+    /// The document has a key but `callback`, or no list is there.
     Document,
     /// The first callback that can't be read, by its number, from 0, and the part that can't.
     Callback(usize, Part),

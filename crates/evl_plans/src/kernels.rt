@@ -11,6 +11,7 @@ ghost use Rattle.evl_pipeline.specs.Plans.{answer_of};
 use crate::planned::Planned;
 use evl_base::{Board, Call, Refusal, Reply, ThreadId};
 use evl_kernel::KernelOf;
+use evl_shell::leave;
 use std::alloc::Global;
 use std::marker::Model;
 
@@ -98,6 +99,12 @@ impl PlannedKernel {
         ensures within { length self.old.history.entries ≤ self.old.limit }
     {
         self.kernel.reserve(n)
+    }
+
+    /// Lets the kernel go, as the shell does.
+    pub fn leave(self) {
+        let PlannedKernel { kernel } = self;
+        leave(kernel);
     }
 
     /// The kernel, to read it.

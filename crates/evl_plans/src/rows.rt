@@ -53,7 +53,7 @@ fn read_rows(values: &[Value]) -> Result<Rows, Part>
     Ok(rows)
 }
 
-/// The rows at `do`, at most four; none where nothing stands there. `Rows` where no list does, `Row` for the first row
+/// The rows at `do`, at most four; none where nothing is there. `Rows` where no list does, `Row` for the first row
 /// that can't be read.
 #[tactic(auto, using(crate::proofs::RowLaws::rows_periods))]
 pub fn rows_of(table: &Table) -> Result<Rows, Part>

@@ -1,4 +1,4 @@
-//! What stands at the keys of a TOML table.
+//! What is at the keys of a TOML table.
 ghost use Rattle.std.specs.Prelude.{◌≡◌};
 ghost use Rattle.std.specs.BTreeMap.{keys};
 ghost use Rattle.toml.specs.Data.{get_member};
@@ -65,7 +65,7 @@ pub fn truth_at(table: &Table, key: &str) -> Option<bool>
     }
 }
 
-// The number at a key, or 1 where nothing stands there.
+// The number at a key, or 1 where nothing is there.
 fn number_or_one(table: &Table, key: &str) -> Option<u64>
     ensures { result ≡ value_or number_from 1 (get_member key.now (table_view table.now)) }
 {
@@ -82,7 +82,7 @@ fn from_one(number: u64) -> Option<u64>
     if 1 <= number { Some(number) } else { None }
 }
 
-/// The count at a key, 1 or more; it is 1 where nothing stands there.
+/// The count at a key, 1 or more; it is 1 where nothing is there.
 pub fn count_at(table: &Table, key: &str) -> Option<u64>
     ensures { result ≡ count_at key.now (table_view table.now) }
 {

@@ -31,6 +31,8 @@ fn run_text(
     Ok(run(alloc, text, limit, bank, out))
 }
 
+// rule: A scenario over such callbacks has the trace that `run` writes, or is refused for the fault that `run` gives.
+//   clauses: trace_plans: refused
 /// The trace of a scenario's text over a bank of these callbacks, at most 64, under a limit that may be handed in (1 to
 /// 1,000,000; it replaces the text's): what `run` writes. `Text`, `Board` and `Step` say what is wrong with the text,
 /// `Memory` that a growth was refused; it is never `Write`.

@@ -72,7 +72,7 @@ cases_ordering Less = inl refl
 cases_ordering Equal = inr (inl refl)
 cases_ordering Greater = inr (inr refl)
 
--- what stands at other keys
+-- what is at other keys
 pub get_node-other : (l k : List ℕ) (x : Node) (ns : Nodes) → same_key l k ≡ false → get_node l (insert k x ns) ≡ get_node l ns
 get_node-other l k x no_nodes apart = rw apart refl
 get_node-other l k x (node j y ns) apart =
@@ -175,7 +175,7 @@ pair_line s at_sign rest k d other read is value_read ends =
     let pair = keyval_ok (val 80) s (skip_ws (drop 1 at_sign)) rest ([], k) d (key_then s at_sign k read is) value_read in
     rw (other, pair, ends) refl
 
--- the lines before `rest` are the values of a table, behind any header
+-- the lines before `rest` are the values of a table, after any header
 abbrev pub Filled : List ℕ → Members → List ℕ → Type 0
 Filled text ms rest =
     (path : List (List ℕ)) (write : Nodes → Nodes) → Opens path write → (n : ℕ) → length text < n
@@ -255,7 +255,7 @@ pub none_of : {A : Type 0} (o : Option A) → is_some o ≡ false → o ≡ None
 none_of None h = refl
 none_of (Some x) h = absurd (false≢true (sym h))
 
--- the same of maps
+-- a head whose tables are maps opens a document
 pub head_read : (text start after rest : List ℕ) (es inner all : List Entry) (k : String Global) (v : Value) → (first text == 0xEF) ≡ false
     → FillsTable text (members_view es) start → start ≡ codes "[board]" ++ after → ends_line (skip_ws after) ≡ true → FillsTable after (members_view inner) rest
     → string_bytes k ≡ codes "board" → view v ≡ table (members_view inner)
@@ -276,12 +276,12 @@ head_read text start after rest es inner all k v plain fills front ends more key
 abbrev pub step_header : Expression
 step_header = (([], codes "step"), array_table)
 
--- the document behind the tables of these steps
+-- the document after the tables of these steps
 abbrev pub IsBehind : Nodes → Items → Document → Type 0
 IsBehind root items doc =
     (define doc step_header ≡ Some (insert (codes "step") (open_array items no_nodes) root, codes "step" ∷ [])) × (close doc.0 ≡ with_steps root items)
 
--- the lines before `start` are those of these steps, behind any root without steps
+-- the lines before `start` are those of these steps, after any root without steps
 abbrev pub Added : List ℕ → List Step → List ℕ → Type 0
 Added text steps start =
     (root : Nodes) (path : List (List ℕ)) → get_node (codes "step") root ≡ None → (n : ℕ) (rest : List ℕ) → length rest < n → text ≡ skip_blank rest
@@ -364,7 +364,7 @@ added_end text start steps added empty root path none n rest room begins =
 
 -- ---- the whole
 
--- the board and the limit, by what stands at the keys
+-- the board and the limit, by what is at the keys
 abbrev opened_by : Option ℕ → Bool → Option Data → Option Data → Option (Board × ℕ)
 opened_by given keys board limit =
     if keys then option_and_then (λ b. option_map (λ l. (b, l)) (option_and_then (limit_with given) (own_limit limit))) (option_and_then board_of (option_and_then as_table board))
@@ -400,7 +400,7 @@ script_opened-is given ms items steps board limit opened tables read =
     ∙ ap (λ (o : Option Items). script_opened (Some (board, limit)) o) tables
     ∙ ap (λ (r : Result (List Step) Fault). script_with (board, limit) r) read
 
--- the document of a head and the steps behind it
+-- the document of a head and the steps after it
 pub scenario_read : (given : Option ℕ) (text start : List ℕ) (ms : Members) (steps : List Step) (board : Board) (limit : ℕ)
     → OpensDocument text ms start → AddsSteps start steps → Some (board, limit) ≡ opening_of given ms
     → document_script given (parse_document text) ≡ Ok (record { board = board; limit = limit; steps = steps })

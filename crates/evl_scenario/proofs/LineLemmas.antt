@@ -12,11 +12,11 @@ use Rattle.evl_scenario.specs.Lines.{line_feed, EndsLine, AreLines, element_coun
 feed-ends : EndsLine line_feed
 feed-ends = record { front = []; whole = refl }
 
--- a line's end ends what stands before it too
+-- a line's end ends what comes before it too
 pub ends-after : (xs ys : List ℕ) → EndsLine ys → EndsLine (xs ++ ys)
 ends-after xs ys h = record { front = xs ++ h.front; whole = ap (λ (s : List ℕ). xs ++ s) h.whole ∙ sym (append_assoc xs h.front line_feed) }
 
--- lines behind lines
+-- lines after lines
 pub lines-append : (xs ys : List ℕ) → AreLines xs → AreLines ys → AreLines (xs ++ ys)
 lines-append xs ys h (inr k) = inr (ends-after xs ys k)
 lines-append xs ys (inl none) (inl k) = inl (ap (λ (s : List ℕ). s ++ ys) none ∙ k)

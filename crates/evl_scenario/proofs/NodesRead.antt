@@ -87,7 +87,7 @@ module _ (board : Nodes) (limit : Data) where
   pairs_run done (p ∷ ps) last =
       rw (one_pair done last p) (pairs_then done ps (at_key p.0 (key_value p.1) last) (λ n. pairs_run done ps n))
 
-  -- a step's header, behind another step
+  -- a step's header, after another step
   next_header : (done : Items) (last : Nodes) → define (at_step done last) (([], codes "step"), array_table) ≡ Some (at_step (push_item done (table (close last))) no_nodes)
   unfolding define along_header at_key
   next_header done last = refl

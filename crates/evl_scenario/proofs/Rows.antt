@@ -40,7 +40,7 @@ finish-by_itself = refl
 finish-keep : call_of Finish (member (codes "keep") (boolean true) no_members) ≡ Some (make.Finish true)
 finish-keep = refl
 
--- what is taken from a flag group: all bits by their word alone; any other word has a mask behind a space
+-- what is taken from a flag group: all bits by their word alone; any other word has a mask after a space
 take-any : take_of (codes "any") ≡ Some Any
 take-any = refl
 

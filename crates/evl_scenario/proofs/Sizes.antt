@@ -1,4 +1,4 @@
--- A list that isn't a pair stands for no sizes.
+-- A list that isn't a pair gives no sizes.
 use Rattle.std.proofs.Common.{arith, ◌≡◌, ◌<◌, ◌≤◌, List, [], ◌∷◌, length, None, refl}
 use Rattle.toml.specs.View.{items_view}
 use Rattle.toml.specs.declared.value.Value.{Value}

@@ -42,7 +42,7 @@ lists :
 unfolding digits
 lists = refl
 
--- an integer of TOML has 63 bits, so a larger number stands in quotes; no deadline is `none`
+-- an integer of TOML has 63 bits, so a larger number is in quotes; no deadline is `none`
 large_number :
     table_text (record { who = record { 0 = 2 }; call = make.Tick 18446744073709551615 })
     ≡ codes "\n[[step]]\ndo = \"tick\"\nwho = 2\ndelta = \"18446744073709551615\"\n"

@@ -36,11 +36,11 @@ board_keys = codes "threads" ∷ codes "sems" ∷ codes "flags" ∷ codes "xbufs
 abbrev pub in_range : Board → Option Board
 in_range board = if board_fits board then Some board else None
 
--- the board that a table's lists stand for, with so many threads
+-- the board that a table's lists mean, with so many threads
 abbrev pub elements_of : ℕ → Members → Option Board
 elements_of threads ms = option_and_then in_range (board_with threads ms)
 
--- the board that a table stands for
+-- the board that a table means
 abbrev pub board_of : Members → Option Board
 board_of ms = if has_only board_keys ms then option_and_then (λ threads. elements_of threads ms) (value_at half_word_from (codes "threads") ms) else None
 

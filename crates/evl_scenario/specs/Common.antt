@@ -1,4 +1,4 @@
--- What the clauses of the reader of the common shape cite: how the lines of a document go on behind what was read.
+-- What the clauses of the reader of the common shape cite: how the lines of a document go on after what was read.
 use Rattle.std.specs.Prelude.{◌≡◌, ℕ, ◌<◌, true, List, [], ◌∷◌, ◌++◌, length, codes, Option, Some, None, option_map, Ok}
 use Rattle.toml_parser.specs.Lexical.{skip_blank}
 use Rattle.toml.specs.Data.{Data, array, Items, no_items, item, Members, no_members, member}
@@ -21,12 +21,17 @@ abbrev pub GoesOn : ℕ → Document → List ℕ → Document → List ℕ → 
 GoesOn n doc text next start =
     (m : ℕ) × (rest : List ℕ) × (length rest < m) × (start ≡ skip_blank rest) × (lines n doc text ≡ lines m next rest)
 
--- the lines before `start` are the values of a table, behind any header
+-- the lines before `start` are the values of a table, after any header
 abbrev pub FillsTable : List ℕ → Members → List ℕ → Type 0
 FillsTable text ms start =
     (path : List (List ℕ)) (write : Nodes → Nodes) → Opens path write → (n : ℕ) → length text < n
     → GoesOn n (write no_nodes, path) text (write (held ms), path) start
 
+-- rule: A text of only bare keys, `[board]` and then `[[step]]` tables is read a step at a time, as the document that
+--   it is; any other text is read whole.
+--   also: Common.{FillsTable, AddsSteps}
+--   clauses: read_head; read_step_tables; read_common
+--   rows: longest_text; whole_board; colourful_step; shape_changes_midway
 -- the lines before `start` are those of a table without steps
 abbrev pub OpensDocument : List ℕ → Members → List ℕ → Type 0
 OpensDocument text ms start =
@@ -38,7 +43,7 @@ abbrev pub with_steps : Nodes → Items → Members
 with_steps root no_items = close root
 with_steps root (item d ds) = close (insert (codes "step") (value (array (item d ds))) root)
 
--- the lines from `start` on are those of these steps, behind any root without steps
+-- the lines from `start` on are those of these steps, after any root without steps
 abbrev pub AddsSteps : List ℕ → List Step → Type 0
 AddsSteps start steps =
     (root : Nodes) (path : List (List ℕ)) → get_node (codes "step") root ≡ None → (n : ℕ) (rest : List ℕ) → length rest < n → start ≡ skip_blank rest

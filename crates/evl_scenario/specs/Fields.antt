@@ -1,4 +1,4 @@
--- How what stands behind the keys of a step is read: a value by its kind, and the values of a table at the keys of a form.
+-- How the values at the keys of a step are read: a value by its kind, and the values of a table at the keys of a form.
 use Rattle.std.specs.Prelude.{ℕ, List, [], ◌∷◌, Option, Some, None, option_map, option_and_then}
 use Rattle.toml.specs.Data.{Data, Members, get_member}
 use Rattle.evl_base.specs.Fields.{Value, Key, Values}
@@ -10,7 +10,7 @@ use Rattle.evl_scenario.specs.Takes.{take_from}
 use Rattle.evl_scenario.specs.Transfers.{bytes_from, way_from}
 use Rattle.evl_scenario.specs.Values.{number_from, word_from, half_word_from, byte_from, stage_from, truth_from, until_from}
 
--- the value that a TOML value stands for where this kind is wanted
+-- the value that a TOML value means where this kind is wanted
 abbrev pub value_from : (kind : Kind) → Data → Option (Value kind)
 value_from kind.Byte = byte_from
 value_from kind.Half = half_word_from

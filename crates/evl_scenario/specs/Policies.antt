@@ -12,6 +12,8 @@ small_number text = number_below (2 ^ 8) (text_number text)
 abbrev pub round_robin : List ℕ × List ℕ → Option Policy
 round_robin (prio, slice) = option_and_then (λ n. option_map (Rr n) (text_number slice)) (small_number prio)
 
+-- rule: A quota group's number has 16 bits, a priority 8, with one space between them.
+--   rows: bad_steps
 abbrev pub quota : List ℕ × List ℕ → Option Policy
 quota (group, prio) = option_and_then (λ n. option_map (Quota n) (small_number prio)) (number_below (2 ^ 16) (text_number group))
 

@@ -47,6 +47,9 @@ steps_of n (item value rest) = with_first n (step_of value) (steps_of (n + 1) re
 abbrev pub document_keys : List (List ℕ)
 document_keys = codes "limit" ∷ codes "board" ∷ codes "step" ∷ []
 
+-- rule: A text without a board or its threads is a bad board. An unknown step word is a bad step.
+--   also: Boards.board_with; Steps.word_of
+--   rows: longest_text; bad_boards
 -- the board and the limit
 abbrev pub opening_of : Option ℕ → Members → Option (Board × ℕ)
 opening_of given ms =
@@ -72,6 +75,15 @@ abbrev pub document_script : Option ℕ → Option Members → Result Script Fau
 document_script given None = Err fault.Text
 document_script given (Some ms) = script_of given ms
 
+-- rule: The text is checked whole (length and UTF-8, TOML, board and limit, then steps); at the first fault nothing is
+--   written.
+--   also: Scenarios.script_opened
+--   clauses: run
+--   rows: bad_texts; longest_text; cut_after_board; cut_in_a_key; cut_in_the_second_step; open_quote;
+--   each_cut_has_its_fault
+-- refusals: run
+--   order: Text, Board, Step; Memory may come before any of them, Write after them
+--   clauses: run: refused, memory, write
 -- what a text asks to be played
 abbrev pub scenario_of : Option ℕ → List ℕ → Result Script Fault
 scenario_of given text =

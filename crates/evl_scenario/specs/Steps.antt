@@ -1,4 +1,4 @@
--- The step that a table of a scenario stands for.
+-- The step that a table of a scenario means.
 use Rattle.std.specs.Prelude.{ℕ, List, [], ◌∷◌, map, if◌then◌else◌, Option, Some, None, option_map, option_and_then, codes}
 use Rattle.std.specs.Str.{bytes_eq}
 use Rattle.toml.specs.Data.{Data, Members, as_table}
@@ -19,6 +19,10 @@ named_among (word ∷ rest) text = if bytes_eq text (name_of word) then Some wor
 abbrev pub word_of : List ℕ → Option StepWord
 word_of text = named_among words text
 
+-- rule: A step has `do`, `who` and exactly its word's keys, in any order; only `tag`, `until` and `keep` have a
+--   default.
+--   also: Steps.call_of
+--   rows: bad_steps; steps_in_one_array; post_flags; raise; release; room
 -- the keys of a step with this word
 abbrev pub keys_of : StepWord → List (List ℕ)
 keys_of word = codes "do" ∷ codes "who" ∷ map (λ key. key.name) (fields_of word)

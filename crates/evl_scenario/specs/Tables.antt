@@ -1,4 +1,4 @@
--- What stands at the keys of a TOML table.
+-- What is at the keys of a TOML table.
 use Rattle.std.specs.Prelude.{ℕ, List, [], ◌∷◌, length, Bool, true, ◌&&◌, nat_le, if◌then◌else◌, Option, Some, None, option_map, option_and_then}
 use Rattle.std.specs.List.{list_any}
 use Rattle.std.specs.Str.{bytes_eq}
@@ -8,7 +8,7 @@ use Rattle.toml.specs.Data.{Data, Members, no_members, member, Items, no_items, 
 abbrev pub value_at : {A : Type 0} → (Data → Option A) → List ℕ → Members → Option A
 value_at gives key table = option_and_then gives (get_member key table)
 
--- the value at a key, or this one where nothing stands there
+-- the value at a key, or this one where nothing is there
 abbrev pub value_or : {A : Type 0} → (Data → Option A) → A → Option Data → Option A
 value_or gives default None = Some default
 value_or gives default (Some value) = gives value
@@ -17,7 +17,7 @@ value_or gives default (Some value) = gives value
 abbrev pub text_at : List ℕ → Members → Option (List ℕ)
 text_at key table = option_and_then as_str (get_member key table)
 
--- what the items stand for, where each stands for something
+-- what the items mean, where each means something
 abbrev pub all_given : {A : Type 0} → (Data → Option A) → Items → Option (List A)
 all_given gives no_items = Some []
 all_given gives (item value rest) = option_and_then (λ x. option_map (λ xs. x ∷ xs) (all_given gives rest)) (gives value)
@@ -26,7 +26,7 @@ all_given gives (item value rest) = option_and_then (λ x. option_map (λ xs. x 
 abbrev pub at_most_items : {A : Type 0} → ℕ → List A → Option (List A)
 at_most_items most xs = if nat_le (length xs) most then Some xs else None
 
--- the list that stands at a key, which is empty where nothing does
+-- the list at a key, which is empty where nothing is there
 abbrev pub list_of : {A : Type 0} → (Data → Option A) → ℕ → Option Data → Option (List A)
 list_of gives most None = Some []
 list_of gives most (Some value) = option_and_then (at_most_items most) (option_and_then (all_given gives) (as_array value))

@@ -10,11 +10,16 @@ use Rattle.evl_scenario.specs.Writings.{step_of_entry}
 abbrev pub entry_line : ℕ → Entry → List ℕ
 entry_line number entry = line_text (Some number) (step_of_entry entry) entry.reply
 
+-- rule: A history's trace is the board's line and, for each entry, its line, numbered from 1, and one for each of its
+--   plays; or memory ran out.
+--   also: Traces.{lines_behind, history_trace}
+--   clauses: histories_play_again; trace_history; write_board_line; write_entry; trace_kernel
+--   rows: history_is_traced_as_it_is_run; plays_are_traced_as_they_are_run
 -- and the lines of its plays
 abbrev pub entry_lines : ℕ → Entry → List Play → List ℕ
 entry_lines number entry plays = entry_line number entry ++ play_lines plays
 
--- the lines of entries that stand behind so many others; of the plays that are left each takes as many as it counts
+-- the lines of entries that come after so many others; of the plays that are left each takes as many as it counts
 abbrev pub lines_behind : ℕ → List Entry → List Play → List ℕ
 lines_behind count [] plays = []
 lines_behind count (entry ∷ rest) plays =

@@ -17,6 +17,8 @@ way_of text =
 abbrev pub way_from : Data → Option Way
 way_from value = option_and_then way_of (as_str value)
 
+-- rule: Bytes are a text of 0 to 512 hexadecimal digits of either case, two a byte; `-` is refused.
+--   rows: bytes
 -- two hexadecimal digits for each byte, of either case; at most 256 bytes
 abbrev pub bytes_of : List ℕ → Option (ArrayVec ℕ)
 bytes_of text = if nat_lt 512 (length text) then None else option_map (λ bytes. record { items = bytes }) (result_ok (decode_of text))

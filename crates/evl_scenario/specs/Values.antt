@@ -1,4 +1,4 @@
--- What a TOML value stands for in a scenario.
+-- What a TOML value means in a scenario.
 use Rattle.std.specs.Prelude.{ℕ, ◌==◌, nat_eq, codes, drop, ◌^◌, List, length, Bool, ◌&&◌, nat_lt, decimal, if◌then◌else◌, Option, Some, None, option_map, option_and_then, pos}
 use Rattle.std.specs.List.{starts_with, position_or_len, before_first, after_first}
 use Rattle.std.specs.Str.{bytes_eq}
@@ -19,16 +19,21 @@ text_number text =
 abbrev pub is_space : ℕ → Bool
 is_space byte = byte == 32
 
--- what stands before the first space, and what behind it
+-- what is before the first space, and what is after it
 abbrev pub around_space : List ℕ → Option (List ℕ × List ℕ)
 around_space text = if nat_lt (position_or_len is_space text) (length text) then Some (before_first is_space text, after_first is_space text) else None
 
+-- rule: A number is a TOML integer from 0, in any form, or a text of decimal digits without leading zeros.
+--   also: Values.text_number
+--   rows: forms_of_numbers; forms_of_no_number; rare_numbers
 -- an integer that isn't negative, or the text of a number
 abbrev pub number_from : Data → Option ℕ
 number_from (integer (pos n)) = Some n
 number_from (string text) = text_number text
 number_from _ = None
 
+-- rule: A number that fits its width but is outside the board goes to the kernel; one that does not fit is a bad step.
+--   rows: bank_and_tags; bad_steps
 -- the number, where it is below a bound
 abbrev pub number_below : ℕ → Option ℕ → Option ℕ
 number_below bound number = option_and_then (λ n. if nat_lt n bound then Some n else None) number
@@ -45,6 +50,9 @@ byte_from value = number_below (2 ^ 8) (number_from value)
 abbrev pub thread_from : Data → Option ThreadId
 thread_from value = option_map (λ n. record { 0 = n }) (half_word_from value)
 
+-- rule: Stages, ways, kinds and policies are exactly their texts, with one space between two parts.
+--   also: Transfers.way_of; Takes.take_of; Policies.policy_of
+--   rows: way; take; two_spaces
 abbrev pub stage_of : List ℕ → Option Stage
 stage_of text =
     if bytes_eq text (codes "inband") then Some Inband
@@ -58,10 +66,15 @@ stage_from value = option_and_then stage_of (as_str value)
 abbrev pub until_of : List ℕ → Option (Option ℕ)
 until_of text = if bytes_eq text (codes "none") then Some None else option_map Some (text_number text)
 
+-- rule: The deadline of a wait is a number or the text `none`; without the key there is none.
+--   also: Steps.call_of
+--   rows: until; begin_get; begin_read; begin_take
 abbrev pub until_from : Data → Option (Option ℕ)
 until_from (string text) = until_of text
 until_from value = option_map Some (number_from value)
 
+-- rule: `keep` is a truth value of TOML, false without the key.
+--   rows: keep; finish
 -- a truth value of TOML, and no text of one
 abbrev pub truth_from : Data → Option Bool
 truth_from value = as_bool value

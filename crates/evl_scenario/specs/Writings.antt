@@ -72,6 +72,13 @@ data_of (a_truth truth) = boolean truth
 abbrev pub pair_of : Keyed → Pair
 pair_of keyed = (keyed.0, data_of keyed.1)
 
+-- rule: A history is written with all keys and reads as exactly its board, limit and steps. It is not written exactly
+--   if the board has a stax or a number outside its limits, the limit is out of range, the text would be too long, or
+--   memory ran out.
+--   also: Writings.{board_pairs, wide}; Plays.text
+--   clauses: write_scenario: reads_back, refused; write_opening; write_step
+--   rows: one_step; lists; large_number; largest_integer; policy; no_bytes; each_call_is_written;
+--   limit_is_that_of_a_scenario; lock_of_a_board_has_no_key; text_is_no_longer_than_a_scenario
 -- the keys of a call with their values, in the order of a trace
 abbrev pub call_pairs : Call → List Pair
 call_pairs call = map pair_of (told_in call)
@@ -90,7 +97,7 @@ board_pairs board =
 
 -- ---- texts
 
--- a value behind its key: a text in quotes, and a list in brackets with a comma and a space between two values
+-- a value after its key: a text in quotes, and a list in brackets with a comma and a space between two values
 abbrev mutual
   pub value_text : Data → List ℕ
   value_text (string s) = codes "\"" ++ (s ++ codes "\"")
@@ -137,6 +144,8 @@ script_of_history board limit entries = record { board = board; limit = limit; s
 abbrev pub has_keys : Board → Bool
 has_keys board = board_fits board && (length board.staxes.items == 0)
 
+-- rule: Staxes on a board change neither whether a history is legal nor its trace.
+--   clauses: staxes_leave_no_trace
 -- a board without its stage exclusion locks, of which no call of a history speaks
 abbrev pub without_staxes : Board → Board
 without_staxes board = record {
@@ -149,6 +158,8 @@ without_staxes board = record {
   staxes = record { items = [] };
 }
 
+-- refusals: write_scenario
+--   order: Board, Limit, TooLong; Memory may come before any of them
 -- why there is no scenario of a board, a limit and steps: the first of these that is so
 abbrev pub IsUnwritten : Unwritten → Script → Type 0
 IsUnwritten unwritten.Board script = has_keys script.board ≡ false

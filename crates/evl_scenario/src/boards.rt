@@ -10,7 +10,7 @@ use arrayvec::ArrayVec;
 use evl_base::Board;
 use toml::Table;
 
-/// The board that a table stands for, where it has no other keys and all of its numbers are in their ranges.
+/// The board that a table means, where it has no other keys and all of its numbers are in their ranges.
 /// It has no stage exclusion locks: they have no key.
 pub fn read_board(table: &Table) -> Option<Board>
     ensures { result ≡ board_of (table_view table.now) }
@@ -50,7 +50,7 @@ pub fn is_limit_in_range(limit: u32) -> bool
     1 <= limit && limit <= 1_000_000
 }
 
-// The limit that stands in a document.
+// The limit in a document.
 fn read_own_limit(table: &Table) -> Option<u32>
     ensures { result ≡ own_limit (get_member (codes "limit") (table_view table.now)) }
 {

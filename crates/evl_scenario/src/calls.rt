@@ -1,5 +1,5 @@
-//! What is made of the list of the calls for steps: the word that a text is, its keys, and the call that a table stands
-//! for.
+//! What is made of the list of the calls for steps: the word that a text is, its keys, and the call that a table
+//! means.
 ghost use Rattle.std.specs.Prelude.{◌≡◌, ◌≤◌, map};
 ghost use Rattle.toml.specs.View.{table_view};
 ghost use Rattle.evl_base.specs.Calls.{words, clock_words, thread_words, sem_words, flag_words, buffer_words, wait_words};

@@ -1,4 +1,4 @@
-//! Scenarios of the common shape, read a step at a time: bare keys with scalars and lists, `[board]`, and behind it
+//! Scenarios of the common shape, read a step at a time: bare keys with scalars and lists, `[board]`, and after it
 //! nothing but `[[step]]` tables. Of any other text nothing is said.
 ghost use Rattle.std.specs.Prelude.{◌≡◌, ℕ, ◌+◌, ◌<◌, ◌≤◌, ◌==◌, ◌++◌, [], true, false, length, string_bytes, Some, IfSome};
 ghost use Rattle.toml_parser.specs.Lexical as spec;
@@ -129,7 +129,7 @@ fn is_line_end(s: &str) -> bool
     end.is_empty() || matches!(first(end), b'#' | b'\n' | b'\r')
 }
 
-// A key without dots with what stands behind it, on a line of their own, and what follows them.
+// A key without dots with what comes after it, on a line of their own, and what follows them.
 fn read_pair(alloc: Global, s: &str) -> Option<(String, Value, &str)>
     ensures value { IfSome result (λ p. (spec.first s.now == 91) ≡ false → line s.now ≡ Some ((([], string_bytes p.0), key_value (view p.1)), p.2.now)) }
     ensures shorter { IfSome result (λ p. length p.2.now < length s.now) }
@@ -151,7 +151,7 @@ fn read_pair(alloc: Global, s: &str) -> Option<(String, Value, &str)>
     }
 }
 
-// The keys with what stands behind them up to a header or the end, and what follows them.
+// The keys with what comes after them up to a header or the end, and what follows them.
 fn read_pairs(alloc: Global, s: &str) -> Option<(Table, &str)>
     ensures fills { IfSome result (λ p. FillsTable s.now (table_view p.0) p.1.now) }
     ensures within { IfSome result (λ p. length p.1.now ≤ length s.now) }

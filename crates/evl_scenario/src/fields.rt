@@ -5,7 +5,7 @@ use crate::value_texts::{Digits, Moment, Until};
 use evl_base::{Field, Fields, Named};
 use std::fmt;
 
-/// What stands behind a key of a call.
+/// The value of a key of a call.
 #[derive(Drop)]
 struct Written<'a>(Field<'a>);
 
@@ -35,7 +35,7 @@ impl<'a> fmt::Display for Written<'a> {
     }
 }
 
-/// A key of a call with what stands behind it.
+/// A key of a call with what comes after it.
 #[derive(Drop)]
 struct Line<'a>(Named<'a>);
 

@@ -7,7 +7,7 @@ use crate::value_texts::KindText;
 use evl_base::MutexKind;
 use std::alloc::{AllocError, Allocator};
 
-/// What can stand in a list of a scenario.
+/// What can be in a list of a scenario.
 pub trait Listed: Copy {
     ghost use Rattle.toml.specs.Data.{Data};
     ghost use Rattle.std.specs.Prelude.{◌≡◌, ◌++◌, OnOk, string_bytes};
@@ -15,7 +15,7 @@ pub trait Listed: Copy {
 
     ghost data_of: { Self → Data };
 
-    /// Writes the value behind a text. `AllocError` where the text couldn't grow; what it holds then isn't known.
+    /// Writes the value after a text. `AllocError` where the text couldn't grow; what it holds then isn't known.
     fn write_to<A: Allocator>(self, text: &mut String<A>) -> Result<(), AllocError>
         ensures { OnOk result (string_bytes text.new ≡ string_bytes text.old ++ value_text (data_of self)) };
 }
@@ -63,7 +63,7 @@ impl Listed for MutexKind {
     }
 }
 
-// Writes the values that stand behind the first one, and the end of the list.
+// Writes the values that come after the first one, and the end of the list.
 fn write_others<A: Allocator, T: Listed>(
     text: &mut String<A>,
     others: &[T],

@@ -98,7 +98,7 @@ fn step_number(index: usize) -> u32
     u32::try_from(index).unwrap_or(u32::MAX).saturating_add(1)
 }
 
-// The steps that these tables stand for.
+// The steps that these tables mean.
 fn read_steps(alloc: Global, values: &[Value]) -> Result<Vec<Step>, Fault>
     ensures ok { IfOk result (λ steps. steps_of 1 (items_view values.now) ≡ Ok steps.items) }
     ensures err { IfErr result (λ e. (e ≡ Fault.Memory) ⊎ (steps_of 1 (items_view values.now) ≡ Err e)) }
@@ -183,8 +183,13 @@ fn read_text(alloc: Global, text: &str, given: Option<u32>) -> Result<Scenario, 
     }
 }
 
+// rule: Each key is read as SCENARIOS says, with its default and range; unknown keys are refused. The text's limit and
+//   one handed in must both be in range.
+//   clauses: read_scenario; read_board; read_step
+//   rows: whole_board; bad_boards; faults_in_order; colourful_step; too_many_threads; later_bad_steps;
+//   what_stands_below_the_board_is_told
 /// What a text asks to be played, under a limit that may be handed in. `Text` for a text of more than 1,048,576 bytes,
-/// of other bytes than UTF-8, or of no document; `Board` and `Step` for what stands in it; `Memory` where a growth was
+/// of other bytes than UTF-8, or of no document; `Board` and `Step` for what is in it; `Memory` where a growth was
 /// refused.
 pub fn read_scenario(alloc: Global, text: &[u8], given: Option<u32>) -> Result<Scenario, Fault>
     ensures ok { IfOk result (λ scenario. scenario_of given text.now ≡ Ok scenario) }

@@ -5,7 +5,7 @@ use crate::fields::Lines;
 use evl_base::{Call, ThreadId, fields_in, step_word};
 use std::fmt;
 
-/// The table of a step, as a scenario has it: behind an empty line its header, and then each key with its value on a
+/// The table of a step, as a scenario has it: after an empty line its header, and then each key with its value on a
 /// line of its own.
 #[derive(Drop)]
 pub struct StepTable<'a> {

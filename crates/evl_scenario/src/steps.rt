@@ -26,7 +26,7 @@ pub fn step_keys_of(word: &str) -> Option<&'static [&'static str]>
     }
 }
 
-/// The step that a table stands for: one with a word, a thread, and just the keys of the word. The bytes of its call, if
+/// The step that a table means: one with a word, a thread, and just the keys of the word. The bytes of its call, if
 /// it carries any, lie in a box of `spares`.
 pub fn read_step_table(table: &Table, spares: &mut Spares<Global>) -> Option<Step>
     requires there { 1 ≤ spares.old }
@@ -42,7 +42,7 @@ pub fn read_step_table(table: &Table, spares: &mut Spares<Global>) -> Option<Ste
     Some(Step { who, call })
 }
 
-/// The step that a TOML value stands for, which is a table.
+/// The step that a TOML value means, which is a table.
 pub fn read_step(value: &Value, spares: &mut Spares<Global>) -> Option<Step>
     requires there { 1 ≤ spares.old }
     ensures { result ≡ step_of (view value.now) }

@@ -1,4 +1,4 @@
-//! What stands at the keys of a TOML table.
+//! What is at the keys of a TOML table.
 ghost use Rattle.std.specs.Prelude.{◌≡◌, option_map, option_and_then, map, string_bytes};
 ghost use Rattle.std.specs.List.{list_all, list_any};
 ghost use Rattle.std.specs.Str.{bytes_eq};
@@ -11,7 +11,7 @@ use crate::values::FromToml;
 use arrayvec::ArrayVec;
 use toml::{Table, Value};
 
-/// What stands at a key.
+/// What is at a key.
 pub fn field<'a>(table: &'a Table, key: &str) -> Option<&'a Value>
     ensures { option_map (λ v. view v.now) result ≡ get_member key.now (table_view table.now) }
 {
@@ -28,7 +28,7 @@ pub fn at<T: FromToml>(table: &Table, key: &str) -> Option<T>
     }
 }
 
-/// The value at a key, or this one where nothing stands there.
+/// The value at a key, or this one where nothing is there.
 pub fn at_or<T: FromToml + Drop>(table: &Table, key: &str, default: T) -> Option<T>
     ensures { result ≡ value_or T.gives default (get_member key.now (table_view table.now)) }
 {
@@ -48,7 +48,7 @@ pub fn at_text<'a>(table: &'a Table, key: &str) -> Option<&'a str>
     }
 }
 
-// The values that all of these stand for, where there are at most so many.
+// The values that all of these mean, where there are at most so many.
 fn read_all<T: FromToml + Default + Drop, const N: usize>(
     values: &[Value],
 ) -> Option<ArrayVec<T, N>>
@@ -66,7 +66,7 @@ fn read_all<T: FromToml + Default + Drop, const N: usize>(
     Some(list)
 }
 
-/// The list at a key, which is empty where nothing stands there.
+/// The list at a key, which is empty where nothing is there.
 pub fn list_at<T: FromToml + Default + Drop, const N: usize>(
     table: &Table,
     key: &str,

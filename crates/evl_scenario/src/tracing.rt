@@ -70,7 +70,7 @@ impl<'a> fmt::Display for EntryLine<'a> {
     }
 }
 
-/// Writes the first line of a trace behind a text: how many threads and elements there are, and the limit. `AllocError`
+/// Writes the first line of a trace after a text: how many threads and elements there are, and the limit. `AllocError`
 /// where the text couldn't grow; what it holds then isn't known.
 pub fn write_board_line<A: Allocator>(
     text: &mut String<A>,
@@ -82,7 +82,7 @@ pub fn write_board_line<A: Allocator>(
     text.write(board_line(board, limit))
 }
 
-// Writes the lines of some plays behind a text.
+// Writes the lines of some plays after a text.
 fn write_plays<A: Allocator>(text: &mut String<A>, plays: &[Play]) -> Result<(), AllocError>
     ensures { OnOk result (string_bytes text.new ≡ string_bytes text.old ++ play_lines plays.now) }
 {
@@ -95,7 +95,7 @@ fn write_plays<A: Allocator>(text: &mut String<A>, plays: &[Play]) -> Result<(),
     Ok(())
 }
 
-/// Writes the lines of an entry behind a text: that of its call, with the number that the entry has in its history,
+/// Writes the lines of an entry after a text: that of its call, with the number that the entry has in its history,
 /// from 1, and one for each of its plays. `AllocError` where the text couldn't grow; what it holds then isn't known.
 pub fn write_entry<A: Allocator>(
     text: &mut String<A>,

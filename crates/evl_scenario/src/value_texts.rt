@@ -1,4 +1,4 @@
-//! The texts of values, as a scenario has them behind their keys.
+//! The texts of values, as a scenario has them after their keys.
 ghost use Rattle.std.specs.Prelude.{Some};
 
 use evl_base::MutexKind;

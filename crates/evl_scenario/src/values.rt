@@ -7,12 +7,12 @@ ghost use Rattle.evl_scenario.specs.Values.{number_from, text_number, word_from,
 use evl_base::{MutexKind, Stage, ThreadId};
 use toml::Value;
 
-/// A value that a TOML value may stand for.
+/// A value that a TOML value may mean.
 pub trait FromToml: Sized {
-    /// What a TOML value stands for, if it does.
+    /// What a TOML value means, if it does.
     ghost gives: { Data → Option Self };
 
-    /// The value, where the TOML value stands for one.
+    /// The value, where the TOML value means one.
     fn from_toml(value: &Value) -> Option<Self>
         ensures { result ≡ gives (view value.now) };
 }

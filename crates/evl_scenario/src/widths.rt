@@ -65,7 +65,7 @@ fn know_bytes(bytes: &Transfer)
     know_each(bytes.as_slice())
 }
 
-// What stands behind a key.
+// The value of a key.
 fn know_field(field: Field<'_>)
     ensures { Fits (seen field.entry) }
 {
@@ -84,7 +84,7 @@ fn know_field(field: Field<'_>)
     }
 }
 
-// What stands behind the keys of a call.
+// The values at the keys of a call.
 fn know_fields(fields: Fields<'_>)
     ensures { AllFit (all_told fields.entry) }
 {

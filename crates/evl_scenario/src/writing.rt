@@ -38,7 +38,7 @@ fn is_short<A: Allocator>(text: &String<A>) -> bool
     text.len() <= MOST_BYTES
 }
 
-/// Writes the limit and the board behind a text, as the head of a scenario. `AllocError` where the text couldn't grow;
+/// Writes the limit and the board after a text, as the head of a scenario. `AllocError` where the text couldn't grow;
 /// what it holds then isn't known. Stage exclusion locks of the board aren't written.
 pub fn write_opening<A: Allocator>(
     text: &mut String<A>,
@@ -57,7 +57,7 @@ pub fn write_opening<A: Allocator>(
     Ok(())
 }
 
-/// Writes a step behind a text: an empty line, and a table with its word, its thread and the keys of its call.
+/// Writes a step after a text: an empty line, and a table with its word, its thread and the keys of its call.
 /// `AllocError` where the text couldn't grow; what it holds then isn't known.
 pub fn write_step<A: Allocator>(
     text: &mut String<A>,

@@ -1,4 +1,4 @@
--- A thread that stands alone, apart from the queues.
+-- A thread that is alone, apart from the queues.
 use Rattle.std.proofs.Common.{◌≡◌, ◌≢◌, ℕ, suc, zero, ◌<◌, ◌==◌, Bool, true, false, List, [], ◌∷◌, length, Option, Some, None, is_some, slice_set, slice_index_or, if◌then◌else◌, refl, sym, ap, ◌∙◌, subst, arith}
 use Rattle.std.proofs.lemmas.Bool.{false≢true, eqb-true}
 use Rattle.std.proofs.lemmas.Bool.Decides.{nat_tests}
@@ -40,7 +40,7 @@ module _ (places : List (Option Place)) (alone : Alone) (h : IsApart places (Som
   pub place-beside : (t : ℕ) → (alone.thread == t) ≡ false → place_of places t ≡ place_of all t
   place-beside t ne = sym (others-place t (λ e. absurd (grind (arith, nat_tests))))
 
-  -- nobody goes before who stands alone, where nobody else stands, or the first of the others doesn't
+  -- nobody goes before the thread that is alone, where there are no others, or the first of the others doesn't
   pub alone-first : ((t : ℕ) (b : Place) → place_of places t ≡ Some b → IsNotAfter alone.place b) → IsFirstPlace all (Some alone.thread)
   alone-first first = (ap is_some its-place, λ t a b at bt. by t a b at bt (t == alone.thread) refl)
     where
@@ -56,7 +56,7 @@ module _ (places : List (Option Place)) (alone : Alone) (h : IsApart places (Som
           let other : t ≢ alone.thread = λ e. absurd (grind (arith, nat_tests)) in
           subst (λ (p : Place). IsNotAfter p b) (mine a at) (first t b (sym (others-place t other) ∙ bt))
 
-  -- the first of the others goes before who stands alone
+  -- the first of the others goes before the thread that is alone
   pub other-first : (n : ℕ) (place : Place) → place_of places n ≡ Some place → IsFirstPlace places (Some n) → IsNotAfter place alone.place → IsFirstPlace all (Some n)
   other-first n place at first before = (ap is_some there, λ t a b an bt. by t a b an bt (t == alone.thread) refl)
     where
@@ -78,13 +78,13 @@ module _ (places : List (Option Place)) (alone : Alone) (h : IsApart places (Som
           let other : t ≢ alone.thread = λ e. absurd (grind (arith, nat_tests)) in
           first.1 t a b (at ∙ ap Some (mine a an)) (sym (others-place t other) ∙ bt)
 
-  -- who stands alone goes
+  -- the thread that is alone goes
   pub alone-gone : (t : ℕ) → (alone.thread == t) ≡ true → places ≡ slice_set all t None
   alone-gone t is =
       subst (λ u. places ≡ slice_set all u None) (eqb-true alone.thread t is)
       (sym (set-none places alone.thread h.1) ∙ sym (set-set places alone.thread (Some alone.place) None))
 
--- the first of the others, and who stands alone
+-- the first of the others, and the thread that is alone
 pub first-both : (places : List (Option Place)) (alone : Alone) → IsApart places (Some alone) → (n : ℕ) (place : Place) → place_of places n ≡ Some place
     → IsFirstPlace places (Some n) → (b : Bool) → goes_before place alone.place ≡ b → IsFirstPlace (with_alone places (Some alone)) (Some (if b then n else alone.thread))
 first-both places alone h n place at first true before = other-first places alone h n place at first (not_after place alone.place before)
@@ -97,7 +97,7 @@ module _ (places : List (Option Place)) (t : ℕ) where
   alone-set None ne place = refl
   alone-set (Some alone) ne place = set-apart places t alone.thread place (Some alone.place) (λ e. absurd (grind (arith, nat_tests)))
 
-  -- whoever has no place isn't alone, and stands in no queue
+  -- a thread that has no place isn't alone, and is in no queue
   pub free-other : (alone : Option Alone) → IsApart places alone → place_of (with_alone places alone) t ≡ None → is_alone alone t ≡ false
   free-other None h free = refl
   free-other (Some alone) h free = by (alone.thread == t) refl

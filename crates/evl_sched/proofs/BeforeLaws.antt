@@ -1,4 +1,4 @@
--- A walk to a thread ends behind the one that is linked to it.
+-- A walk to a thread ends at the cell that is linked to it.
 use Rattle.std.proofs.Common.{◌≡◌, ◌≢◌, ℕ, suc, zero, ◌<◌, ◌≤◌, ◌==◌, Bool, true, false, ◌||◌, List, [], ◌∷◌, length, Option, Some, None, is_some, refl, sym, ap, ◌∙◌, subst, arith}
 use Rattle.std.proofs.lemmas.Bool.{false≢true, eqb-true, ne_eqb}
 use Rattle.std.proofs.Math.Bool.{or-true}
@@ -26,7 +26,7 @@ module _ (links : List (Option ℕ)) (before n : ℕ) (linked : next_in links (c
   in-rest [] e = e
   in-rest (t ∷ ts) e = ap (λ b. (t == n) || b) e ∙ or-true (t == n)
 
-  -- it isn't the first of a chain in which the other stands
+  -- it isn't the first of a chain that the other is in
   follows : (c : ℕ) (ts : List ℕ) → IsChain links c ts → is_in ts before ≡ true → is_in (rest ts) n ≡ true
   follows c [] e there = absurd (false≢true there)
   follows c (u ∷ us) e there = by (λ there. follows (cell_of u) us e.1 there) (u == before) refl there
@@ -58,7 +58,7 @@ pub before-reached : (places : List (Option Place)) (links : List (Option ℕ)) 
 before-reached places links marks h queue low before n stands linked =
     sym (walk-before links before n linked (length places) queue (h.line queue) (h.chain queue low) (lines-few places links marks h queue) (h.once queue) (h.member queue before ∙ stands))
 
--- who is first stands behind the queue's beginning
+-- a walk to the first thread ends at the queue's beginning
 pub first-reached : (links : List (Option ℕ)) (steps queue n : ℕ) → next_in links queue ≡ Some n → queue ≡ reached_place (λ t. t == n) links steps queue
 first-reached links zero queue n e = refl
 first-reached links (suc steps) queue n e = sym (stops (λ t. t == n) links steps queue n e (eqb-same n))

@@ -21,7 +21,7 @@ budget-set groups i old new at same (Some n) = go groups i n at
     go (g ∷ gs) (suc i) zero e = refl
     go (g ∷ gs) (suc i) (suc n) e = go gs i n e
 
--- one that stands as it is wanted
+-- a thread that is placed as it is wanted
 pub stands_still : (places : List (Option Place)) (wanted : ℕ → Option ℕ) (n : ℕ) → rank_in places n ≡ wanted n → (t : ℕ) → rank_in places t ≡ (if t == n then wanted n else rank_in places t)
 stands_still places wanted n e t = by (t == n) refl
   where

@@ -36,7 +36,7 @@ module _ (seats : List (Option Seat)) (n : ℕ) (seat : Option Seat) (before now
           let other : t ≢ n = λ e. absurd (grind (arith, nat_tests)) in
           more t (h t (ap names (sym (get_or-set_other seats n t seat None other)) ∙ names_one))
 
--- the same of what is kept of both sets
+-- what is kept of both sets, after a seat is written
 module _ (seats : List (Option Seat)) (n : ℕ) (seat : Option Seat) (before now spare : Bounded) (h : AreListed seats before spare) (same : now.limit ≡ before.limit)
     (more : (t : ℕ) → contains before.members t ≡ true → contains now.members t ≡ true) (its : names seat ≡ true → contains now.members n ≡ true) where
   pub listed_set : AreListed (slice_set seats n seat) now spare
@@ -62,7 +62,7 @@ nobody_named zero t = refl
 nobody_named (suc n) zero = refl
 nobody_named (suc n) (suc t) = nobody_named n t
 
--- whoever is a member, where nobody is attached any more
+-- any members, where nobody is attached any more
 pub listed_nobody : (n : ℕ) (seats : List (Option Seat)) (members spare : Bounded) → AreListed seats members spare → n ≡ length seats → AreListed (replicate n no_seat) members spare
 listed_nobody n seats members spare h same = record { named = λ t e. absurd (false≢true (sym (nobody_named n t) ∙ e)); room = omega (arith, length-replicate n no_seat, h.room, same); same = h.same }
 

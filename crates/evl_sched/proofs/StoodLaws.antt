@@ -49,7 +49,7 @@ moved-other seats ts n t ne = by (is_in ts n)
     by true = queued-other seats ts n t ne
     by false = refl
 
--- the rank by which a thread stands: by whether it is ready, its seat, the groups and the rank that it was given
+-- the rank that a thread is placed by: from whether it is ready, its seat, the groups and the rank that it was given
 abbrev wants : Bool → Option Seat → (Option Seat → Bool) → Option ℕ → Option ℕ
 wants ready seat may given =
     if ready then (if may seat then Some (option_map_or (λ rank. rank) given (option_map_or (λ (seat : Seat). base_rank seat.policy) seat 0)) else None) else None
@@ -57,7 +57,7 @@ wants ready seat may given =
 abbrev may_with : List Group → Option Seat → Bool
 may_with groups seat = option_map_or (λ (seat : Seat). has_budget groups (group_of seat.policy)) seat false
 
--- nobody who isn't ready stands
+-- a thread that isn't ready is placed nowhere
 pub unwanted : (r : Ranked) (t : ℕ) → is_ready r.sched t ≡ false → wanted_rank r t ≡ None
 unwanted r t e = ap (λ (b : Bool). if b then rank_to_run r t else None) e
 
@@ -71,7 +71,7 @@ module _ (r : Ranked) (places : List (Option Place)) (h : IsStood r places) (n :
   module _ (same : length seats ≡ length r.sched.seats) (alike : length given ≡ length r.given) (elsewhere : SameElsewhere r.sched.seats seats n)
       (others : (t : ℕ) → (t == n) ≡ false → slice_index_or given t None ≡ slice_index_or r.given t None)
       (now : List (Option Place)) (many : length now ≡ length places) where
-    -- one thread changed, and stands where it is wanted
+    -- one thread changed, and is where it is wanted
     module _ (ready : List ℕ) (those : (t : ℕ) → (t == n) ≡ false → is_in ready t ≡ is_in r.sched.ready t)
         (ranks : (t : ℕ) → rank_in now t ≡ (if t == n then wanted_rank (changed ready) n else rank_in places t)) where
       stood-all : (t : ℕ) → rank_in now t ≡ wanted_rank (changed ready) t
@@ -153,7 +153,7 @@ module _ (r : Ranked) (places : List (Option Place)) (h : IsStood r places) (gro
       by t (Some seat) =
           ap (λ (b : Bool). if is_ready r.sched t then (if b then Some (option_map_or (λ rank. rank) (given_to r t) (base_rank seat.policy)) else None) else None) (sym (same (group_of seat.policy)))
 
-  -- who names no group stands as before
+  -- a thread that names no group is placed as before
   pub stood_ungrouped : (t : ℕ) → names_group r.sched.seats t ≡ false → rank_in places t ≡ wanted_rank (regrouped r.sched.ready) t
   stood_ungrouped t e = h.stood t ∙ by (seat_at r.sched t) e
     where

@@ -1,4 +1,4 @@
--- The first of a queue that goes behind its last.
+-- The first of a queue that goes after its last.
 use Rattle.std.proofs.Common.{◌≡◌, ◌≢◌, ℕ, ◌+◌, ◌<◌, ◌==◌, Bool, true, false, ◌&&◌, ◌||◌, List, [], ◌∷◌, length, Option, Some, None, is_some, slice_set, refl, sym, ap, ◌∙◌, subst, arith}
 use Rattle.std.specs.Option.{option_map_or}
 use Rattle.std.proofs.lemmas.Bool.{false≢true, eqb-true}
@@ -19,7 +19,7 @@ module _ (places : List (Option Place)) (links : List (Option ℕ)) (marks : Num
   alone_in t one true is e = apart (sym (eqb-true t last is) ∙ sym one)
   alone_in t one false is e = false≢true e
 
-  -- it stands in the queue, and somebody behind it
+  -- it is in the queue, and somebody is after it
   begins_with : (ts : List ℕ) → IsChain links queue ts → is_in ts last ≡ true → (is_in ts n ≡ true) × (is_some (next_in links (cell_of n)) ≡ true)
   begins_with [] e there = absurd (false≢true there)
   begins_with (t ∷ []) e there =
@@ -74,7 +74,7 @@ module _ (places : List (Option Place)) (links : List (Option ℕ)) (marks : Num
   pub last-within : (place : Place) → next_in links (cell_of last) ≡ None → is_before places place last ≡ false → cell_of last < length out
   last-within place none after = put-within left out marks gone queue low (is_before left place) (cell_of last) (reached place none after)
 
-  -- behind its last
+  -- after its last
   pub turned : (place : Place) → queue ≡ queue_of place.rank → next_in links (cell_of last) ≡ None → is_before places place last ≡ false
       → (cells : List (Option ℕ)) → cells ≡ slice_set (slice_set out (cell_of n) (next_in out (cell_of last))) (cell_of last) (Some n)
       → IsQueued (slice_set places n (Some place)) cells marks

@@ -1,4 +1,4 @@
--- The ready threads one after another: who comes behind a stamp, and when two walks tell the same.
+-- The ready threads one after another: which comes after a stamp, and when two walks come to the same thread.
 use Rattle.std.proofs.Common.{◌≡◌, ℕ, suc, zero, ◌+◌, ◌-◌, ◌<◌, ◌≤◌, List, [], ◌∷◌, ◌++◌, length, Option, Some, refl, sym, ap, ◌∙◌, arith}
 use Rattle.std.proofs.lemmas.List.{append-nil, append_assoc}
 use Rattle.evl_sched.specs.declared.order.walk.Turn.{Turn}
@@ -21,7 +21,7 @@ order-longer stamps a (suc d) b e =
       ap (in_order stamps) last ∙ (ap (λ us. us ++ with_stamp stamps (a + d)) more.1 ∙ append_assoc (in_order stamps a) more.0 (with_stamp stamps (a + d))),
     )
 
--- nobody comes behind the limit
+-- nobody comes after the limit
 pub next-over : (stamps : List (Option ℕ)) (limit low : ℕ) → AreStamped stamps limit → limit ≤ low → in_order stamps low ≡ in_order stamps limit
 next-over stamps limit low h over = order-past stamps low limit (λ t s e. omega (arith, h.early t s e, over)) h.early
 
@@ -49,7 +49,7 @@ same-next : (ts us vs : List ℕ) (t u : ℕ) → ts ++ t ∷ us ≡ ts ++ u ∷
 same-next [] us vs t u e = cc
 same-next (v ∷ ts) us vs t u e = same-next ts us vs t u cc
 
--- behind the same threads, the same order goes on with the same thread
+-- after the same threads, the same order goes on with the same thread
 pub both-same : (one other : List (Option ℕ)) (limit other_limit low other_low : ℕ) (turn next : Turn) → in_order one low ≡ in_order other other_low
     → ComesNext one limit low turn → ComesNext other other_limit other_low next → in_order one limit ≡ in_order other other_limit → turn.thread ≡ next.thread
 both-same one other limit other_limit low other_low turn next told comes follows same =

@@ -16,7 +16,7 @@ pub struct Alone {
     pub place: Place,
 }
 
-/// The places of threads: who comes while nobody has a place stands alone, and all others in queues. To a contract it
+/// The places of threads: who comes while nobody has a place is by itself, and all others in queues. To a contract it
 /// is the place of each thread.
 #[derive(Drop)]
 pub struct Contenders<A: Allocator> {
@@ -77,7 +77,7 @@ impl<A: Allocator> Contenders<A> {
         }
     }
 
-    /// Who stands first: nobody goes before it.
+    /// Who is first: nobody goes before it.
     #[inline(always)]
     pub fn first(&self) -> Option<u16>
         ensures first { IsFirstPlace self.now result }
@@ -103,7 +103,7 @@ impl<A: Allocator> Contenders<A> {
         }
     }
 
-    /// A thread that stands first in the queue of this rank, with others, goes to this place behind the last one, and the
+    /// A thread that is first in the queue of this rank, with others, goes to this place after the last one, and the
     /// answer is true; or nothing changes.
     #[inline(always)]
     pub fn turn(&mut self, thread: u16, place: Place) -> bool
@@ -130,7 +130,7 @@ impl<A: Allocator> Contenders<A> {
     }
 }
 
-// Who stands alone joins the queues.
+// Who is by itself joins the queues.
 #[inline(always)]
 fn join<A: Allocator>(alone: &mut Option<Alone>, queues: &mut Queues<A>)
     requires { IsApart queues.old alone.old }
@@ -155,7 +155,7 @@ fn queue_up<A: Allocator>(queues: &mut Queues<A>, other: Alone)
     queues.put(other.thread, other.place);
 }
 
-// Whether nobody stands alone or in a queue.
+// Whether nobody is by itself or in a queue.
 fn has_nobody<A: Allocator>(alone: Option<Alone>, queues: &Queues<A>) -> bool
     ensures nobody { result ≡ true → alone ≡ None }
 {
@@ -165,7 +165,7 @@ fn has_nobody<A: Allocator>(alone: Option<Alone>, queues: &Queues<A>) -> bool
     }
 }
 
-// Whether it is this thread that stands alone.
+// Whether it is this thread that is by itself.
 fn is_alone(alone: Option<Alone>, thread: u16) -> bool
     ensures alone { result ≡ is_alone alone thread }
 {
@@ -175,7 +175,7 @@ fn is_alone(alone: Option<Alone>, thread: u16) -> bool
     }
 }
 
-// The place of a thread where one stands alone.
+// The place of a thread where one is by itself.
 fn place_beside<A: Allocator>(queues: &Queues<A>, alone: Alone, thread: u16) -> Option<Place>
     requires { IsApart queues.now (Some alone) }
     ensures place { result ≡ place_of (with_alone queues.now (Some alone)) thread }
@@ -187,7 +187,7 @@ fn place_beside<A: Allocator>(queues: &Queues<A>, alone: Alone, thread: u16) -> 
     }
 }
 
-// Who is first where one stands alone.
+// Who is first where one is by itself.
 fn first_beside<A: Allocator>(queues: &Queues<A>, alone: Alone) -> u16
     requires { IsApart queues.now (Some alone) }
     ensures first { IsFirstPlace (with_alone queues.now (Some alone)) (Some result) }

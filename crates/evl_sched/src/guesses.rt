@@ -2,8 +2,8 @@
 use crate::rank_set::QUEUES;
 use std::alloc::{AllocError, Allocator};
 
-/// For each queue a thread that may be its last one, and for each thread one that it may stand behind. Nobody relies on
-/// them: whoever takes a guess looks first whether it holds, and else walks along the queue.
+/// For each queue a thread that may be its last one, and for each thread one that it may come after. Nobody relies on
+/// them: a call that takes a guess looks first whether it holds, and else walks along the queue.
 #[derive(Drop)]
 pub struct Guesses<A: Allocator> {
     lasts: Vec<u16, A>,
@@ -25,12 +25,12 @@ impl<A: Allocator> Guesses<A> {
         guess_at(&self.lasts, queue)
     }
 
-    /// The thread that a thread may stand behind.
+    /// The thread that a thread may come after.
     pub fn before(&self, thread: u16) -> u16 {
         guess_at(&self.befores, thread)
     }
 
-    /// Notes who stands behind a thread of a queue now, or that it is the last one; of the queue's beginning nothing.
+    /// Notes who comes after a thread of a queue now, or that it is the last one; of the queue's beginning nothing.
     pub fn note(&mut self, queue: u16, before: Option<u16>, next: Option<u16>) {
         let Some(before) = before else {
             return;

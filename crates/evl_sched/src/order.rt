@@ -68,7 +68,7 @@ impl<A: Allocator> Order<A> {
         self.queues.clear();
     }
 
-    /// Whether a thread is ready. One that isn't stands in no queue.
+    /// Whether a thread is ready. One that isn't is in no queue.
     pub fn is_ready(&self, thread: u16) -> bool
         ensures ready { result ≡ list_any (λ t. t == thread) self.now.ready }
         ensures stands { result ≡ false → rank_in self.now.places thread ≡ None }
@@ -86,7 +86,7 @@ impl<A: Allocator> Order<A> {
         unstamp(&mut self.stamps, thread);
     }
 
-    /// A thread becomes ready, as the last one, and stands in the queue of this rank, if there is one.
+    /// A thread becomes ready, as the last one, and joins the queue of this rank, if there is one.
     pub fn come(&mut self, thread: u16, rank: Option<u16>)
         requires { thread < length self.old.places }
         ensures ready { self.new.ready ≡ without self.old.ready thread ++ thread ∷ [] }
@@ -99,7 +99,7 @@ impl<A: Allocator> Order<A> {
         come_to(&mut self.queues, thread, stamp, rank);
     }
 
-    /// A thread that is ready stands in the queue of this rank, if there is one. Its place in the order is kept.
+    /// A thread that is ready is in the queue of this rank, if there is one. Its place in the order is kept.
     pub fn stand(&mut self, thread: u16, rank: Option<u16>)
         ensures ready { self.new.ready ≡ self.old.ready }
         ensures ranks { (t : ℕ) → rank_in self.new.places t ≡ (if t == thread then (if list_any (λ u. u == thread) self.old.ready then rank else None) else rank_in self.old.places t) }
@@ -109,7 +109,7 @@ impl<A: Allocator> Order<A> {
         stand_at(&mut self.queues, thread, stamp, rank);
     }
 
-    /// The same of a thread that has another rank than before, so it isn't asked whether it stands there already.
+    /// As `stand`, of a thread that has another rank than before, so it isn't asked whether it is there already.
     #[inline(always)]
     pub fn restand(&mut self, thread: u16, rank: Option<u16>)
         ensures ready { self.new.ready ≡ self.old.ready }
@@ -128,7 +128,7 @@ fn stamp_in<A: Allocator>(stamps: &Vec<Option<u64>, A>, thread: u16) -> Option<u
     stamp_at(stamps, thread)
 }
 
-// The same of a list.
+// As `stamp_in`, of a list.
 fn stamp_at(stamps: &[Option<u64>], thread: u16) -> Option<u64>
     ensures stamp { result ≡ stamp_of stamps.now thread }
 {
@@ -138,7 +138,7 @@ fn stamp_at(stamps: &[Option<u64>], thread: u16) -> Option<u64>
     }
 }
 
-// A stamp that is greater than all: the next one, or where none would come after it, the first one behind those of the
+// A stamp that is greater than all: the next one, or where none would come after it, the first one after those of the
 // ready threads, numbered anew from 0 in their order.
 fn free_stamp<A: Allocator>(
     stamps: &mut Vec<Option<u64>, A>,
@@ -187,7 +187,7 @@ fn least_of<A: Allocator>(stamps: &Vec<Option<u64>, A>, low: u64) -> Option<u16>
     least_from(stamps, low)
 }
 
-// The same of a list.
+// As `least_of`, of a list.
 fn least_from(stamps: &[Option<u64>], low: u64) -> Option<u16>
     requires { length stamps.now < 65536 }
     ensures least { IsLeastFrom stamps.now low (length stamps.now) result }
@@ -258,7 +258,7 @@ fn rank_at<A: Allocator>(queues: &Contenders<A>, thread: u16) -> Option<u16>
     }
 }
 
-// A thread that is ready stands in the queue of this rank, if there is one.
+// A thread that is ready is in the queue of this rank, if there is one.
 fn stand_at<A: Allocator>(
     queues: &mut Contenders<A>,
     thread: u16,
@@ -321,7 +321,7 @@ fn is_same(one: Option<Place>, other: Option<Place>) -> bool
     one == other
 }
 
-// Where a thread with this stamp stands, if it is ready and has a rank.
+// Where a thread with this stamp is, if it is ready and has a rank.
 fn place_by(stamp: Option<u64>, rank: Option<u16>) -> Option<Place>
     ensures place { result ≡ place_by stamp rank }
 {

@@ -15,7 +15,7 @@ use std::marker::Model;
 #[derive(Drop)]
 pub struct Queues<A: Allocator> {
     places: Vec<Option<Place>, A>,
-    // The first thread of each queue, and behind these the thread behind each thread.
+    // The first thread of each queue, and after these the thread after each thread.
     links: Vec<Option<u16>, A>,
     // Where who comes and who goes looks first.
     guesses: Guesses<A>,
@@ -67,7 +67,7 @@ impl<A: Allocator> Queues<A> {
         place_at(&self.places, thread)
     }
 
-    /// Who stands first: nobody goes before it.
+    /// Who is first: nobody goes before it.
     pub fn first(&self) -> Option<u16>
         ensures first { IsFirstPlace self.now result }
     {
@@ -87,7 +87,7 @@ impl<A: Allocator> Queues<A> {
         }
     }
 
-    /// Gives a thread that has no place this one, in the queue of its rank behind all that don't come after it.
+    /// Gives a thread that has no place this one, in the queue of its rank after all that don't come after it.
     #[inline(always)]
     pub fn put(&mut self, thread: u16, place: Place)
         requires there { thread < length self.old }
@@ -122,7 +122,7 @@ impl<A: Allocator> Queues<A> {
         }
     }
 
-    /// A thread that stands first in the queue of this rank, with others, goes to this place behind the last one, and the
+    /// A thread that is first in the queue of this rank, with others, goes to this place after the last one, and the
     /// answer is true; or nothing changes.
     #[inline(always)]
     pub fn turn(&mut self, thread: u16, place: Place) -> bool
@@ -198,7 +198,7 @@ fn no_places<A: Allocator>(alloc: A, threads: usize) -> Result<Vec<Option<Place>
     Ok(places)
 }
 
-// Nobody stands behind anybody.
+// Nobody comes after anybody.
 fn no_links<A: Allocator>(alloc: A, cells: usize) -> Result<Vec<Option<u16>, A>, AllocError>
     ensures empty { IfOk result (λ links. links.items ≡ replicate cells None) }
 {
@@ -231,7 +231,7 @@ fn place_at(places: &[Option<Place>], thread: u16) -> Option<Place>
     }
 }
 
-// Who stands behind a cell.
+// Who comes after a cell.
 fn link_at(links: &[Option<u16>], cell: usize) -> Option<u16>
     ensures link { result ≡ next_in links.now cell }
 {
@@ -241,7 +241,7 @@ fn link_at(links: &[Option<u16>], cell: usize) -> Option<u16>
     }
 }
 
-// Whether a thread that stands at a place goes before another.
+// Whether a thread that is at a place goes before another.
 fn is_before(places: &[Option<Place>], place: Place, thread: u16) -> bool
     ensures before { result ≡ is_before places.now place thread }
 {
@@ -251,14 +251,14 @@ fn is_before(places: &[Option<Place>], place: Place, thread: u16) -> bool
     }
 }
 
-// Who stands first in a queue.
+// Who is first in a queue.
 fn first_in<A: Allocator>(links: &Vec<Option<u16>, A>, queue: u16) -> Option<u16>
     ensures first { result ≡ next_in links.now.items queue }
 {
     link_at(links, queue as usize)
 }
 
-// Who stands behind a thread.
+// Who comes after a thread.
 fn behind<A: Allocator>(links: &Vec<Option<u16>, A>, thread: u16) -> Option<u16> {
     link_at(links, cell_of(thread))
 }
@@ -272,8 +272,8 @@ fn owner_of(cell: usize) -> Option<u16> {
     }
 }
 
-// The cell behind which a place is: the beginning of an empty queue, that of the last thread where the place comes
-// behind it, and else by a walk.
+// The cell after which a place is: the beginning of an empty queue, that of the last thread where the place comes
+// after it, and else by a walk.
 fn cell_from<A: Allocator>(
     links: &Vec<Option<u16>, A>,
     places: &Vec<Option<Place>, A>,
@@ -297,7 +297,7 @@ fn cell_from<A: Allocator>(
     }
 }
 
-// Whether a thread is the last of a queue, and a place comes behind it.
+// Whether a thread is the last of a queue, and a place comes after it.
 fn is_behind<A: Allocator>(
     links: &Vec<Option<u16>, A>,
     places: &Vec<Option<Place>, A>,
@@ -319,7 +319,7 @@ fn is_behind<A: Allocator>(
     link_at(links, cell_of(last)).is_none()
 }
 
-// Whether a thread stands first in a queue, another one last, and a place comes behind that one.
+// Whether a thread is first in a queue, another one last, and a place comes after that one.
 fn can_turn<A: Allocator>(
     links: &Vec<Option<u16>, A>,
     places: &Vec<Option<Place>, A>,
@@ -340,7 +340,7 @@ fn can_turn<A: Allocator>(
     is_behind(links, places, queue, last, place)
 }
 
-// The cell behind which a place is.
+// The cell after which a place is.
 fn cell_for<A: Allocator>(
     links: &Vec<Option<u16>, A>,
     places: &Vec<Option<Place>, A>,
@@ -352,7 +352,7 @@ fn cell_for<A: Allocator>(
     before_place(links, places, places.len(), queue as usize, place)
 }
 
-// The cell behind which a thread stands: the beginning where it is first, that of a guessed thread where this holds,
+// The cell after which a thread is: the beginning where it is first, that of a guessed thread where this holds,
 // and else by a walk.
 fn cell_before<A: Allocator>(
     links: &Vec<Option<u16>, A>,
@@ -384,7 +384,7 @@ fn is_linked(link: Option<u16>, thread: u16) -> bool
     link == Some(thread)
 }
 
-// Whether a thread stands in a queue right behind another.
+// Whether a thread is in a queue right after another.
 fn is_next<A: Allocator>(
     links: &Vec<Option<u16>, A>,
     places: &Vec<Option<Place>, A>,
@@ -403,7 +403,7 @@ fn is_next<A: Allocator>(
     is_linked(link_at(links, cell_of(before)), thread)
 }
 
-// The cell behind which a place is, in a walk of so many steps.
+// The cell after which a place is, in a walk of so many steps.
 #[inline(never)]
 fn before_place(
     links: &[Option<u16>],
@@ -427,7 +427,7 @@ fn before_place(
     cell
 }
 
-// The cell behind which a thread stands, in a walk of so many steps.
+// The cell after which a thread is, in a walk of so many steps.
 #[inline(never)]
 fn before_thread(links: &[Option<u16>], steps: usize, queue: usize, thread: u16) -> usize
     ensures cell { result ≡ reached_place (λ other. other == thread) links.now steps queue }
@@ -445,7 +445,7 @@ fn before_thread(links: &[Option<u16>], steps: usize, queue: usize, thread: u16)
     cell
 }
 
-// A thread comes behind a cell.
+// A thread comes after a cell.
 fn link_in<A: Allocator>(links: &mut Vec<Option<u16>, A>, cell: usize, thread: u16)
     requires cell { cell < length links.old.items }
     requires thread { cell_of thread < length links.old.items }
@@ -455,7 +455,7 @@ fn link_in<A: Allocator>(links: &mut Vec<Option<u16>, A>, cell: usize, thread: u
     links[cell] = Some(thread);
 }
 
-// The thread behind a cell goes.
+// The thread after a cell goes.
 fn link_out<A: Allocator>(links: &mut Vec<Option<u16>, A>, cell: usize, thread: u16)
     requires cell { cell < length links.old.items }
     requires thread { cell_of thread < length links.old.items }

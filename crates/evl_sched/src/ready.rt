@@ -54,7 +54,7 @@ pub fn move_to_end<A: Allocator>(
     }
 }
 
-/// A thread that is ready and may run stands in the queue of its rank, and else in none.
+/// A thread that is ready and may run is in the queue of its rank, and else in none.
 #[inline(always)]
 pub fn stand<A: Allocator>(
     seats: &Vec<Option<Seat>, A>,
@@ -73,7 +73,7 @@ pub fn stand<A: Allocator>(
     stand_ready(seats, groups, given, order, thread);
 }
 
-// The same of a thread that is ready.
+// As `stand`, of a thread that is ready.
 #[inline(never)]
 fn stand_ready<A: Allocator>(
     seats: &Vec<Option<Seat>, A>,
@@ -89,7 +89,7 @@ fn stand_ready<A: Allocator>(
     order.stand(thread, search::rank_to_run(seats, groups, given, thread));
 }
 
-/// The same of a thread that was given another rank.
+/// As `stand`, of a thread that was given another rank.
 #[inline(always)]
 pub fn restand<A: Allocator>(
     seats: &Vec<Option<Seat>, A>,
@@ -108,7 +108,7 @@ pub fn restand<A: Allocator>(
     restand_ready(seats, groups, given, order, thread);
 }
 
-// The same of a thread that is ready.
+// As `restand`, of a thread that is ready.
 #[inline(always)]
 fn restand_ready<A: Allocator>(
     seats: &Vec<Option<Seat>, A>,
@@ -124,7 +124,7 @@ fn restand_ready<A: Allocator>(
     order.restand(thread, search::rank_to_run(seats, groups, given, thread));
 }
 
-/// Each thread whose policy names a group stands by the groups' budgets; all others do already. These threads are among
+/// Each thread whose policy names a group is placed by the groups' budgets; all others are already. These threads are among
 /// the members; the second set is room for them.
 pub fn stand_grouped<A: Allocator>(
     seats: &Vec<Option<Seat>, A>,

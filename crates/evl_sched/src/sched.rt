@@ -50,6 +50,9 @@ impl<A: Allocator> Model for SchedOf<A> {
 }
 
 impl<A: Allocator + Clone> SchedOf<A> {
+    // refusals: Sched::new, ready_threads, Kernel::ready_threads
+    //   order: NoMemory
+    //   clauses: Sched::new: refusal; Sched::ready_threads: refusal
     /// A scheduler of so many threads, none of which is attached, and of a quota group for each part of the processor
     /// in percent, numbered from 0, with its whole budget of 10,000,000 ns a percent. It has room for all of these
     /// threads. `NoMemory` where that room was refused (Xenomai 4: EVL scheduling policies; this profile).
@@ -417,7 +420,7 @@ impl<A: Allocator> SchedOf<A> {
     }
 }
 
-// Charges a quota group, if there is such a group, and tells whether it ran out of budget.
+// Charges a quota group, if there is such a group, and says whether it ran out of budget.
 fn drain_group<A: Allocator>(groups: &mut Vec<Group, A>, group: u16, delta: u64) -> bool
     ensures drained { groups.new.items ≡ drained groups.old.items group delta }
     ensures same { result ≡ false → (other : Option ℕ) → has_budget groups.new.items other ≡ has_budget groups.old.items other }
@@ -431,7 +434,7 @@ fn drain_group<A: Allocator>(groups: &mut Vec<Group, A>, group: u16, delta: u64)
     0 < before.budget && after.budget == 0
 }
 
-// Each group has its whole budget again; tells whether one of them had none before.
+// Each group has its whole budget again; says whether one of them had none before.
 fn refill_all<A: Allocator>(groups: &mut Vec<Group, A>) -> bool
     ensures refilled { groups.new.items ≡ refilled_budgets groups.old.items }
     ensures same { result ≡ false → (other : Option ℕ) → has_budget groups.new.items other ≡ has_budget groups.old.items other }

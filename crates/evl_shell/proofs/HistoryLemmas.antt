@@ -24,7 +24,7 @@ use Rattle.evl_shell.specs.Histories.{AreSound, IsPlayedAs, HistoriesPlayAgain, 
 use Rattle.evl_shell.specs.Runs.{Moment, Turn, turn, turn_entered, turn_lines, lines_from, beginning, trace_with}
 use Rattle.evl_shell.proofs.TurnLemmas.{turn-entered}
 
--- what plays stand behind an entry's own
+-- which plays come after an entry's own
 behind : (own others plays : List Play) (count : ℕ) → plays ≡ own ++ others → count ≡ length own → (take count plays ≡ own) × (drop count plays ≡ others)
 behind own others plays count split counted = (
   ap (take count) split ∙ ap (λ (n : ℕ). take n (own ++ others)) counted ∙ take-append_seam own others,

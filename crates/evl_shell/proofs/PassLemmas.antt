@@ -77,7 +77,7 @@ pub Stopped-front : (old new : Option (List ℕ)) (waited head rest all : List �
 Stopped-front old new waited head rest all failed fault e h =
     let P : List ℕ → Type 0 = λ s. Stopped old waited new s failed fault in subst P e (Stopped-more old new waited head rest failed fault h)
 
--- whole lines passed, and what waited behind them was told with whole lines at the front of the next ones
+-- whole lines passed, and what waited after them was written with whole lines at the front of the next ones
 lines-after : (old mid new : Option (List ℕ)) (waited between done line rest all : List ℕ) → done ++ (line ++ rest) ≡ all → Passes old waited mid between done → AreLines done
     → HandsOn mid between new line → HandsOn old waited new all
 lines-after old mid new waited between done line rest all e h ends k =
@@ -92,7 +92,7 @@ lines-after old mid new waited between done line rest all e h ends k =
           (Appends-append old mid new h.front (between ++ k.lines) h.tells k.tells);
     }
 
--- some bytes passed, and then a front part of what waited behind them and of the next ones was told
+-- some bytes passed, and then a front part of what waited after them and of the next ones was written
 part-after : (old mid new : Option (List ℕ)) (waited between done line rest all : List ℕ) → done ++ (line ++ rest) ≡ all → Passes old waited mid between done
     → TakesPrefix mid new (between ++ line) → TakesPrefix old new (waited ++ all)
 part-after old mid new waited between done line rest all e h k = record {

@@ -32,7 +32,7 @@ pub asked-file : (file : Option (Bor Text)) (path : Bor Text) (bank : List Handl
 asked-file None path bank given known old new failed end is e = cc
 asked-file (Some named) path bank given known old new failed end is e = e
 
--- memory ran out before anything was told
+-- memory ran out before anything was written
 by_memory : (kinds : Kinds) (file : Option Text) (limit : Option ℕ) (bank : List Handler) (known old new : Option (List ℕ)) (failed : Bool)
     (quiet spoken : Option (List ℕ)) (mute : Bool) (answer : ℕ) → Declines (stop_line (Broken Memory)) old new failed quiet spoken mute 4 answer
     → AnswersBy kinds file limit bank known old new failed quiet spoken mute answer
@@ -86,7 +86,7 @@ played [] file asked limit given bank known old new failed quiet spoken mute ans
     subst Q under (subst P named it)
 played (kind ∷ kinds) file asked limit given bank known old new failed quiet spoken mute answer none named under it = cc
 
--- without words behind the program's name the input is played under its own limit
+-- without words after the program's name the input is played under its own limit
 pub plainly : (words : List (Bor Text)) (bank : List Handler) (known old new : Option (List ℕ)) (failed : Bool) (quiet spoken : Option (List ℕ)) (mute : Bool) (answer : ℕ)
     → length words ≤ 1 → Answers (map (λ s. s.now) words) bank known old new failed quiet spoken mute answer → Plays bank None known old new failed quiet spoken mute answer
 unfolding clap_on_literals

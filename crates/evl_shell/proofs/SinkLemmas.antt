@@ -1,4 +1,4 @@
--- Bytes that a sink was told in parts.
+-- Bytes that a sink got in parts.
 use Rattle.std.proofs.Common.{◌≡◌, inl, Bool, true, false, subst, ℕ, ◌-◌, List, [], ◌++◌, take, drop, length, length-drop, Option, Some, None, Result, Ok, Err, ◌∙◌, sym, ap, append_assoc, append-nil, refl}
 use Rattle.std.proofs.Math.Seq.{take-length}
 use Rattle.std.proofs.lemmas.List.{take-append-drop}
@@ -15,7 +15,7 @@ Appends-append (Some a) None new xs ys h k = absurd h
 Appends-append (Some a) (Some b) None xs ys h k = absurd k
 Appends-append (Some a) (Some b) (Some c) xs ys h k = k ∙ ap (λ (s : List ℕ). s ++ ys) h ∙ append_assoc a xs ys
 
--- nothing was told
+-- nothing was written
 pub Appends-nil : (told : Option (List ℕ)) → Appends told told []
 Appends-nil None = tt
 Appends-nil (Some bytes) = sym (append-nil bytes)

@@ -35,7 +35,7 @@ turn-entered limit m step o below is =
     chosen-false (m.entries == limit) (turned_away m) (turn_entered m (step_outcome m.state step.who.0 step.call)) (ne_eqb m.entries limit below)
     ∙ ap (λ (x : Outcome). turn_entered m x) is
 
--- an answer that stands for want of memory is that refusal
+-- an answer that reports want of memory is that refusal
 pub wanted : (reply : Result Reply Refusal) → wants_memory reply ≡ true → reply ≡ Err NoMemory
 wanted (Ok reply) wants = cc
 wanted (Err NoMemory) wants = refl

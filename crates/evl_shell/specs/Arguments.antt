@@ -11,10 +11,15 @@ use Rattle.clap.specs.declared.builder.value_parser.ValueParser.TheVariants.{Sig
 abbrev pub file_rule : Rule
 file_rule = record (new_rule (codes "FILE")) { action = Some Set }
 
--- behind `--limit` stands a number from 1 to 1,000,000
+-- after `--limit` is a number from 1 to 1,000,000
 abbrev pub limit_rule : Rule
 limit_rule = record (new_rule (codes "limit")) { long = Some (codes "limit"); value_names = 1; parser = Some (Signed (pos 1) (pos 1000000)) }
 
+-- rule: The words are `[FILE] [--limit N]`, N from 1 to 1,000,000. Without FILE, or with `-`, the input is read, else
+--   it is not touched. A scenario is played under exactly that limit, or nothing is and the status says why.
+--   also: Arguments.{file_of, file_named, limit_of}; Programs.source
+--   clauses: play; play_into; play_program; read_words
+--   rows: threads_3; refuses_words
 abbrev pub grammar : App
 grammar = with_rule (with_rule (new_app (codes "evl")) file_rule) limit_rule
 

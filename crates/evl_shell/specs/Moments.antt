@@ -21,7 +21,7 @@ pub record Tells {C : Type 0} (old new : KernelView C) (number : Option ℕ) (an
   pub number_is : number ≡ turn.number
   pub answer_is : answer ≡ turn.answer
 
--- an answer that stands for want of memory
+-- an answer that means want of memory
 abbrev pub wants_memory : Result Reply Refusal → Bool
 wants_memory (Err NoMemory) = true
 wants_memory _ = false

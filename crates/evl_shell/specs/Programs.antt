@@ -16,24 +16,26 @@ abbrev pub source : Option Text → Option (List ℕ) → Option (List ℕ)
 source None known = known
 source (Some file) known = None
 
--- the end of one who had only a text to tell
+-- the end of one who had only a text to write
 abbrev pub ended_by : Bool → Result (Unit {0}) Stop
 ended_by false = Ok tt
 ended_by true = Err (Broken Write)
 
--- a text was told whole, or a front part where the sink has failed
+-- a text was written whole, or a front part where the sink has failed
 pub record Helps (text : Text) (old new : Option (List ℕ)) (failed : Bool) (quiet spoken : Option (List ℕ)) (mute : Bool) (answer : ℕ) : Type 0 where
   pub tells : Takes old new text failed
   pub status_is : answer ≡ status (ended_by failed)
   pub says : Takes quiet spoken (said (ended_by failed)) mute
 
--- nothing was told, and something was said
+-- nothing was written, and something was said
 pub record Declines (text : Text) (old new : Option (List ℕ)) (failed : Bool) (quiet spoken : Option (List ℕ)) (mute : Bool) (wanted answer : ℕ) : Type 0 where
   pub nothing : new ≡ old
   pub working : failed ≡ false
   pub status_is : answer ≡ wanted
   pub says : Takes quiet spoken text mute
 
+-- rule: Want of memory while words are read or the bank is made is status 4.
+--   clauses: play_program: answers
 -- what becomes of words that are refused for a reason, or that ask for help; the texts are clap's, and not empty
 abbrev pub TurnsAwayFor : ErrorKind → Option (List ℕ) → Option (List ℕ) → Bool → Option (List ℕ) → Option (List ℕ) → Bool → ℕ → Type 0
 TurnsAwayFor DisplayHelp old new failed quiet spoken mute answer = (text : Text) × (text ≢ []) × Helps text old new failed quiet spoken mute answer
@@ -57,6 +59,12 @@ abbrev pub AnswersBy : Kinds → Option Text → Option ℕ → List Handler →
 AnswersBy [] file limit bank known old new failed quiet spoken mute answer = Plays bank limit (source file known) old new failed quiet spoken mute answer
 AnswersBy (kind ∷ kinds) file limit bank known old new failed quiet spoken mute answer = Refused (kind ∷ kinds) old new failed quiet spoken mute answer
 
+-- rule: Faults of the words go first, then the input's, then the scenario's.
+--   also: Programs.{AnswersBy, Helps}
+--   rows: refuses_words; tells_help
+-- refusals: play
+--   order: those of the words (status 3), then a FILE that cannot be opened or a failed read, then run's
+--   also: Plays.Ended
 -- what the program does with its words, of which the first is its name; `mute` is whether `err` has failed
 abbrev pub Answers : List Text → List Handler → Option (List ℕ) → Option (List ℕ) → Option (List ℕ) → Bool → Option (List ℕ) → Option (List ℕ) → Bool → ℕ → Type 0
 Answers words bank known old new failed quiet spoken mute answer =
@@ -66,6 +74,6 @@ Answers words bank known old new failed quiet spoken mute answer =
 abbrev pub AnswersAtLeast : List Text → List Handler → Option (List ℕ) → Option (List ℕ) → Option (List ℕ) → Bool → Option (List ℕ) → Option (List ℕ) → ℕ → Type 0
 AnswersAtLeast words bank known old new failed quiet spoken answer = (mute : Bool) × Answers words bank known old new failed quiet spoken mute answer
 
--- the same of a scenario that was played
+-- as `AnswersAtLeast`, of a scenario that was played
 abbrev pub PlaysAtLeast : List Handler → Option ℕ → Option (List ℕ) → Option (List ℕ) → Option (List ℕ) → Bool → Option (List ℕ) → Option (List ℕ) → ℕ → Type 0
 PlaysAtLeast bank given known old new failed quiet spoken answer = (mute : Bool) × Plays bank given known old new failed quiet spoken mute answer

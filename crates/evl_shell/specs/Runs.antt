@@ -25,6 +25,8 @@ pub record Turn : Type 0 where
   pub plays : List Play
   pub after : Moment
 
+-- rule: A step that finds the history full has a dash for its number.
+--   rows: full_history; steps_in_one_array; semaphore_path_3
 -- a step that finds the history at its limit
 abbrev pub turned_away : Moment → Turn
 turned_away m = record { number = None; answer = Err HistoryFull; plays = []; after = m }
@@ -42,6 +44,11 @@ turn_entered m o = record {
 unfoldable pub turn : ℕ → Moment → Step → Turn
 turn limit m step = if m.entries == limit then turned_away m else turn_entered m (step_outcome m.state step.who.0 step.call)
 
+-- rule: The trace is a function of the text, the limit and the bank's plans: the board's line, then a line for each
+--   step, each followed by its plays, indented.
+--   also: Runs.script_trace
+--   clauses: run
+--   rows: no_steps
 -- the line of a step, and those of its plays
 abbrev pub turn_lines : Step → Turn → List ℕ
 turn_lines step t = line_text t.number step t.answer ++ play_lines t.plays

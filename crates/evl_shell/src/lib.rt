@@ -20,5 +20,5 @@ pub use laws::{histories_play_again, staxes_leave_no_trace};
 pub use plays::{Stop, conclude, stopped};
 pub use programs::{play, play_into};
 pub use readings::{ReadFault, read_at_most};
-pub use runs::{run, wants_memory};
+pub use runs::{leave, run, wants_memory};
 pub use sinks::{Over, Sink};

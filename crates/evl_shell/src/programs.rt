@@ -21,13 +21,13 @@ use std::fs::File;
 use std::io::{Read, Write};
 use std::rt::Files;
 
-// The status of help that was told.
+// The status of help that was written.
 const DONE: u8 = 0;
 
 // The status of words that are refused.
 const REFUSED: u8 = 3;
 
-// What is told where `clap` has no text.
+// What is written where `clap` has no text.
 const USAGE: &str = "Usage: evl [OPTIONS] [FILE]\n";
 
 // Opens a file to read it.
@@ -142,10 +142,10 @@ fn turn_away<S: Sink, T: Sink>(alloc: Global, error: &Error, out: &mut S, err: &
     }
 }
 
-/// Does what the words ask for, `[FILE] [--limit N]` behind the program's name: plays the scenario in FILE, or without
+/// Does what the words ask for, `[FILE] [--limit N]` after the program's name: plays the scenario in FILE, or without
 /// it or for `-` in the input, at most 1,048,577 bytes, into the sink over a bank of at most 64 callbacks. The status
 /// is 0 where that is done, and for `--help`; 1 the sink failed; 2 the scenario was refused, or couldn't be read; 3 the
-/// words were refused; 4 no memory. Where it isn't 0, `err` is told why, in one line but for status 3.
+/// words were refused; 4 no memory. Where it isn't 0, `err` says why, in one line but for status 3.
 pub fn play_into<F: Files, R: Read, S: Sink, T: Sink>(
     rt: &F,
     alloc: Global,

@@ -21,7 +21,7 @@ use evl_pipeline::{Callback, Handler};
 use evl_scenario::{EntryNumber, Fault, Scenario, Step, StepAnswer, read_scenario};
 use std::alloc::Global;
 
-/// Whether an answer stands for want of memory, so that its call made no entry and changed nothing.
+/// Whether an answer means want of memory, so that its call made no entry and changed nothing.
 pub fn wants_memory(answer: &Result<Reply, Refusal>) -> bool
     ensures { result ≡ moments.wants_memory answer.now }
 {
@@ -39,7 +39,7 @@ fn number_after(before: usize, count: usize) -> Option<usize>
 }
 
 // Makes the call of a step, which goes into the kernel's history. `NoMemory` is all that it is refused for, and only
-// where the kernel had no room: any other refusal of the call is told.
+// where the kernel had no room: any other refusal of the call is written.
 fn make_call<C: Handler>(kernel: &mut KernelOf<C, Global>, step: Step) -> Result<Called, Refusal>
     requires by_plan { AnswersByPlan C.declared C.plan kernel.old.callbacks }
     ensures by_plan { AnswersByPlan C.declared C.plan kernel.new.callbacks }
@@ -150,7 +150,7 @@ fn play_steps<C: Handler, S: Sink>(
     Ok(())
 }
 
-// Puts the line of a board, which stands in the texts, and plays some steps.
+// Puts the line of a board, which is in the texts, and plays some steps.
 fn play_opened<C: Handler, S: Sink>(
     texts: &mut Texts,
     kernel: &mut KernelOf<C, Global>,
@@ -193,6 +193,11 @@ fn open<C: Handler>(
     }
 }
 
+/// Lets a kernel go. All that goes with it is proved here once, and not in each crate that is done with a kernel.
+pub fn leave<C: Handler>(kernel: KernelOf<C, Global>) {
+    drop(kernel);
+}
+
 // Plays a scenario, but for what waits at the end.
 fn play_scenario<C: Handler, S: Sink>(
     alloc: Global,
@@ -211,7 +216,7 @@ fn play_scenario<C: Handler, S: Sink>(
     match open(alloc, &mut texts, board, bank, limit) {
         Ok(mut kernel) => {
             let played = play_opened(&mut texts, &mut kernel, steps, chunks, out);
-            drop(kernel);
+            leave(kernel);
             played
         }
         Err(_) => Err(chunks.give_up(out)),
@@ -240,6 +245,12 @@ fn write_trace<C: Handler, S: Sink>(
     }
 }
 
+// rule: After `Memory` whole lines from the front of the trace went out and the sink has not failed; after `Write` a
+//   front part did and it has.
+//   clauses: run; wants_memory
+//   rows: each_write_fails_once; fails_after_4096_bytes; a_trace_goes_by_single_bytes;
+//   each_write_of_a_long_trace_fails_once; each_write_of_a_short_trace_fails_once; each_write_of_a_trace_fails_once;
+//   writes_in_chunks
 /// Writes the trace of a text over a bank of at most 64 callbacks, under a limit that may be handed in (1 to 1,000,000;
 /// it replaces the text's). The text is checked whole before the first byte is written, and the bank is dropped in the
 /// end. `Text`, `Board` and `Step` say what is wrong with the text, `Memory` that a growth was refused: the lines made

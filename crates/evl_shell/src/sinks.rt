@@ -5,7 +5,7 @@ ghost use Rattle.evl_shell.specs.Sinks.{TakesPrefix, failed_after};
 
 use std::io::Write;
 
-/// Something that takes bytes, and tells which it took, or tells nothing.
+/// Something that takes bytes, and says which it took, or says nothing.
 pub trait Sink {
     /// The bytes that were taken, where they are known.
     ghost told: { Self → Option (List ℕ) };
@@ -29,6 +29,9 @@ pub trait Sink {
         ensures { result ≡ has_failed self.now };
 }
 
+// rule: A writer fails by an error and by a count of 0. A run's bank has at most 64 callbacks.
+//   clauses: write_part: failed; Over::new; run; play; Over::into_inner
+//   rows: each_write_fails_once; a_byte_a_write
 /// Lets a writer take a front part of the bytes, and notes a failure: an error, or a count of 0.
 pub fn write_part<W: Write>(writer: &mut W, bytes: &[u8], failed: &mut bool) -> usize
     ensures within { result ≤ length bytes.now }

@@ -17,7 +17,7 @@ thread w = w.thread
 abbrev rank : FlagWaiter → ℕ
 rank w = w.rank
 
--- whoever isn't served at once waits
+-- each thread that isn't served at once waits
 pub begun : (w : FlagWaiter) (bits : ℕ) (ws after : List FlagWaiter) → after ≡ enqueued_by (λ v. v.rank) w ws → is_empty_mask w.kind ≡ false → bits_taken w.kind bits ≡ None
     → ◌≡◌ {A = Result (Option ℕ × FlagGroup) Refusal} (Ok (None, record { bits = bits; waiters = after })) (unless (take_refusal w.kind) (Ok (begin_take w (record { bits = bits; waiters = ws }))))
 begun w bits ws after e m t = by (is_empty_mask w.kind) (bits_taken w.kind bits) m t

@@ -16,6 +16,6 @@ module _ {X : Type 0} (xs ys : List X) (n : ℕ) where
   alike-more x y inside within there too same before =
       take_more_same xs ys n x inside within before (sym there ∙ same ∙ too ∙ get_or_default ys n y x within)
 
-  -- what stands in a place
+  -- what is at a place
   pub alike-at : (x y : X) → n < length ys → x ≡ slice_index_or xs n x → y ≡ slice_index_or ys n y → xs ≡ ys → x ≡ y
   alike-at x y within there too e = there ∙ ap (λ zs. slice_index_or zs n x) e ∙ get_or_default ys n x y within ∙ sym too

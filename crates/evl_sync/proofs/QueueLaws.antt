@@ -65,7 +65,7 @@ module _ {A : Type 0} where
       below t true at s = omega (arith, eqb-true (thread w) t at, l)
       below t false at s = h.few t s
 
-  -- what is left after some went: nobody came, and the rest stands as it stood
+  -- what is left after some went: nobody came, and the rest is as it was
   pub all-dropped : (P : A → Type 0) (thread : A → ℕ) (t : ℕ) (ws : List A) → AllByRecursion P ws → AllByRecursion P (dropped_by thread t ws)
   all-dropped P thread t [] h = tt
   all-dropped P thread t (w ∷ ws) h =
@@ -157,7 +157,7 @@ module _ {A : Type 0} where
       one_more : (n : ℕ) → insert vs n w ≡ enqueued_by rank w vs → insert (v ∷ vs) (1 + n) w ≡ v ∷ enqueued_by rank w vs
       one_more n e = ap (λ k. insert (v ∷ vs) k w) (by_suc n) ∙ ap (λ xs. v ∷ xs) e
 
-  -- behind all others, where all ranks are the eqb-same
+  -- after all others, where all ranks are the same
   pub enqueued-last : (w : A) (ws : List A) → enqueued_by (λ v. 0) w ws ≡ ws ++ w ∷ []
   enqueued-last w [] = refl
   enqueued-last w (v ∷ vs) = ap (λ xs. v ∷ xs) (enqueued-last w vs)
@@ -170,7 +170,7 @@ module _ {A : Type 0} where
   pub kept_first : (thread rank : A → ℕ) (ws after : List A) → after ≡ remove ws 0 → IsKept thread rank ws → IsKept thread rank after
   kept_first thread rank ws after e h = rw (e ∙ rest-is ws) (kept-rest thread rank ws h)
 
-  -- the first that passes, or behind all
+  -- the first that passes, or after all
   within_all : (p : A → Bool) (ws : List A) → position_or_len p ws ≤ length ws
   within_all p [] = omega arith
   within_all p (w ∷ ws) =

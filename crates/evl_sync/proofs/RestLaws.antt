@@ -100,7 +100,7 @@ walk-left_in (w ∷ ws) bits = by (bits_taken w.kind bits) refl (walk-left_in ws
     by None at h = h
     by (Some got) at h = trans_in (walk_of ws (bit_xor bits got)).left (bit_xor bits got) bits h (left_of_in w.kind bits (Some got) at)
 
--- after a walk, whoever waited before it
+-- after a walk, for the threads that waited before it
 pub rests-walked : (ws : List FlagWaiter) (bits : ℕ) → Rests (walk_of ws bits).left (walk_of ws bits).waiting
 rests-walked [] bits = tt
 rests-walked (w ∷ ws) bits = by (bits_taken w.kind bits) refl (rests-walked ws (left_of bits (bits_taken w.kind bits)))

@@ -10,7 +10,7 @@ pub by_suc : (n : ℕ) → n + 1 ≡ suc n
 by_suc n = omega arith
 
 module _ {A : Type 0} where
-  -- whoever leaves a place leaves those before it there, and those behind it move up
+  -- a waiter that leaves a place leaves those before it there, and those after it move up
   take-removed : (n : ℕ) (ws : List A) → take n (remove ws n) ≡ take n ws
   take-removed zero ws = refl
   take-removed (suc n) [] = refl
@@ -41,7 +41,7 @@ module _ (served : List TakenBits) (ws : List FlagWaiter) (place left : ℕ) (w 
       ∙ (λ i. record { served = append_assoc (pairs served) ((w.thread, got) ∷ []) (rest (Some got)).served i; waiting = take place ws ++ (rest (Some got)).waiting; left = (rest (Some got)).left })
       ∙ sym (here (Some got) e)
 
--- whoever leaves takes nobody's rest away
+-- a thread that leaves takes nobody's rest away
 pub rests-removed : (bits n : ℕ) (ws : List FlagWaiter) → Rests bits ws → Rests bits (remove ws n)
 rests-removed bits zero [] rests = tt
 rests-removed bits zero (w ∷ ws) rests = rests.1

@@ -24,15 +24,23 @@ is_empty_mask Any = false
 is_empty_mask (Of mask) = mask == 0
 is_empty_mask (Exact mask) = mask == 0
 
+-- rule: A mask without bits and a post of no bits are `Invalid`, before `Again`.
+--   also: FlagGroups.{post_refusal, try_take}
+--   rows: flags_and_buffers_3; empty_mask
 abbrev pub take_refusal : Take → Option Refusal
 take_refusal kind = if is_empty_mask kind then Some Invalid else None
 
+-- refusals: FlagGroup::post, begin_take
+--   order: Invalid
+--   also: FlagGroups.take_refusal
 abbrev pub post_refusal : ℕ → Option Refusal
 post_refusal bits = if bits == 0 then Some Invalid else None
 
 abbrev pub some_bits : ℕ → Option ℕ
 some_bits got = if got == 0 then None else Some got
 
+-- rule: `Any` takes all bits, `Of` those of its mask, if there are any; `Exact` its whole mask, if it is there.
+--   rows: flags_and_buffers_3; half; any; any_or_all_of_the_bits; exact_mask_in_two_posts
 -- which of the bits the kind takes, if it is satisfied
 abbrev pub bits_taken : Take → ℕ → Option ℕ
 bits_taken Any bits = some_bits bits
@@ -45,7 +53,12 @@ left_of bits got = option_map_or (λ g. bit_xor bits g) got bits
 abbrev pub without_bits : FlagGroup → ℕ → FlagGroup
 without_bits f got = record f { bits = bit_xor f.bits got }
 
--- whoever waits
+-- rule: A take that can be served passes all waiters.
+--   also: FlagGroups.begin_take
+--   rows: past_waiters; a_take_goes_past_waiters; takes_go_past_waiters
+-- refusals: FlagGroup::try_take
+--   order: Invalid, Again
+-- past all waiters
 abbrev pub try_take : Take → FlagGroup → Result (ℕ × FlagGroup) Refusal
 try_take kind f = unless (take_refusal kind) (option_map_or (λ got. Ok (got, without_bits f got)) (bits_taken kind f.bits) (Err Again))
 
@@ -64,6 +77,12 @@ abbrev pub walk_of : List FlagWaiter → ℕ → Walk
 walk_of [] bits = record { served = []; waiting = []; left = bits }
 walk_of (w ∷ ws) bits = let got = bits_taken w.kind bits in waiter_passed w got (walk_of ws (left_of bits got))
 
+-- rule: A post walks once through the waiters; each takes what it wants of what those before it left, or stays. Bits
+--   that nobody takes stay. Each call is one step of the group's machine.
+--   also: FlagGroups.walk_of
+--   clauses: FlagGroup::{new, try_take, post, begin_take, drop_waiter, peek, post_telling, waiter}
+--   rows: flag_waiters; one_walk; kept_bits
+-- rule: A post adds its bits to the group's 32.
 -- the bits are ored in, and one walk goes through the waiters
 abbrev pub post : ℕ → FlagGroup → Walk
 post bits f = walk_of f.waiters (bit_or f.bits bits)
@@ -93,6 +112,8 @@ walk_waiters walk = (walk.served, after_walk walk)
 abbrev pub walk_after : List (ℕ × ℕ) → List FlagWaiter → Walk → Walk
 walk_after served waiting walk = record { served = served ++ walk.served; waiting = waiting ++ walk.waiting; left = walk.left }
 
+-- rule: Nobody waits for bits that are there.
+--   clauses: FlagGroup::peek: sound
 -- who waits isn't satisfied by the bits that are there
 abbrev pub Rests : ℕ → List FlagWaiter → Type 0
 Rests bits waiters = AllByRecursion (λ w. bits_taken w.kind bits ≡ None) waiters

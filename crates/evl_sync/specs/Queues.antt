@@ -4,7 +4,12 @@ use Rattle.std.specs.List.{list_any, AllByRecursion}
 use Rattle.evl_base.specs.Limits.{thread_limit}
 use Rattle.evl_base.specs.declared.numbers.ThreadId.{ThreadId}
 
--- behind those of its rank or a greater one, before the others
+-- rule: A queue is ordered by the effective rank at the beginning of the wait, the higher first, then by arrival; no
+--   later rank moves a waiter.
+--   also: Queues.rest_of; Waiter
+--   clauses: WaitQueue::{push, head, pop, remove, len, new, get}
+--   rows: queue_order; waits_1; greater_ranks_go_first
+-- after those of its rank or a greater one, before the others
 abbrev pub enqueued_by : {A : Type 0} → (A → ℕ) → A → List A → List A
 enqueued_by rank w [] = w ∷ []
 enqueued_by rank w (v ∷ vs) = if nat_lt (rank v) (rank w) then w ∷ v ∷ vs else v ∷ enqueued_by rank w vs
@@ -31,7 +36,10 @@ rest_of (w ∷ ws) = ws
 abbrev pub number_of : Option ThreadId → Option ℕ
 number_of thread = option_map (λ t. t.0) thread
 
--- the ranks fall, and each thread stands there once
+-- rule: A thread is in a queue at most once, and ranks fall along it.
+--   clauses: ArrivalQueue::len: kept; WaitQueue::len: kept; WaitQueue::pop: kept
+--   rows: dropped_waiter
+-- the ranks fall, and each thread is there once
 abbrev pub AreRanked : {A : Type 0} → (A → ℕ) → (A → ℕ) → List A → Type 0
 AreRanked thread rank [] = Unit {0}
 AreRanked thread rank (w ∷ ws) = AllByRecursion (λ v. rank v ≤ rank w) ws × (stands_in thread (thread w) ws ≡ false) × AreRanked thread rank ws

@@ -1,7 +1,7 @@
 //! Lists that are compared place by place.
 ghost use Rattle.std.specs.Prelude.{◌≡◌, true};
 
-/// What can be told from others of its type.
+/// What can be distinguished from others of its type.
 pub trait Alike {
     ghost use Rattle.std.specs.Prelude.{◌≡◌, true};
 
@@ -11,7 +11,7 @@ pub trait Alike {
         ensures other { self.now ≡ other.now → result ≡ true };
 }
 
-/// Whether the same stands in the same places of both.
+/// Whether the same is in the same places of both.
 pub fn are_alike<T: Alike>(ours: &[T], theirs: &[T]) -> bool
     ensures alike { result ≡ true → ours.now ≡ theirs.now }
     ensures other { ours.now ≡ theirs.now → result ≡ true }

@@ -37,7 +37,10 @@ impl ArrivalQueue {
         }
     }
 
-    /// A thread, which doesn't wait here yet, begins to wait, behind all others.
+    // rule: An `ArrivalQueue` is ordered only by arrival.
+    //   clauses: ArrivalQueue::{push, new, head, pop, remove, len}
+    //   rows: arrivals_keep_their_order
+    /// A thread, which doesn't wait here yet, begins to wait, after all others.
     pub fn push(&mut self, thread: ThreadId)
         requires away { stands_in (λ t. t) thread.0 self.old ≡ false }
         requires few { thread.0 < thread_limit }
@@ -69,7 +72,7 @@ impl ArrivalQueue {
         Some(ThreadId(first))
     }
 
-    /// Lets a thread wait no more, wherever it stands, and says whether it waited here. Nothing changes where it
+    /// Lets a thread wait no more, wherever it is, and says whether it waited here. Nothing changes where it
     /// didn't.
     pub fn remove(&mut self, thread: ThreadId) -> bool
         ensures there { result ≡ stands_in (λ t. t) thread.0 self.old }

@@ -51,7 +51,7 @@ impl FlagGroup {
         self.waiters.clear();
     }
 
-    /// Takes bits, and says which, whoever waits: all of them under `Any`, those of the mask that are there under `Of`,
+    /// Takes bits past all waiters, and says which: all of them under `Any`, those of the mask that are there under `Of`,
     /// the whole mask under `Exact`. Refused, in this order, with nothing changed: `Invalid` where the mask has no
     /// bits, `Again` where there are no bits to take, or under `Exact` not all of them. (Xenomai 4: EVL event flag
     /// group)
@@ -86,7 +86,7 @@ impl FlagGroup {
         }
     }
 
-    /// Adds bits as `post` does, and tells whom it served into a list where nobody stands yet, so that no such list is
+    /// Adds bits as `post` does, and enters whom it served into a list where nobody is yet, so that no such list is
     /// moved. (Xenomai 4: EVL event flag group; this profile)
     pub fn post_telling(
         &mut self,
@@ -106,7 +106,7 @@ impl FlagGroup {
     }
 
     /// Takes bits as `try_take` does, past all waiters, and says which; where they aren't there the thread, which
-    /// doesn't wait here yet, begins to wait, behind those of its rank or a greater one, and the answer is none.
+    /// doesn't wait here yet, begins to wait, after those of its rank or a greater one, and the answer is none.
     /// `Invalid` where the mask has no bits; then nothing changes. (Xenomai 4: EVL event flag group)
     #[tactic(auto, using(crate::proofs::GroupLaws::sound_taken))]
     pub fn begin_take(
@@ -159,7 +159,7 @@ impl FlagGroup {
         self.bits
     }
 
-    /// Who stands at a place of the queue, the first one at 0; none where nobody stands there. (Xenomai 4: EVL event
+    /// Who is at a place of the queue, the first one at 0; none where nobody is there. (Xenomai 4: EVL event
     /// flag group)
     pub fn waiter(&self, place: usize) -> Option<ThreadId>
         ensures waiter { number_of result ≡ option_map (λ w. w.thread) (slice_get self.now.waiters place) }
@@ -171,7 +171,7 @@ impl FlagGroup {
     }
 }
 
-// One walk through the waiters, which tells whom it serves: which bits are left. Who goes on waiting stays. Nobody is
+// One walk through the waiters, which says whom it serves: which bits are left. Who goes on waiting stays. Nobody is
 // looked at once no bits are left, as nobody waits for none.
 fn walk(
     waiters: &mut ArrayVec<FlagWaiter, MAX_THREADS>,

@@ -24,7 +24,7 @@ pub(crate) trait Ranked: Copy + Default {
         ensures { result ≡ rank_of self.now };
 }
 
-// Lets a thread, which stands here at most once, wait no more; whether it did.
+// Lets a thread, which is here at most once, wait no more; whether it did.
 pub(crate) fn leave<W: Ranked>(waiters: &mut ArrayVec<W, MAX_THREADS>, thread: u16) -> bool
     requires once { AreRanked W.thread_of W.rank_of waiters.old.items }
     ensures there { result ≡ stands_in W.thread_of thread waiters.old.items }
@@ -47,7 +47,7 @@ fn place_of<W: Ranked>(waiters: &[W], thread: u16) -> Option<usize>
     waiters.iter().position(|waiter| waiter.thread() == thread)
 }
 
-// The place behind those of this rank or a greater one.
+// The place after those of this rank or a greater one.
 #[tactic(auto, using(crate::proofs::QueueLaws::place_found, crate::proofs::QueueLaws::place_behind))]
 pub(crate) fn place_for<W: Ranked>(waiters: &[W], rank: u16) -> usize
     ensures place { result ≡ position_or_len (λ w. nat_lt (W.rank_of w) rank) waiters.now }

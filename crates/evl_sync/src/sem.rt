@@ -96,7 +96,7 @@ impl Sem {
         true
     }
 
-    /// Lowers the count by 1 where it isn't 0; else the thread, which doesn't wait here yet, begins to wait, behind
+    /// Lowers the count by 1 where it isn't 0; else the thread, which doesn't wait here yet, begins to wait, after
     /// those of its rank or a greater one. Whether it was served at once. (Xenomai 4: EVL semaphore)
     #[inline(always)]
     pub fn begin_get(&mut self, thread: ThreadId, rank: u16) -> bool
@@ -131,7 +131,7 @@ impl Sem {
         -(waiting as i64)
     }
 
-    /// Who stands at a place of the queue, the first one at 0; none where nobody stands there. (Xenomai 4: EVL
+    /// Who is at a place of the queue, the first one at 0; none where nobody is there. (Xenomai 4: EVL
     /// semaphore)
     pub fn waiter(&self, place: usize) -> Option<ThreadId>
         ensures waiter { number_of result ≡ option_map (λ w. w.thread) (slice_get self.now.waiters place) }

@@ -47,7 +47,7 @@ impl WaitQueue {
         self.waiters.clear();
     }
 
-    /// A thread, which doesn't wait here yet, begins to wait: behind those of its rank or a greater one, before all
+    /// A thread, which doesn't wait here yet, begins to wait: after those of its rank or a greater one, before all
     /// others.
     #[inline(always)]
     pub fn push(&mut self, thread: ThreadId, rank: u16)
@@ -75,7 +75,7 @@ impl WaitQueue {
         }
     }
 
-    /// Who stands at a place, the first one at 0; none where nobody stands there.
+    /// Who is at a place, the first one at 0; none where nobody is there.
     pub fn get(&self, place: usize) -> Option<ThreadId>
         ensures waiter { number_of result ≡ option_map (λ w. w.thread) (slice_get self.now place) }
     {
@@ -100,7 +100,7 @@ impl WaitQueue {
         Some(ThreadId(first.thread))
     }
 
-    /// Lets a thread wait no more, wherever it stands, and says whether it waited here. Nothing changes where it
+    /// Lets a thread wait no more, wherever it is, and says whether it waited here. Nothing changes where it
     /// didn't.
     pub fn remove(&mut self, thread: ThreadId) -> bool
         ensures there { result ≡ stands_in (λ w. w.thread) thread.0 self.old }

@@ -9,7 +9,7 @@ use Rattle.evl_words.specs.Hands.{Dealt, place, first_of, rest_of, hand_from, ha
 use Rattle.evl_words.specs.Endings.{JoinsBy, SplitsBy, joined, left_after}
 use Rattle.evl_words.proofs.Dealing.{splits, joins, hand_step}
 
--- hands are put together one behind the other
+-- hands are put together one after the other
 pub joins_hands : {V : Type 0} (rule : List ℕ → List (Option (Unit {0})) → List V → Type 0) → JoinsBy (λ v w. v ++ w) [] (Dealt rule)
 joins_hands rule = joins rule
 

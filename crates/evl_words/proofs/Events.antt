@@ -27,7 +27,7 @@ module _ {E H S : Type 0} (author : E → ℕ) (step : S → E → S → Type 0)
 
   module _ {K : Type 0} (steps : Steps E H K)
       (keeps : (w : World E H) → IsWorld author step opening tie w → (k : ℕ) (v : View E H) → get_elem? w.views k ≡ some v → (kind : K) → steps.may k v kind → IsWorld author step opening tie (world_after steps w k v kind)) where
-    -- a step on the word is an event, and tells its seat so
+    -- a step on the word is an event, and its seat learns so
     pub does_turn : (k : ℕ) (v : View E H) (kind : K) → steps.may k v kind
         → PartTurns (Part (IsWorld author step opening tie)) k v (λ n. steps.word n k v kind) (Does author step opening tie steps k v kind)
     does_turn k v kind may found views part at =

@@ -1,4 +1,4 @@
--- A gate's word tells what was packed into it, and how each step changes it.
+-- A gate's word says what was packed into it, and how each step changes it.
 use Rattle.std.proofs.Common.{◌≡◌, ℕ, ◌+◌, ◌-◌, ◌*◌, ◌/◌, ◌%◌, ◌^◌, ◌<◌, Bool, true, false, refl, sym, ap, ◌∙◌, arith}
 use Rattle.std.specs.Int.Bits.{and_block, or_block, or_zero_r}
 use Rattle.std.proofs.lemmas.Nat.{and_mask}
@@ -36,7 +36,7 @@ unfolding low
 low-lt count Inband small = omega arith
 low-lt count Oob small = omega arith
 
--- the mark stands above the rest of the word
+-- the mark lies above the rest of the word
 in_blocks : (count : ℕ) (stage : Stage) (marked : Bool) → packed_gate count stage marked ≡ mark_bit marked * 2 ^ 31 + low count stage
 unfolding low
 in_blocks count stage marked = omega arith

@@ -44,7 +44,7 @@ is_owner-change (offered h marked) by j Accept ne may = go (eqb h by)
 is_owner-change m by j Forget ne may = refl
 is_owner-change m by j SeenOffer ne may = refl
 
--- an offer stands until its seat accepts it
+-- an offer lasts until its seat accepts it
 pub is_offered-change : (m : Mutex) (by j : ℕ) (call : MutexCall) → j ≢ by → mutex_may m by call → is_offered m j ≡ true → is_offered (mutex_change m by call) j ≡ true
 is_offered-change unowned by j Try ne may at = cc
 is_offered-change (seized h) by j Try ne may at = cc
@@ -67,7 +67,7 @@ is_offered-change (offered h marked) by j Accept ne may at =
 is_offered-change m by j Forget ne may at = at
 is_offered-change m by j SeenOffer ne may at = at
 
--- an offer that a seat has seen still stands, whatever the others did since
+-- an offer that a seat has seen is still there, whatever the others did since
 pub offer_stands : {H : Type 0} (k : ℕ) (log : List MutexEntry) (v : View MutexEntry H) (fits : Fits mutex_author log k v) → (s t : Mutex) → is_offered s k ≡ true → Run MutexStep s fits.seen.0 t → is_offered t k ≡ true
 offer_stands k log v fits s t at run =
     run_of_others mutex_author MutexStep (λ m. is_offered m k ≡ true) k (λ m e u ne at' step. subst (λ n. is_offered n k ≡ true) (sym step.after) (is_offered-change m e.by k e.call (λ q. ne (sym q)) step.may at')) s t fits.seen.0

@@ -337,7 +337,7 @@ mark_is (owned h true) small e = absurd (omega arith)
 mark_is (offered h false) small e = absurd (omega arith)
 mark_is (offered h true) small e = absurd (omega arith)
 
--- the mark stands alone just where a seat has won the mutex
+-- the mark is alone in the word just where a seat has won the mutex
 pub mark_alone : (w : MutexWorld) → IsMutexWorld w → (w.word ≡ 2147483648) ↔ ((k : ℕ) × (v : MutexView) × (get_elem? w.views k ≡ some v) × (wins v.held.role ≡ true))
 mark_alone w h = (
   (λ e.

@@ -1,4 +1,4 @@
--- A mutex's word tells what was packed into it, and how each step changes it.
+-- A mutex's word says what was packed into it, and how each step changes it.
 use Rattle.std.proofs.Common.{◌≡◌, ℕ, ◌+◌, ◌-◌, ◌*◌, ◌/◌, ◌%◌, ◌^◌, ◌<◌, ◌≢◌, eqb, eq-eqb, ne_eqb, Bool, true, false, refl, sym, ap, ◌∙◌, arith}
 use Rattle.std.specs.Int.Bits.{and_block, or_block, or_zero_r}
 use Rattle.std.proofs.lemmas.Nat.{and_mask}
@@ -61,7 +61,7 @@ offers_to-word (offered h marked) k small =
     bit false = omega arith
     bit true = omega arith
 
--- the mark stands above the rest of the word
+-- the mark lies above the rest of the word
 or_mark : (low : ℕ) (marked : Bool) → low < 2147483648 → bit_or (low + claim_bit marked) 2147483648 ≡ low + 2147483648
 or_mark low false small = ap (λ n. bit_or n 2147483648) (let e : low + 0 ≡ 0 * 2 ^ 31 + low = omega arith in e) ∙ or_block 31 0 1 low 0 small (omega arith) ∙ (let z = or_zero_r low in let e : 1 * 2 ^ 31 + bit_or low 0 ≡ low + 2147483648 = omega arith in e)
 or_mark low true small = ap (λ n. bit_or n 2147483648) (let e : low + 2147483648 ≡ 1 * 2 ^ 31 + low = omega arith in e) ∙ or_block 31 1 1 low 0 small (omega arith) ∙ (let z = or_zero_r low in let e : 1 * 2 ^ 31 + bit_or low 0 ≡ low + 2147483648 = omega arith in e)
@@ -86,7 +86,7 @@ accept-word h true small = ap (λ n. bit_and n 18446744072635809791) (let e : h 
 bit_30 : (n : ℕ) → bit_and n 1073741824 ≡ n / 1073741824 % 2 * 1073741824
 bit_30 n = and_high n 1 30
 
--- what the word's bits tell of an offer
+-- what the word's bits say of an offer
 pub bit_tells : (n k : ℕ) → bit_and n 1073741824 ≢ 0 → offers_to n k ≡ eqb (n % 65536) (k + 1)
 bit_tells n k ne = let one : n / 1073741824 % 2 ≡ 1 = let b = bit_30 n in omega arith in rw one refl
 

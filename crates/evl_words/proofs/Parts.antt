@@ -6,7 +6,7 @@ use Rattle.evl_words.specs.Parts.{Tells, PartTurns, OneWord, part_in, put_in}
 use Rattle.evl_words.proofs.Dealing.{allows_at}
 
 module _ {V : Type 0} (part : ℕ → List V → Type 0) where
-  -- the same step, told otherwise
+  -- the same step, said otherwise
   pub turns_as : (k : ℕ) (v : V) (f g : ℕ → ℕ) (then then' : ℕ → V → Type 0) → ((n : ℕ) → f n ≡ g n) → ((found : ℕ) (u : V) → then found u → then' found u) → PartTurns part k v f then → PartTurns part k v g then'
   turns_as k v f g then then' same weaker turns found views kept at =
       let t = turns found views kept at in

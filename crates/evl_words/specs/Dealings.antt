@@ -28,6 +28,6 @@ module _ {E H K : Type 0} where
 abbrev pub opened_dealing : {E H : Type 0} → List (View E H) → Dealing E H
 opened_dealing views = record { world = record { word = 0; log = []; views = views }; hands = hand_from 0 views ∷ [] }
 
--- the world stands, no seat is in two hands, and each hand has the views of its seats
+-- the world is consistent, no seat is in two hands, and each hand has the views of its seats
 abbrev pub Holds : {E H : Type 0} → (World E H → Type 0) → Dealing E H → Type 0
 Holds Stands d = Stands d.world × Deals d.world.views d.hands

@@ -38,7 +38,7 @@ module _ {E H K : Type 0} (steps : Steps E H K) where
     pub may : steps.may e.by view e.kind
     pub changed : after ≡ world_after w e.by view e.kind
 
-  -- in some world that stands, a step of this kind, which the seat k might make, found this word and took the seat's view from v to u
+  -- in some consistent world, a step of this kind, which the seat k might make, found this word and took the seat's view from v to u
   pub record IsEvent (Stands : World E H → Type 0) (k : ℕ) (v : View E H) (kind : K) (found : ℕ) (u : View E H) : Type 0 where
     pub world : World E H
     pub stands : Stands world

@@ -43,6 +43,10 @@ abbrev pub without : ℕ → List Holder → List Holder
 without k [] = []
 without k (h ∷ hs) = if h.seat == k then without k hs else h ∷ without k hs
 
+-- rule: Entry is `Again` while the other stage is in, then `Limit`; else the seat is a holder and the gate has its
+--   stage.
+--   also: Gate.gate_change
+--   rows: two_inband_seats_keep_others_out; stages_take_turns_on_a_quiet_gate
 -- why a gate with this many holders of a stage refuses one more of the stage that is wanted
 abbrev pub entry_refusal : ℕ → ℕ → Stage → Stage → Option Refusal
 entry_refusal limit count stage wanted = if nat_lt 0 count && not (is_same_stage stage wanted) then Some Again else if nat_le limit count then Some Limit else None
@@ -55,6 +59,8 @@ abbrev pub gate_after : Option Refusal → Gate → Gate → Gate
 gate_after None g h = h
 gate_after (Some refusal) g h = g
 
+-- rule: A seat holds a gate once.
+--   also: GateCalls.FailsToEnter
 abbrev pub gate_may : Gate → ℕ → GateCall → Type 0
 gate_may g by (Enter stage) = stage_held by g.holders ≡ None
 gate_may g by Leave = IsSome (stage_held by g.holders)
@@ -69,6 +75,8 @@ gate_answer limit g by Claim = Done
 gate_answer limit g by Unclaim = Done
 gate_answer limit g by Peek = Shown (length g.holders) g.stage
 
+-- rule: Claim and unclaim change only the mark, `peek` nothing. Without a holder the stage bit means nothing.
+--   also: Gate.entry_refusal
 abbrev pub gate_change : ℕ → Gate → ℕ → GateCall → Gate
 gate_change limit g by (Enter stage) = gate_after (entry_refusal limit (length g.holders) g.stage stage) g record { stage = stage; holders = record { seat = by; stage = stage } ∷ g.holders; marked = g.marked }
 gate_change limit g by Leave = record g { holders = without by g.holders }
@@ -83,6 +91,8 @@ gate_machine limit = record { may = gate_may; answer = gate_answer limit; after 
 abbrev pub GateStep : ℕ → Gate → GateEntry → Gate → Type 0
 GateStep limit = IsStep (gate_machine limit)
 
+-- rule: All holders are of one stage, at each prefix of a legal history.
+--   clauses: holders_have_one_stage
 -- all holders are of one stage, the gate's
 abbrev pub HasOneStage : Gate → Type 0
 HasOneStage g = All (λ h. h.stage ≡ g.stage) g.holders

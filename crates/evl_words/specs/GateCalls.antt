@@ -54,10 +54,17 @@ seat_with table gate number hand = record { table = table; gate = gate; number =
 abbrev pub begins : ℕ → Hand GateView → Type 0
 begins number hand = (hand ≡ place number (view_in hand) ∷ []) × ((view_in hand).held.stage ≡ None)
 
+-- rule: A gate is made with no holder and no mark; its seats hold nothing and have seen nothing.
+--   also: Gate.open_gate
+--   clauses: StaxGate::new
+--   rows: each_request_for_a_gate_is_refused_once; limits_and_seats_have_a_range
 -- a seat as the gate was made with it
 abbrev pub new_seat : GateState → ℕ → SeatState
 new_seat gate number = record { table = gate.table; gate = gate.id; number = number; view = newcomer gate.limit }
 
+-- rule: A pass has its seat's and gate's numbers and is spent by leaving. Not to take it to another gate of that number
+--   is the caller's duty.
+--   rows: a_pass_is_its_seats
 abbrev pub IsPassOf : StaxPass → SeatState → Type 0
 IsPassOf pass seat = (pass.gate ≡ seat.gate) × (pass.seat ≡ seat.number)
 
@@ -65,15 +72,27 @@ IsPassOf pass seat = (pass.gate ≡ seat.gate) × (pass.seat ≡ seat.number)
 abbrev pub Makes : SeatState → GateKind → SeatState → Type 0
 Makes old kind new = (found : ℕ) × GateDoes old.view.held.limit old.number old.view kind found new.view
 
+-- rule: Entering is a load and one exchange, which keeps the mark. A refusal found or a lost exchange ends it.
+--   also: GateWord.entered_word; GateWorld.step_word
+--   clauses: StaxGate::try_lock: event
 -- a seat that wants in makes no step, or looks, or looks and then makes an exchange
 abbrev pub Tries : SeatState → Stage → SeatState → Type 0
 Tries old stage new = (new ≡ old) ⊎ Makes old (looks stage) new ⊎ ((between : SeatState) × (word : ℕ) × Makes old (looks stage) between × Makes between (exchanges stage word) new)
 
+-- rule: A call answers what the machine answers at the word that its step found. Its entry extends what its seat has
+--   seen by others' entries and then its own; no other seat learns anything.
+--   also: Events.{IsEvent, world_after, seat_after}; MutexCalls.{Makes, Calls}
+--   clauses: StaxGate::{try_lock, unlock, claim, unclaim, peek}; MutexWord::{try_lock, unlock, claim, settle, offer,
+--   free, seen_offer, accept, forget}; gate_world_stands
 -- the seat made a call that was answered so, and holds the gate at this stage, if any
 pub record Calls (old : SeatState) (call : GateCall) (reply : GateReply) (new : SeatState) (stage : Option Stage) : Type 0 where
   pub held : new.view.held ≡ hold old.view.held.limit stage
   pub appends : GateAppends old.view.held.limit old.number old.view call reply new.view
 
+-- rule: `Raced` makes no entry. Its two words were in the gate at two points of one history, neither before what the
+--   seat had seen; they differ, and each would let the seat in.
+--   clauses: StaxGate::try_lock
+--   rows: next_try_after_a_race_enters
 -- The two words differ, and each would let the seat in. They stood in the gate at two points of one history, neither before what the seat had seen
 pub record Races (old : SeatState) (stage : Stage) (first second : ℕ) (new : SeatState) : Type 0 where
   pub differ : first ≢ second
@@ -86,6 +105,11 @@ pub record Races (old : SeatState) (stage : Stage) (first second : ℕ) (new : S
   pub seen_between : IsPrefix earlier new.view.seen
   pub looks : GateLooks old.view.held.limit old.number old.view new.view
 
+-- refusals: StaxGate::try_lock
+--   order: Busy (local), Again, Limit, Raced
+--   also: Gate.entry_refusal
+-- refusals: StaxGate::look, exchange
+--   order: Again, Limit; exchange then Raced
 -- Why a seat did not get in, and what was seen. A seat that holds the gate already is refused with no step
 abbrev pub FailsToEnter : SeatState → Stage → SeatState → Refusal → Type 0
 FailsToEnter old stage new Again = (old.view.held.stage ≡ None) × Calls old (Enter stage) (Refused Again) new None
@@ -101,6 +125,11 @@ pub record FindsFree (old : SeatState) (stage : Stage) (word : ℕ) (new : SeatS
   pub shown : Shows old.view.held.limit new.view.seen word
   pub looks : GateLooks old.view.held.limit old.number old.view new.view
 
+-- rule: `close` gives the word of a legal history that every seat handed in fits, without a stranger's entry; if all
+--   are, it counts exactly those that hold it.
+--   also: GateCalls.{fits, strangers, count}
+--   clauses: StaxGate::close; MutexWord::close
+--   rows: a_gate_closes_as_it_stands_whoever_is_handed_in
 -- The word shows the last state of a legal history that each of the seats fits, and in which each holds what its view says. No entry is of a seat that the gate was not made with. Where all its seats are handed in, its holders are just those of them that hold it
 pub record Closes (gate : GateState) (seats : List SeatState) (found : ℕ) : Type 0 where
   pub log : List GateEntry

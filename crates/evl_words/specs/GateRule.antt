@@ -1,4 +1,4 @@
--- The rule of a gate's table, which has one word, and what each step on it tells.
+-- The rule of a gate's table, which has one word, and what each step on it says.
 use Rattle.std.specs.Prelude.{◌≡◌, ℕ, ◌==◌, Some, List, replicate, MatchBool, MatchOption}
 use Rattle.evl_base.specs.declared.stage.Stage.{Stage}
 use Rattle.evl_words.specs.declared.gate.GateCall.TheVariants.{Enter}
@@ -30,6 +30,10 @@ view_in hand = first_view (newcomer 0) hand
 abbrev pub Shows : ℕ → List GateEntry → ℕ → Type 0
 Shows limit log word = (g : Gate) × Run (GateStep limit) open_gate log g × (word ≡ word_of g)
 
+-- rule: A lost exchange answers by the word that it found; if that would let the seat in, `Raced` carries both words.
+--   also: GateCalls.Races
+--   clauses: StaxGate::{look, exchange}
+--   rows: what_the_exchange_found_decides
 -- a seat that wants in found this word: a refusal is an entry, and otherwise it only looked
 abbrev pub Finds : ℕ → GateView → Stage → ℕ → GateView → Type 0
 Finds k v stage word w = (w.held ≡ v.held) × MatchOption (word_refusal v.held.limit word stage) (GateLooks v.held.limit k v w × Shows v.held.limit w.seen word) (λ refusal. GateAppends v.held.limit k v (Enter stage) (Refused refusal) w)
@@ -39,7 +43,7 @@ abbrev pub Enters : ℕ → GateView → Stage → ℕ → ℕ → GateView → 
 Enters k v stage old word w = MatchBool (word == old) ((w.held ≡ hold v.held.limit (Some stage)) × GateAppends v.held.limit k v (Enter stage) Entered w) (Finds k v stage word w)
 
 module _ {S : Type 0} where
-  -- a step tells that it is this event
+  -- a step says that it is this event
   abbrev pub does : GateKind → Tells S GateView
   does kind st k m found n = (n.1 ≡ m.1) × GateDoes m.0.held.limit k m.0 kind found n.0
 

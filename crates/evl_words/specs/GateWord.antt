@@ -15,9 +15,14 @@ abbrev pub mark_bit : Bool → ℕ
 mark_bit false = 0
 mark_bit true = 1
 
+-- rule: Bits 0 to 15 count the holders, bit 30 is their stage, bit 31 the claim mark.
+--   rows: the_word_shows_holders_and_stage; the_word_shows_the_claim_mark
 abbrev pub packed_gate : ℕ → Stage → Bool → ℕ
 packed_gate count stage marked = count + stage_bit stage * 1073741824 + mark_bit marked * 2147483648
 
+-- rule: The word counts the seats that hold the gate, and shows their stage.
+--   also: GateWord.{count_in, stage_in}
+--   clauses: word_shows_the_holders; holders_agree; holders_have_one_stage; gate_world_stands
 abbrev pub word_of : Gate → ℕ
 word_of g = packed_gate (length g.holders) g.stage g.marked
 

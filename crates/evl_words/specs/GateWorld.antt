@@ -50,6 +50,9 @@ pub record GateTie (limit found : ℕ) (g : Gate) (held : List GateHold) : Type 
 abbrev pub IsGateWorld : ℕ → GateWorld → Type 0
 IsGateWorld limit = IsWorld gate_author (GateStep limit) open_gate (GateTie limit)
 
+-- rule: The steps are a load, an exchange, a subtraction, a bitwise or and a bitwise and; each is one event of some
+--   consistent world.
+--   also: GateWorld.gate_steps; Dealings.DealingEvent
 -- `looks` is the load before an exchange by a seat that wants in at a stage, `exchanges` that of the word that it found
 pub data GateKind : Type 0 where
   looks : Stage → GateKind
@@ -68,6 +71,9 @@ step_may k v claims = Unit {0}
 step_may k v unclaims = Unit {0}
 step_may k v peeks = Unit {0}
 
+-- rule: Leaving is one subtraction; the last to leave learns whether the mark is set.
+--   also: Gate.gate_answer
+--   rows: the_last_to_leave_is_told_of_a_claim
 abbrev pub step_word : ℕ → ℕ → GateView → GateKind → ℕ
 step_word found k v (looks stage) = found
 step_word found k v (exchanges stage old) = either (found == old) (entered_word old stage) found

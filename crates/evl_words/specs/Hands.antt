@@ -21,6 +21,8 @@ module _ {V : Type 0} where
   AreOf views [] = Unit {0}
   AreOf views (p ∷ ps) = (get_elem? views p.number ≡ some p.view) × AreOf views ps
 
+  -- rule: A seat joined to another no longer counts; the other has what both hold and made.
+  --   rows: words_are_shared_and_seats_move
   -- no seat is in two hands, and each hand has the views of its seats
   pub record Deals (views : List V) (hands : List (Hand V)) : Type 0 where
     pub once : (k : ℕ) → sum_by (places_of k) hands ≤ 1
@@ -51,7 +53,7 @@ module _ {V : Type 0} where
   hand_back place_of (q ∷ qs) = hand_back place_of qs ++ place_of q ∷ []
 
   module _ {S : Type 0} where
-    -- what a step tells, at a token that has one seat: of the step, the seat's number, its view and slots before, the number found, and its view and slots after
+    -- what a step says, at a token that has one seat: of the step, the seat's number, its view and slots before, the number found, and its view and slots after
     abbrev pub Told : (Step S → ℕ → Me S V → ℕ → Me S V → Type 0) → Step S → Me S (Hand V) → ℕ → Me S (Hand V) → Type 0
     Told then st m found n = (k : ℕ) (v : V) → m.0 ≡ place k v ∷ [] → (w : V) × (n.0 ≡ place k w ∷ []) × then st k (v, m.1) found (w, n.1)
 

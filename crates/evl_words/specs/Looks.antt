@@ -1,4 +1,4 @@
--- Two tokens of one table that are one for a moment, in which they look at a word, and what that tells of them.
+-- Two tokens of one table that are one for a moment, in which they look at a word, and what that says of them.
 use Rattle.std.specs.Prelude.{◌≡◌, ℕ, [], ◌∷◌}
 use mathlib.Core.Option.{some}
 use lib.ListN.{get_elem?}
@@ -20,6 +20,6 @@ module _ {S V : Type 0} where
   abbrev pub TellsOfTwo : (State S (Hand V) → Type 0) → (Place V → Place V → Type 0) → Type 0
   TellsOfTwo holds together = (s : State S (Hand V)) (id : ℕ) (p q : Place V) → holds s → get_elem? s.views id ≡ some (p ∷ q ∷ []) → together p q
 
-  -- a look changes nothing, and tells how the two places of its token are together
+  -- a look changes nothing, and says how the two places of its token are together
   abbrev pub looked : (Place V → Place V → Type 0) → Step S → Me S (Hand V) → ℕ → Me S (Hand V) → Type 0
   looked together st m found n = (n ≡ m) × ((p q : Place V) → m.0 ≡ p ∷ q ∷ [] → together p q)

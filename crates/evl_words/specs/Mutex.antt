@@ -18,6 +18,9 @@ pub data Mutex : Type 0 where
   owned : ℕ → Bool → Mutex
   offered : ℕ → Bool → Mutex
 
+-- rule: The winner settles. An owner offers, with the mark if more wait, or frees.
+--   also: Mutex.mutex_change
+--   rows: a_claimed_mutex_is_handed_on; a_seat_may_wait_no_more
 -- Only an owner gives the mutex up, and only who won it settles
 abbrev pub mutex_may : Mutex → ℕ → MutexCall → Type 0
 mutex_may m by Try = Unit {0}
@@ -43,18 +46,27 @@ is_marked (seized h) = true
 is_marked (owned h marked) = marked
 is_marked (offered h marked) = marked
 
+-- rule: A try takes a free mutex by one exchange; any other mutex is `Busy`.
+--   also: Mutex.tried_word
 abbrev pub try_answer : Mutex → MutexReply
 try_answer unowned = Passed
 try_answer (seized h) = Refused Busy
 try_answer (owned h marked) = Refused Busy
 try_answer (offered h marked) = Refused Busy
 
+-- rule: A claim wins a free mutex, finds another winner, or queues after the owner and sets the mark.
+--   also: MutexRule.claimed
+--   rows: a_claim_wins_a_free_mutex; an_offer_is_for_one_seat
 abbrev pub claim_answer : Mutex → MutexReply
 claim_answer unowned = Won
 claim_answer (seized h) = Seizing
 claim_answer (owned h marked) = Queued h
 claim_answer (offered h marked) = Queued h
 
+-- rule: Accepting takes what is offered to this seat and keeps the mark. Forgetting is refused while this seat is
+--   offered it.
+--   also: Mutex.mutex_change
+--   rows: an_offer_is_for_one_seat; a_seat_may_wait_no_more
 abbrev pub mutex_answer : Mutex → ℕ → MutexCall → MutexReply
 mutex_answer m by Try = try_answer m
 mutex_answer m by Unlock = if is_marked m then Claimed else Done

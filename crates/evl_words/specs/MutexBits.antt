@@ -11,6 +11,9 @@ claim_bit true = 2147483648
 abbrev pub offer_word : ℕ → Bool → ℕ
 offer_word next more = next + 1 + 1073741824 + claim_bit more
 
+-- rule: Bits 0 to 15 are the owner's seat plus one, bit 30 an offer, bit 31 the claim mark. The mark without an owner
+--   means won and not yet settled.
+--   rows: a_claim_wins_a_free_mutex; a_claimed_mutex_is_handed_on; the_last_of_256_seats_has_the_number_256
 abbrev pub mutex_word : Mutex → ℕ
 mutex_word unowned = 0
 mutex_word (seized h) = 2147483648

@@ -59,6 +59,10 @@ seat_with table mutex number hand = record { table = table; mutex = mutex; numbe
 abbrev pub begins : ℕ → Hand MutexView → Type 0
 begins number hand = (hand ≡ place number (view_in hand) ∷ []) × (owns (view_in hand).held.role ≡ false)
 
+-- rule: A mutex is made free; seat k is thread k's. `close` is as a gate's.
+--   also: MutexCalls.Closes
+--   clauses: MutexWord::{new, close}
+--   rows: each_request_for_a_word_is_refused_once; seats_have_a_range; a_mutex_closes_as_it_stands_whoever_is_handed_in
 -- a seat as the mutex was made with it
 abbrev pub new_seat : MutexState → ℕ → MutexSeatState
 new_seat mutex number = record { table = mutex.table; mutex = mutex.id; number = number; depth = 0; view = newcomer mutex.seats }
@@ -74,16 +78,23 @@ IsPassOf pass seat = (pass.mutex ≡ seat.mutex) × (pass.seat ≡ seat.number)
 abbrev pub Makes : MutexSeatState → MutexKind → MutexSeatState → Type 0
 Makes old kind new = (found : ℕ) × MutexDoes old.number old.view kind found new.view
 
+-- rule: A busy try, an acceptance without an offer, a forgetting and a question are entries too.
+--   clauses: MutexWord::{try_lock, accept, forget, seen_offer}
 -- the seat made a call that was answered so, and now has this role and holds the mutex so often
 pub record Calls (old : MutexSeatState) (call : MutexCall) (reply : MutexReply) (new : MutexSeatState) (role : MutexRole) (times : ℕ) : Type 0 where
   pub held : new.view.held ≡ role_of old.view.held.seats role
   pub depth : new.depth ≡ times
   pub appends : MutexAppends old.number old.view call reply new.view
 
+-- rule: An owner that tries again gets `Deadlock`, or one level more of a recursive mutex, up to 255.
+--   also: MutexCalls.FailsToLock
+--   rows: a_recursive_mutex_nests
 -- A seat that holds nothing took the mutex, and an owner holds a recursive one once more
 abbrev pub Locks : MutexState → MutexSeatState → MutexSeatState → Type 0
 Locks mutex old new = MatchBool (old.depth == 0) (Calls old Try Passed new Owner 1) ((mutex.recursive ≡ true) × (old.depth < 255) × (new ≡ at_depth (old.depth + 1) old))
 
+-- refusals: MutexWord::try_lock
+--   order: Deadlock (local), Limit (local), Busy; no two apply at once
 -- Why a seat did not get the mutex. An owner is refused with no step
 abbrev pub FailsToLock : MutexState → MutexSeatState → MutexSeatState → Refusal → Type 0
 FailsToLock mutex old new Busy = (old.depth ≡ 0) × Calls old Try (Refused Busy) new old.view.held.role 0
@@ -96,6 +107,11 @@ abbrev pub Releases : MutexSeatState → MutexSeatState → MutexPass → Unlock
 Releases old new pass IsDone = Calls old Unlock Done new Bystander 0
 Releases old new pass (IsClaimed back) = (back ≡ pass) × Calls old Unlock Claimed new Owner 1
 
+-- rule: Unlocking above depth 1 lowers only the depth; at depth 1 it frees an unclaimed mutex, and leaves a claimed
+--   one.
+--   also: MutexCalls.{Releases, MutexSeatState, depth}
+--   clauses: MutexWord::{try_lock, unlock}
+--   rows: the_last_unlocking_frees
 -- above depth 1 it only holds the mutex once less
 abbrev pub Unlocks : MutexSeatState → MutexSeatState → MutexPass → Unlocking → Type 0
 Unlocks old new pass done = MatchBool (old.depth == 1) (Releases old new pass done) ((done ≡ IsDone) × (new ≡ at_depth (old.depth - 1) old))

@@ -65,6 +65,10 @@ NamesBelow n (seized h) = h < n
 NamesBelow n (owned h marked) = h < n
 NamesBelow n (offered h marked) = h < n
 
+-- rule: At most one seat owns a mutex or has won it. The mark without an owner shows a winner; the word names the
+--   owner.
+--   also: MutexWorld.HasIt; MutexRole
+--   clauses: one_seat_has_the_mutex; mark_alone_shows_a_winner; word_names_the_owner
 -- The word shows the mutex. Who owns it is its owner, and who has seized it its winner: so at most one seat is either
 pub record MutexTie (found : ℕ) (m : Mutex) (held : List MutexHold) : Type 0 where
   pub few : length held ≤ thread_limit
@@ -78,6 +82,8 @@ pub record MutexTie (found : ℕ) (m : Mutex) (held : List MutexHold) : Type 0 w
 abbrev pub IsMutexWorld : MutexWorld → Type 0
 IsMutexWorld = IsWorld mutex_author MutexStep unowned MutexTie
 
+-- rule: The steps are two exchanges, a bitwise or, a swap, a load and a bitwise and.
+--   also: MutexWorld.mutex_steps; MutexCalls.Accepts
 -- `awaits` is the load before the step of `accepts`
 pub data MutexKind : Type 0 where
   tries : MutexKind
@@ -95,6 +101,9 @@ pub data MutexKind : Type 0 where
 abbrev pub EndsOffered : ℕ → List MutexEntry → Type 0
 EndsOffered k log = (m : Mutex) × Run MutexStep unowned log m × (is_offered m k ≡ true)
 
+-- rule: Only a seat that has won and not settled settles; only one with its pass, at depth 1, offers or frees.
+--   also: MutexCalls.IsPassOf
+--   clauses: MutexWord::{settle, offer, free}
 -- An owner does not try. Only an owner gives the mutex up, to a seat or to nobody, only who won it settles, and only who has seen it offered to itself accepts it
 abbrev pub step_may : ℕ → MutexView → MutexKind → Type 0
 step_may k v tries = owns v.held.role ≡ false
@@ -139,6 +148,10 @@ queued_role Winner = Waiter
 queued_role Waiter = Waiter
 queued_role Owner = Owner
 
+-- rule: A claim after an owner makes a seat wait, unless it is the owner; one that wins makes it the winner. Forgetting
+--   ends the wait.
+--   also: MutexWorld.forgotten
+--   rows: a_seat_may_wait_no_more
 abbrev pub role_claimed : MutexReply → MutexRole → MutexRole
 role_claimed Won role = Winner
 role_claimed (Queued owner) role = queued_role role

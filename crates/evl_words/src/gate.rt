@@ -25,7 +25,7 @@ pub enum Left {
     Others,
 }
 
-/// A call on a gate, as its common history has it. It stands in contracts alone.
+/// A call on a gate, as its common history has it. Only contracts have it.
 pub enum GateCall {
     Enter(Stage),
     Leave,
@@ -34,7 +34,7 @@ pub enum GateCall {
     Peek,
 }
 
-/// What a call on a gate was answered, as its common history has it. It stands in contracts alone.
+/// What a call on a gate was answered, as its common history has it. Only contracts have it.
 pub enum GateReply {
     Entered,
     Refused(Refusal),
@@ -43,7 +43,7 @@ pub enum GateReply {
     Shown(u16, Stage),
 }
 
-/// The gate's limit, and the stage at which a seat holds the gate. It stands in contracts alone.
+/// The gate's limit, and the stage at which a seat holds the gate. Only contracts have it.
 pub struct GateHold {
     pub limit: u16,
     pub stage: Option<Stage>,

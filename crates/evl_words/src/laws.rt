@@ -29,6 +29,9 @@ pub fn gate_events_keep_order()
     ensures { (limit : ℕ) (w t : GateWorld) (events : List (Event GateKind)) → IsGateWorld limit w → Run (Happens gate_steps) w events t → IsGateWorld limit t }
 {}
 
+// rule: The world's conditions hold after any events from the opening on; the running gate's rule is that world.
+//   clauses: gate_world_stands; mutex_world_stands; gate_events_keep_order; gate_rule_is_its_world;
+//   mutex_events_keep_order; mutex_rule_is_its_world
 /// From the opening on it holds after any list of atomic steps, among which hands of seats are split and joined.
 pub fn gate_world_stands()
     ensures { (limit seats : ℕ) → limit ≤ 1000 → (events : List (DealingEvent GateKind)) (t : GateDealing) → Run (DealingStep gate_steps) (opened_dealing (replicate seats (newcomer limit))) events t → Holds (IsGateWorld limit) t }

@@ -11,7 +11,7 @@ use std::alloc::Allocator;
 use std::marker::PhantomData;
 use std::mem;
 
-/// How two seats of one table are together. It stands in contracts alone.
+/// How two seats of one table are together. Only contracts have it.
 pub trait Together<V> {
     ghost use Rattle.evl_words.specs.declared.history.Place.{Place};
 
@@ -27,7 +27,7 @@ impl<S, V, T: Together<V>> Play<S, HandOf<V>> for Look<T> {
     ghost then = { looked T.together };
 }
 
-/// Two tokens are one for a moment, in which word 0 is read, and two again. It tells how their seats are together, and
+/// Two tokens are one for a moment, in which word 0 is read, and two again. It says how their seats are together, and
 /// changes nothing.
 pub fn look_together<S, V, T: Together<V>, K, P: TableRule<S, HandOf<V>, K>, A: Allocator>(
     table: &Table<S, HandOf<V>, K, P, A>,

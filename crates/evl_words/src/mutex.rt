@@ -39,7 +39,7 @@ pub enum Claim {
     Seizing,
 }
 
-/// A call on a mutex word, as its common history has it. It stands in contracts alone.
+/// A call on a mutex word, as its common history has it. Only contracts have it.
 pub enum MutexCall {
     Try,
     Unlock,
@@ -52,7 +52,7 @@ pub enum MutexCall {
     SeenOffer,
 }
 
-/// What a call on a mutex word was answered, as its common history has it. It stands in contracts alone.
+/// What a call on a mutex word was answered, as its common history has it. Only contracts have it.
 pub enum MutexReply {
     Passed,
     Refused(Refusal),
@@ -64,7 +64,7 @@ pub enum MutexReply {
     Seen(bool),
 }
 
-/// What a seat is to a mutex. It stands in contracts alone.
+/// What a seat is to a mutex. Only contracts have it.
 pub enum MutexRole {
     /// Nothing.
     Bystander,
@@ -76,7 +76,7 @@ pub enum MutexRole {
     Owner,
 }
 
-/// How many seats the mutex has, and what this one is to it. It stands in contracts alone.
+/// How many seats the mutex has, and what this one is to it. Only contracts have it.
 pub struct MutexHold {
     pub seats: u16,
     pub role: MutexRole,

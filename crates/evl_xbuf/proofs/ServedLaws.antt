@@ -1,4 +1,4 @@
--- Services one after another, and their bytes behind one another.
+-- Services one after another, and their bytes in the same order.
 use Rattle.std.proofs.Common.{◌≡◌, ℕ, ◌≤◌, ◌-◌, Bool, true, false, List, [], ◌∷◌, ◌++◌, length, take, drop, slice_range, if◌then◌else◌, refl, sym, ap, ◌∙◌, append_assoc, append-nil, length-append, length-drop, arith}
 use Rattle.std.specs.List.{AllByRecursion}
 use Rattle.std.proofs.lemmas.List.{take-append-le, drop-append-le, map-append}
@@ -19,7 +19,7 @@ all-last : {A : Type 0} (P : A → Type 0) (xs : List A) (x : A) → AllByRecurs
 all-last P [] x h p = (p, tt)
 all-last P (y ∷ ys) x h p = (h.0, all-last P ys x h.1 p)
 
--- what stands there stays as it is when bytes are put behind it
+-- what is there stays as it is when bytes are put after it
 same_range : (bytes more : List ℕ) (a b : ℕ) → a ≤ b → b ≤ length bytes → slice_range (bytes ++ more) a b ≡ slice_range bytes a b
 same_range bytes more a b l h =
     let short : b - a ≤ length (drop a bytes) = omega (arith, length-drop a bytes) in
@@ -54,7 +54,7 @@ turns-wrote bytes turns thread h = record {
   whole = ap read_by (services-wrote bytes turns thread) ∙ read_by-append (services bytes turns) (Wrote thread ∷ []) ∙ append-nil (read_by (services bytes turns)) ∙ h.whole;
 }
 
--- a reader was served with the bytes that now stand behind the others
+-- a reader was served with the bytes that are now after the others
 abbrev reads : ℕ → ℕ → ℕ → Turn
 reads thread start end = record { thread = thread; reads = true; start = start; end = end }
 

@@ -65,10 +65,13 @@ abbrev pub run : List Call → Stream → Flow
 run [] s = still s
 run (call ∷ calls) s = let first = flow call s in followed_by first (run calls first.after)
 
--- all bytes that were accepted are those that were read, and behind them those that are there
+-- all bytes that were accepted are those that were read, and after them those that are there
 abbrev pub IsStream : Flow → Type 0
 IsStream f = f.accepted ≡ f.taken ++ f.after.there
 
+-- rule: All accepted bytes are those that were read, followed by those that are there.
+--   clauses: reads_follow_writes
+--   rows: waiting_bytes; waiting_reader; a_ring_is_a_list_that_is_cut
 -- whatever is called, and however often
 abbrev pub ReadsFollowWrites : Type 0
 ReadsFollowWrites = (size : ℕ) (calls : List Call) → IsStream (run calls (empty size))

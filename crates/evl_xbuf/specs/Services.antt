@@ -1,4 +1,4 @@
--- Whom a call served, and how that is kept: the bytes of all readers stand behind one another.
+-- Whom a call served, and how that is kept: the bytes of all readers follow one another.
 use Rattle.std.specs.Prelude.{ℕ, ◌≡◌, ◌≤◌, List, [], ◌∷◌, ◌++◌, length, map, slice_range, Option, Some, None, if◌then◌else◌}
 use Rattle.std.specs.List.{AllByRecursion}
 use Rattle.evl_xbuf.specs.declared.services.Service.{Service as Told}

@@ -19,10 +19,15 @@ pub record Stream : Type 0 where
 abbrev pub empty : ℕ → Stream
 empty size = record { size = size; there = []; writers = []; readers = [] }
 
+-- rule: The room of a way is what its ring has free.
+--   rows: cross_buffer; flags_and_buffers_2
 -- how many bytes are free
 abbrev pub room : Stream → ℕ
 room s = s.size - length s.there
 
+-- rule: A write longer than the ring is `TooBig`; if it does not fit, or a writer waits, `Again`.
+--   also: Streams.{can_write, too_big}
+--   rows: cross_buffer; flags_and_buffers_1; begin_write
 -- a write is whole
 abbrev pub fits : Stream → List ℕ → Bool
 fits s bytes = nat_le (length s.there + length bytes) s.size
@@ -35,6 +40,9 @@ is_empty (byte ∷ bytes) = false
 abbrev pub is_unawaited : Stream → Bool
 is_unawaited s = is_nobody s.readers && is_nobody s.writers
 
+-- rule: A write or a read of no bytes is always done.
+--   also: Streams.can_read
+--   rows: nothing; cross_buffer; nothing_goes_past_a_writer_but_nothing
 -- a write of nothing is accepted; another if no writer waits and it fits
 abbrev pub can_write : Stream → List ℕ → Bool
 can_write s bytes = is_empty bytes || (is_nobody s.writers && fits s bytes)
@@ -54,6 +62,10 @@ out_of_range len = if nat_lt 256 len then Some Range else None
 abbrev pub bytes_written : Stream → List ℕ → Stream
 bytes_written s bytes = record s { there = s.there ++ bytes }
 
+-- rule: A read gives the next bytes, as many as are wanted or there; with nothing there it is `Again`, for more than
+--   256 bytes `Range`.
+--   also: Streams.{can_read, out_of_range}
+--   rows: cross_buffer; flags_and_buffers_1
 -- what a read gives: the next bytes, as many as are wanted or are there
 abbrev pub bytes_given : Stream → ℕ → List ℕ
 bytes_given s len = take len s.there
@@ -85,6 +97,10 @@ abbrev pub writer_served : List Writer → Stream → Option (Service × Stream)
 writer_served [] s = None
 writer_served (w ∷ ws) s = if fits s w.bytes.items then Some (Wrote w.thread, record (bytes_written s w.bytes.items) { writers = ws }) else None
 
+-- rule: After each change the heads of the queues are served until neither can be; the others keep their places.
+--   also: Streams.services_made
+--   clauses: services_go_by_arrival
+--   rows: flags_and_buffers_1; flags_and_buffers_2; shared; readers_share_a_write
 abbrev pub next_service : Stream → Option (Service × Stream)
 next_service s = option_or (reader_served s.readers s) (writer_served s.writers s)
 
@@ -116,6 +132,9 @@ try_write bytes s = unless (too_big s bytes) (if can_write s bytes then Ok (serv
 abbrev pub with_bytes : List ℕ → List Service × Stream → (List ℕ × List Service) × Stream
 with_bytes bytes (services, after) = ((bytes, services), after)
 
+-- rule: A read gets no byte of a waiting writer.
+--   also: Streams.{bytes_given, services_made}
+--   rows: flags_and_buffers_1
 abbrev pub try_read : ℕ → Stream → Result ((List ℕ × List Service) × Stream) Refusal
 try_read len s = if can_read s len then Ok (with_bytes (bytes_given s len) (services_made (bytes_read s len))) else Err Again
 
@@ -130,6 +149,8 @@ begin_write thread bytes s = unless (too_big s bytes) (Ok (if can_write s bytes 
 abbrev pub begin_read : ℕ → ℕ → Stream → Option (List ℕ × List Service) × Stream
 begin_read thread len s = if can_read s len then at_once (with_bytes (bytes_given s len) (services_made (bytes_read s len))) else (None, with_reader s thread len)
 
+-- rule: A dropped waiter is such a change.
+--   rows: dropped; a_dropped_writer_lets_others_in
 abbrev pub drop_waiter : ℕ → Stream → List Service × Stream
 drop_waiter thread s = services_made (without s thread)
 
@@ -137,6 +158,11 @@ drop_waiter thread s = services_made (without s thread)
 abbrev pub HasOneQueue : Stream → Type 0
 HasOneQueue s = (s.writers ≡ []) ⊎ (s.readers ≡ [])
 
+-- rule: At rest nobody waits who can be served, and of one way only one queue has anybody; each waiting writer's bytes
+--   would fit an empty ring.
+--   also: Streams.{HasOneQueue, room}
+--   clauses: Xbuf::room
+--   rows: buffer_that_blocks; fresh
 -- nobody waits who can be served
 pub record IsAtRest (s : Stream) : Type 0 where
   pub rests : next_service s ≡ None

@@ -14,6 +14,10 @@ pub record Xbuf : Type 0 where
   pub inbound : Stream
   pub outbound : Stream
 
+-- rule: The first size is way `In`'s ring. A step of one way leaves the other.
+--   also: Xbufs.with_other_way
+--   clauses: Xbuf::new
+--   rows: other_way
 -- the size of the ring of way `In`, and that of way `Out`
 abbrev pub opened_xbuf : ℕ → ℕ → Xbuf
 opened_xbuf inbound outbound = record { inbound = empty inbound; outbound = empty outbound }
@@ -26,6 +30,9 @@ abbrev pub with_stream : Xbuf → Way → Stream → Xbuf
 with_stream x In s = record x { inbound = s }
 with_stream x Out s = record x { outbound = s }
 
+-- rule: Way `In` is written in-band and read out-of-band, way `Out` the other way round; else `WrongStage`.
+--   also: Xbufs.{reading_stage, stage_refusal}
+--   rows: cross_buffer; other_way
 abbrev pub writing_stage : Way → Stage
 writing_stage In = Inband
 writing_stage Out = Oob
@@ -53,18 +60,38 @@ unless_refused x way (Err refusal) = Err refusal
 
 -- the calls, each as one step of a cross-buffer: what it answers, and the buffer after it
 
+-- rule: Refusals, in order: `Range`, `WrongStage`, `TooBig`, `Again`.
+--   also: Xbufs.try_read
+--   rows: order_of_refusals
+-- rule: Each call is one step of its way, with whom it served with what. A refused call changes nothing.
+--   also: Xbufs.{try_read, begin_write, begin_read}
+--   clauses: Xbuf::{new, try_write, try_read, begin_write, begin_read, drop_waiter, room, try_write_telling,
+--   try_read_telling, begin_write_telling, begin_read_telling, drop_waiter_telling}
+-- rule: An unserved write or read that says yes is the call's step, and nobody was served; the read takes at most one
+--   kept box. One that says no changes nothing. A write says yes exactly at the right stage, where nobody waits and the
+--   bytes fit; when a read says no, no clause says.
+--   also: Xbufs.try_read; Streams.is_unawaited
+--   clauses: Xbuf::{write_unserved, read_unserved}
+-- refusals: Xbuf::try_write
+--   order: WrongStage, TooBig, Again
 abbrev pub try_write : Stage → Way → List ℕ → Xbuf → Result (List Service × Xbuf) Refusal
 try_write stage way bytes x =
     unless (stage_refusal (writing_stage way) stage) (unless_refused x way (streams.try_write bytes (stream x way)))
 
+-- refusals: Xbuf::try_read
+--   order: Range, WrongStage, Again
 abbrev pub try_read : Stage → Way → ℕ → Xbuf → Result ((List ℕ × List Service) × Xbuf) Refusal
 try_read stage way len x =
     unless (out_of_range len) (unless (stage_refusal (reading_stage way) stage) (unless_refused x way (streams.try_read len (stream x way))))
 
+-- refusals: Xbuf::begin_write
+--   order: WrongStage, TooBig
 abbrev pub begin_write : ℕ → Stage → Way → List ℕ → Xbuf → Result (Option (List Service) × Xbuf) Refusal
 begin_write thread stage way bytes x =
     unless (stage_refusal (writing_stage way) stage) (unless_refused x way (streams.begin_write thread bytes (stream x way)))
 
+-- refusals: Xbuf::begin_read
+--   order: Range, WrongStage
 abbrev pub begin_read : ℕ → Stage → Way → ℕ → Xbuf → Result (Option (List ℕ × List Service) × Xbuf) Refusal
 begin_read thread stage way len x =
     unless (out_of_range len) (unless (stage_refusal (reading_stage way) stage) (Ok (with_other_way x way (streams.begin_read thread len (stream x way)))))

@@ -67,6 +67,8 @@ impl Services {
         self.bytes.clear();
     }
 
+    // rule: Readers give a call's services, each with its bytes.
+    //   clauses: Services::{len, get, new, clear}
     /// How many were served, at most `MAX_THREADS`.
     #[inline(always)]
     pub fn len(&self) -> usize
@@ -76,7 +78,7 @@ impl Services {
         self.turns.len()
     }
 
-    /// The service at this place, from 0, with at most 256 bytes; none behind the last one.
+    /// The service at this place, from 0, with at most 256 bytes; none after the last one.
     pub fn get(&self, place: usize) -> Option<Service<'_>>
         ensures service { option_map told_of result ≡ slice_get self.now place }
         ensures short { IsShort result }

@@ -39,6 +39,9 @@ impl<A: Allocator> Model for XbufOf<A> {
 }
 
 impl<A: Allocator + Clone> XbufOf<A> {
+    // refusals: Xbuf::new
+    //   order: NoMemory
+    //   clauses: Xbuf::new: refusal
     /// A cross-buffer whose ring of way `In` has `inbound` bytes and whose ring of way `Out` has `outbound`, each at most
     /// 256. Nothing is in them and nobody waits. `NoMemory` where the rings or the room for waiting writers were refused.
     /// (Xenomai 4: EVL cross-buffer; this profile)
@@ -109,7 +112,7 @@ impl<A: Allocator> XbufOf<A> {
     }
 
     /// Writes as `try_write` does where that is done at once, and says whom that served; else the thread, which doesn't
-    /// wait to write here yet, begins to wait, behind all other writers, and the answer is none. Refused, in this
+    /// wait to write here yet, begins to wait, after all other writers, and the answer is none. Refused, in this
     /// order, with nothing changed: `WrongStage` from the other stage; `TooBig` where the bytes are longer than the
     /// ring. (Xenomai 4: EVL cross-buffer)
     pub fn begin_write(
@@ -133,7 +136,7 @@ impl<A: Allocator> XbufOf<A> {
     }
 
     /// Reads as `try_read` does where that is done at once, and says whom that served; else the thread, which doesn't
-    /// wait to read here yet, begins to wait, behind all other readers, and the answer is none. Refused, in this order,
+    /// wait to read here yet, begins to wait, after all other readers, and the answer is none. Refused, in this order,
     /// with nothing changed: `Range` where `len` is above 256; `WrongStage` from the other stage. (Xenomai 4: EVL
     /// cross-buffer)
     pub fn begin_read(
@@ -156,7 +159,7 @@ impl<A: Allocator> XbufOf<A> {
         }
     }
 
-    /// Lets a thread wait this way no more, and says whom that served: those behind it whom it held back, in order.
+    /// Lets a thread wait this way no more, and says whom that served: those after it whom it held back, in order.
     /// Where it doesn't wait there nothing changes and nobody is served.
     pub fn drop_waiter(&mut self, thread: ThreadId, way: Way) -> Services
         ensures step { (result, self.new) ≡ drop_waiter thread.0 way self.old }
@@ -189,6 +192,8 @@ impl<A: Allocator> XbufOf<A> {
         }
     }
 
+    // rule: Readers give a cross-buffer's parts.
+    //   clauses: Xbuf::{there, writer, reader, is_too_big}
     /// How many bytes stand in this way's ring: 0 to its size. (Xenomai 4: EVL cross-buffer)
     pub fn there(&self, way: Way) -> usize
         ensures there { result ≡ length (stream self.now way).there }

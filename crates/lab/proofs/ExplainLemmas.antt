@@ -1,4 +1,4 @@
--- What is said of files that are refused, behind what a part says.
+-- What is said of files that are refused, after what a part says.
 use Rattle.std.proofs.Common.{◌≡◌, ◌∙◌, ℕ, List, [], ◌∷◌, ◌++◌, append-nil, append_assoc, Bool, true, false, Option, Result, Ok, Err, IfOk, refl, sym, ap, ap₂, subst}
 use Rattle.std.specs.Prelude.{MatchBool}
 use Rattle.std.specs.Io.KnownBytes.{Appends}
@@ -36,7 +36,7 @@ each_more own [] name said more none file = (more, [], file, refl, ap (λ (l : L
 each_more own (first ∷ rest) name said more (own_said, others, is, each, whole) file =
     (own_said, others ++ more, is, each_more own rest name others more each file, ap (λ (l : List ℕ). l ++ more) whole ∙ append_assoc own_said others more)
 
--- behind a part
+-- after a part
 pub behind : (Part : Option (List ℕ) → Option (List ℕ) → Option (List ℕ) → Option (List ℕ) → ℕ → Type 0) (own : Takes) (names : List (List ℕ))
     (old new quiet between spoken : Option (List ℕ)) (status : ℕ) → Part old new quiet between status
     → ((said : List ℕ) × Explains own status names said × Appends between spoken said) → Behind Part own names old new quiet spoken status

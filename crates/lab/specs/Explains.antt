@@ -1,4 +1,4 @@
--- What is said of files that a part has refused, behind what the part says: the first fault of each, and the way to `lab check`.
+-- What is said of files that a part has refused, after what the part says: the first fault of each, and the way to `lab check`.
 use Rattle.std.specs.Prelude.{◌≡◌, ◌⊎◌, ◌==◌, ℕ, Bool, true, false, MatchBool, List, [], ◌∷◌, ◌++◌, codes, Option, Some, None, Ok, Err}
 use Rattle.std.specs.Io.KnownBytes.{Appends}
 use Rattle.std.specs.Option.{option_map_or}
@@ -50,7 +50,7 @@ abbrev pub ExplainsText : Takes → List ℕ → List ℕ → List ℕ → Type 
 ExplainsText own name text said =
     MatchBool (is_taken own (checked_kind text)) (ExplainsKind (checked_kind text) name text said) (said ≡ misplaced_text own (kind_of text) name)
 
--- of what stands for a text; of lines that can't be read the part has told the place
+-- of what is in place of a text; of lines that can't be read the part has reported the place
 abbrev pub ExplainsGiven : Takes → List ℕ → List ℕ → List ℕ → Type 0
 ExplainsGiven own name text said =
     ((plain : List ℕ) × IsPlain text plain × ExplainsText own name plain said) ⊎ ((e : LinesFault) × IsUnread text e × (said ≡ []))
@@ -73,7 +73,12 @@ ExplainsEach own (name ∷ rest) said = (first others : List ℕ) × ExplainsFil
 abbrev pub Explains : Takes → ℕ → List (List ℕ) → List ℕ → Type 0
 Explains own status names said = MatchBool (status == 2) (ExplainsEach own names said) (said ≡ [])
 
--- a part has said what it says, and behind it this is said
+-- rule: If the status is 2, `play` (with `--states` too), `orders`, `callers` and `draw` end with, for each file that
+--   `check` takes as a kind that this part takes, and that has a fault, the first line of `check`'s report and the way
+--   to `lab check`; for callers' text for `lab orders` that it is one; and nothing else.
+--   also: Explains.Explains
+--   clauses: explained_plays; explained_states; explained_orders; explained_callers; explained_draws
+-- a part has said what it says, and after it this is said
 pub record Behind (Part : Option (List ℕ) → Option (List ℕ) → Option (List ℕ) → Option (List ℕ) → ℕ → Type 0) (own : Takes) (names : List (List ℕ))
     (old new quiet spoken : Option (List ℕ)) (status : ℕ) : Type 0 where
   pub between : Option (List ℕ)

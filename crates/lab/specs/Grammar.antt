@@ -10,19 +10,19 @@ use Rattle.clap.specs.declared.builder.value_parser.ValueParser.TheVariants.{Sig
 
 -- ---- one word
 
--- a text stands behind it
+-- a text comes after it
 abbrev pub text_rule : Text → Rule
 text_rule name = record (new_rule name) { long = Some name; action = Some Set; value_names = 1 }
 
--- a number from 1 to this one stands behind it
+-- a number from 1 to this one comes after it
 abbrev pub number_rule : Text → ℤ → Rule
 number_rule name most = record (new_rule name) { long = Some name; value_names = 1; parser = Some (Signed (pos 1) most) }
 
--- nothing stands behind it, and there are words that it doesn't go with, or doesn't go without
+-- nothing is after it, and there are words that it doesn't go with, or doesn't go without
 abbrev pub mark_rule : Text → Rule
 mark_rule name = record (new_rule name) { long = Some name; action = Some SetTrue; is_free = false }
 
--- nothing stands behind it
+-- nothing is after it
 abbrev pub free_rule : Text → Rule
 free_rule name = record (new_rule name) { long = Some name; action = Some SetTrue }
 
@@ -75,7 +75,7 @@ callers_part = part (codes "callers") (bank_rule ∷ limit_rule ∷ file_rule �
 
 unfoldable pub run_part : Shape
 run_part =
-    part (codes "run") (bank_rule ∷ free_rule (codes "json") ∷ free_rule (codes "csv") ∷ free_rule (codes "trace") ∷ free_rule (codes "scenario") ∷ free_rule (codes "svg") ∷ file_rule ∷ [])
+    part (codes "run") (bank_rule ∷ free_rule (codes "json") ∷ free_rule (codes "csv") ∷ free_rule (codes "trace") ∷ free_rule (codes "scenario") ∷ free_rule (codes "svg") ∷ free_rule (codes "bound") ∷ file_rule ∷ [])
 
 unfoldable pub help_part : Shape
 help_part = part (codes "help") (free_rule (codes "json") ∷ one_rule (codes "WORD") ∷ [])
@@ -89,6 +89,10 @@ program parts = record {
   subs = parts;
 }
 
+-- rule: The words of `lab` are one grammar of parts, words after each, and texts and numbers after those. The part
+--   found is the one named, with what follows it; words that fit are refused only for want of memory. (Which words
+--   exclude others no clause says.)
+--   clauses: read_words: part, taken
 abbrev pub grammar : App
 grammar = program (check_part ∷ draw_part ∷ play_part ∷ convert_part ∷ live_part ∷ orders_part ∷ callers_part ∷ run_part ∷ help_part ∷ [])
 

@@ -1,4 +1,4 @@
--- What `lab help` tells.
+-- What `lab help` says.
 use Rattle.std.specs.Prelude.{◌≡◌, ℕ, List, ◌++◌, codes, map, Bool, true, false, Option, Some, None, is_some}
 use Rattle.evl_base.specs.Calls.{name_of, words}
 use Rattle.evl_scenario.specs.Steps.{word_of}
@@ -16,6 +16,12 @@ abbrev pub HelpsWith : Bool → List ℕ → Output → Type 0
 HelpsWith true word output = output ≡ prints (call_help word)
 HelpsWith false word output = output ≡ refuses 3 (no_call_text word)
 
+-- rule: `lab help` prints the form of each call, with a word that of one call and what its keys take, with `--json` the
+--   list of the calls or the line of one, and answers 0. For a word that no call has it says so on standard error, with
+--   the call that may be meant, prints nothing and answers 3.
+--   also: Helps.{HelpsJson, no_call_text}
+--   clauses: help; help_json; tell_no_call
+--   rows: help_tells_what_keys_take
 abbrev pub Helps : Option (List ℕ) → Output → Type 0
 Helps None output = output ≡ prints forms_text
 Helps (Some word) output = HelpsWith (is_some (word_of word)) word output

@@ -12,7 +12,12 @@ abbrev pub DrawsFound : Drawing → Option (List ℕ) → ℕ → List ℕ → O
 DrawsFound drawing bank found printed old new quiet spoken status =
     MatchBool (found == 2) ((status ≡ 2) × (new ≡ old) × (spoken ≡ quiet)) (Draws drawing bank None (Some printed) old new quiet spoken status)
 
--- `orders` prints the outcome's scenario, and tells what it tells; then that is drawn
+-- rule: If an outcome is asked for, it says what `lab orders` says of that outcome and draws the scenario or the lines
+--   that `lab orders` prints of it, as an input, over the same bank; the status is that of the picture, or 2 if `lab
+--   orders` answers 2, and then nothing is printed.
+--   also: Outcomes.DrawsFound
+--   clauses: draw_outcome
+-- `orders` prints the outcome's scenario, and says what it says; then that is drawn
 abbrev pub DrawsOutcome : Asked → Drawing → Option (List ℕ) → Option (List ℕ) → Option (List ℕ) → Option (List ℕ) → Option (List ℕ) → ℕ → Type 0
 DrawsOutcome asked drawing known old new quiet spoken status =
     (printed : List ℕ) × (between : Option (List ℕ)) × (found : ℕ)

@@ -36,7 +36,7 @@ fn check_command<'a>(alloc: Global) -> Result<Command<'a>, AllocError>
     Ok(with_files)
 }
 
-// What is told as JSON.
+// What is reported as JSON.
 fn json_word<'a>(alloc: Global) -> Result<Arg<'a>, AllocError>
     ensures { IfOk result (IsWord (mark_rule (codes "json"))) }
 {
@@ -47,7 +47,7 @@ fn json_word<'a>(alloc: Global) -> Result<Arg<'a>, AllocError>
         .conflicts_with("against")
 }
 
-// How the machine stands is told.
+// The machine's state is printed.
 fn states_word<'a>(alloc: Global) -> Result<Arg<'a>, AllocError>
     ensures { IfOk result (IsWord (mark_rule (codes "states"))) }
 {
@@ -59,7 +59,7 @@ fn states_word<'a>(alloc: Global) -> Result<Arg<'a>, AllocError>
         .conflicts_with("against")
 }
 
-// What is told as JSON, of texts and of calls.
+// What is reported as JSON, of texts and of calls.
 fn as_json_word<'a>(alloc: Global, help: &'a str) -> Arg<'a>
     ensures { IsWord (free_rule (codes "json")) result }
 {
@@ -265,7 +265,7 @@ fn order_word<'a>(alloc: Global) -> Arg<'a>
         .help("Prints the scenario of this order alone, as \"T1 T2 T1\", if its steps can be made")
 }
 
-// Whether the answers that came at each step are told.
+// Whether the answers that came at each step are reported.
 fn answers_word<'a>(alloc: Global) -> Arg<'a>
     ensures { IsWord (free_rule (codes "answers")) result }
 {
@@ -277,7 +277,7 @@ fn answers_word<'a>(alloc: Global) -> Arg<'a>
         )
 }
 
-// What is told of all orders as JSON.
+// What is reported of all orders as JSON.
 fn orders_json_word<'a>(alloc: Global) -> Arg<'a>
     ensures { IsWord (free_rule (codes "json")) result }
 {

@@ -6,7 +6,7 @@ ghost use Rattle.lab_draws.specs.Draws.{Draws};
 ghost use Rattle.lab.specs.Explains as explains;
 ghost use Rattle.lab.specs.Explains.{Behind, Explains, ExplainsEach, ExplainsFile, ExplainsGiven, ExplainsKind, ExplainsText, IsFirstLine, fault_text, misplaced_text, named};
 ghost use Rattle.lab_asks.specs.Orders.{TellsOrders};
-ghost use Rattle.lab_notes.specs.States.{TellsUnlessRefused};
+ghost use Rattle.lab_plays.specs.States.{TellsUnlessRefused};
 ghost use Rattle.lab_plays.specs.Plays.{PlaysUnlessRefused};
 ghost use Rattle.lab_streams.specs.Streams.{EndsEarly};
 ghost use Rattle.lab_traces.specs.Parts.{around};
@@ -16,8 +16,7 @@ use lab_draws::draw;
 use lab_drives::drive_callers;
 use lab_kinds::{TextKind, checked_kind, kind_of, report_kind};
 use lab_lines::{LinesFault, plain_text};
-use lab_notes::tell_states;
-use lab_plays::play_files;
+use lab_plays::{play_files, tell_states};
 use lab_streams::{AT_FAULT, Asked, Drawing, Driving, Playing, Stream, read_file};
 use std::alloc::{AllocError, Global};
 use std::io::{self, Read};
@@ -43,7 +42,7 @@ fn is_taken(takes: Takes, kind: TextKind) -> bool
     }
 }
 
-// What stands before the first end of a line, and what behind it.
+// What comes before the first end of a line, and what after it.
 fn around_feed(report: &str) -> Option<(&str, &str)>
     ensures { option_map (λ parts. (parts.0.now, parts.1.now)) result ≡ around 10 report.now }
 {
@@ -104,7 +103,7 @@ fn misplaced_text(
     }
 }
 
-// The same of a text, by the kind as which it is checked.
+// As `misplaced_text`, of a text, by the kind as which it is checked.
 fn explained_text(
     alloc: Global,
     takes: Takes,
@@ -121,7 +120,7 @@ fn explained_text(
     }
 }
 
-// The same of what stands for a text.
+// As `explained_text`, of what is in place of a text.
 fn explained_given(
     alloc: Global,
     takes: Takes,
@@ -137,7 +136,7 @@ fn explained_given(
     }
 }
 
-// The same of a file that can be read.
+// As `explained_given`, of a file that can be read.
 fn explained_file<R: Files + AllocGlobal>(
     rt: &R,
     takes: Takes,
@@ -154,7 +153,7 @@ fn explained_file<R: Files + AllocGlobal>(
     }
 }
 
-// The same of files, one behind the other.
+// As `explained_file`, of files, one after the other.
 fn explain_each<R: Files + AllocGlobal>(
     rt: &R,
     takes: Takes,
@@ -170,7 +169,7 @@ fn explain_each<R: Files + AllocGlobal>(
     Ok(())
 }
 
-// Tells the first fault of each of these files, where the status is that of texts at fault.
+// Reports the first fault of each of these files, where the status is that of texts at fault.
 fn explain<R: Files + AllocGlobal, E: Stream>(
     rt: &R,
     takes: Takes,
@@ -189,7 +188,7 @@ fn explain<R: Files + AllocGlobal, E: Stream>(
     err.write_all(told.as_bytes())
 }
 
-// The same of one file, if there is one.
+// As `explain`, of one file, if there is one.
 fn explain_one<R: Files + AllocGlobal, E: Stream>(
     rt: &R,
     takes: Takes,
@@ -206,7 +205,7 @@ fn explain_one<R: Files + AllocGlobal, E: Stream>(
     }
 }
 
-/// Does `play`, and then tells the first fault of each file, where one is refused.
+/// Does `play`, and then reports the first fault of each file, where one is refused.
 pub fn explained_plays<R: Files + AllocGlobal, I: Read, O: Stream, E: Stream>(
     rt: &R,
     playing: Playing<'_>,
@@ -223,7 +222,7 @@ pub fn explained_plays<R: Files + AllocGlobal, I: Read, O: Stream, E: Stream>(
     Ok(status)
 }
 
-/// Does `play --states`, and then tells the first fault of each file, where one is refused.
+/// Does `play --states`, and then reports the first fault of each file, where one is refused.
 pub fn explained_states<R: Files + AllocGlobal, I: Read, O: Stream, E: Stream>(
     rt: &R,
     playing: Playing<'_>,
@@ -240,7 +239,7 @@ pub fn explained_states<R: Files + AllocGlobal, I: Read, O: Stream, E: Stream>(
     Ok(status)
 }
 
-/// Does `orders`, and then tells the first fault of a file that is refused.
+/// Does `orders`, and then reports the first fault of a file that is refused.
 pub fn explained_orders<R: Files + AllocGlobal, I: Read, O: Stream, E: Stream>(
     rt: &R,
     asked: &Asked<'_>,
@@ -256,7 +255,7 @@ pub fn explained_orders<R: Files + AllocGlobal, I: Read, O: Stream, E: Stream>(
     Ok(status)
 }
 
-/// Does `callers`, and then tells the first fault of a file that is refused.
+/// Does `callers`, and then reports the first fault of a file that is refused.
 pub fn explained_callers<R: Files + AllocGlobal, I: Read, O: Stream, E: Stream>(
     rt: &R,
     asked: Driving<'_>,
@@ -272,7 +271,7 @@ pub fn explained_callers<R: Files + AllocGlobal, I: Read, O: Stream, E: Stream>(
     Ok(status)
 }
 
-/// Does `draw`, and then tells the first fault of a file that is refused.
+/// Does `draw`, and then reports the first fault of a file that is refused.
 pub fn explained_draws<R: Files + AllocGlobal, I: Read, O: Stream, E: Stream>(
     rt: &R,
     drawing: Drawing,

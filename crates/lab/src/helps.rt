@@ -30,7 +30,7 @@ fn print_forms<O: Stream>(alloc: Global, out: &mut O) -> io::Result<u8>
     Ok(0)
 }
 
-// Prints the form of a call and what its keys take, and tells whether there is such a call.
+// Prints the form of a call and what its keys take, and says whether there is such a call.
 fn print_call<O: Stream>(alloc: Global, word: &str, out: &mut O) -> io::Result<bool>
     ensures answers { IfOk result (λ is_call. is_call ≡ is_some (word_of word.now)) }
     ensures form { OnOk result (Appends (O.contents out.old) (O.contents out.new) (call_help word.now)) }
@@ -57,7 +57,7 @@ fn meant_call(alloc: Global, word: &str) -> Result<String, AllocError>
     meant_or_near(alloc, word, call_words())
 }
 
-// Tells that no call has a word, and which may be meant.
+// Says that no call has a word, and which may be meant.
 fn tell_no_call<E: Stream>(alloc: Global, err: &mut E, word: &str) -> io::Result<u8>
     ensures status { IfOk result (λ status. status ≡ 3) }
     ensures line { OnOk result (Appends (E.contents err.old) (E.contents err.new) (no_call_text word.now)) }
@@ -72,7 +72,7 @@ fn tell_no_call<E: Stream>(alloc: Global, err: &mut E, word: &str) -> io::Result
     Ok(REFUSED)
 }
 
-// Prints the form of a call, or tells that there is no such call, and answers the status.
+// Prints the form of a call, or says that there is no such call, and answers the status.
 fn help_with<O: Stream, E: Stream>(
     alloc: Global,
     call: &str,
@@ -100,7 +100,7 @@ fn print_calls<O: Stream>(alloc: Global, out: &mut O) -> io::Result<u8>
     Ok(0)
 }
 
-// Prints the line of JSON of a call, and tells whether there is such a call.
+// Prints the line of JSON of a call, and says whether there is such a call.
 fn print_call_json<O: Stream>(alloc: Global, word: &str, out: &mut O) -> io::Result<bool>
     ensures answers { IfOk result (λ is_call. is_call ≡ is_some (word_of word.now)) }
     ensures form { OnOk result (Appends (O.contents out.old) (O.contents out.new) (call_named word.now)) }
@@ -113,7 +113,7 @@ fn print_call_json<O: Stream>(alloc: Global, word: &str, out: &mut O) -> io::Res
     Ok(is_call)
 }
 
-// The same, or tells that there is no such call, and answers the status.
+// The same, or says that there is no such call, and answers the status.
 fn help_with_json<O: Stream, E: Stream>(
     alloc: Global,
     call: &str,

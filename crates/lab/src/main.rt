@@ -41,7 +41,7 @@ fn show_help<O: Stream>(text: &str, out: &mut O) -> io::Result<u8>
     Ok(0)
 }
 
-// Tells why words are refused, and answers the status.
+// Says why words are refused, and answers the status.
 fn refuse<E: Stream>(text: &str, err: &mut E) -> io::Result<u8>
     ensures status { IfOk result (λ status. status ≡ 3) }
     ensures text { OnOk result (Appends (E.contents err.old) (E.contents err.new) text.now) }
@@ -51,7 +51,7 @@ fn refuse<E: Stream>(text: &str, err: &mut E) -> io::Result<u8>
     Ok(REFUSED)
 }
 
-// Answers words that ask for nothing that is done: they are refused, or ask for help. Want of memory isn't told: it is
+// Answers words that ask for nothing that is done: they are refused, or ask for help. Want of memory isn't reported: it is
 // this function's own error.
 fn turn_away<O: Stream, E: Stream>(
     alloc: Global,
@@ -99,7 +99,7 @@ fn do_own_words(rt: &HostRuntime) -> io::Result<u8> {
     do_words(rt, texts.as_slice(), &mut input, &mut out, &mut err)
 }
 
-// Tells why the program ends early, and answers the status.
+// Says why the program ends early, and answers the status.
 fn tell_failure<E: Write>(err: &mut E, error: &io::Error) -> u8
     ensures memory { error_kind error.now ≡ io_kind.OutOfMemory → result ≡ 4 }
     ensures failed { error_kind error.now ≢ io_kind.OutOfMemory → result ≡ 1 }

@@ -100,8 +100,8 @@ fn draw_printed<R: Files + AllocGlobal, O: Stream, E: Stream>(
     draw(rt, drawing, bank, None, &mut scenario, out, err)
 }
 
-/// Draws the outcome that is asked for: the scenario that `orders` prints of it, over the same bank. What is told of
-/// `[ask]` stands before it. The status is that of the picture, or 2 where `orders` answers 2; then nothing is drawn.
+/// Draws the outcome that is asked for: the scenario that `orders` prints of it, over the same bank. What is reported of
+/// `[ask]` is before it. The status is that of the picture, or 2 where `orders` answers 2; then nothing is drawn.
 pub fn draw_outcome<R: Files + AllocGlobal, I: Read, O: Stream, E: Stream>(
     rt: &R,
     asked: &Asked<'_>,

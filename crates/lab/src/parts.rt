@@ -10,8 +10,7 @@ use crate::outcomes::draw_outcome;
 use crate::runs::run;
 use clap::ArgMatches;
 use lab_drives::live;
-use lab_notes::note_files;
-use lab_plays::check_files;
+use lab_plays::{check_files, note_files};
 use lab_streams::{
     REFUSED, Shown, Source, Stream, asked_of, convert, converting_of, drawing_of, driving_of,
     playing_of,

@@ -50,6 +50,11 @@ pub fn run_command<'a>(alloc: Global) -> Result<Command<'a>, AllocError>
         "The scenario that plays to the same history",
     ))?;
     let as_svg = as_scenario.arg(form_word(alloc, "svg", "A chart of the schedule"))?;
-    let with_file = as_svg.arg(run_file(alloc))?;
+    let with_bounds = as_svg.arg(form_word(
+        alloc,
+        "bound",
+        "The report with the bound that response time analysis gives each task",
+    ))?;
+    let with_file = with_bounds.arg(run_file(alloc))?;
     Ok(with_file)
 }

@@ -26,6 +26,8 @@ fn view_of(matches: &ArgMatches<'_>) -> View {
         View::Scenario
     } else if is_set(matches, "svg") {
         View::Chart
+    } else if is_set(matches, "bound") {
+        View::Bounds
     } else {
         View::Report
     }

@@ -83,7 +83,7 @@ pub is_second : (b : Bool) (A B : Type 0) → b ≡ false → B → MatchBool b 
 is_second true A B e a = cc
 is_second false A B e a = a
 
--- a number and words behind it, in a line
+-- a number and words after it, in a line
 pub word_line : (name : List ℕ) (number : ℕ)
     → name ++ (codes ": --order: word " ++ (decimal number ++ codes " is no caller\n")) ≡ line_about name (codes "--order: word " ++ (decimal number ++ codes " is no caller"))
 word_line name number = ap (λ (rest : List ℕ). name ++ (codes ": --order: word " ++ rest)) (sym (append_assoc (decimal number) (codes " is no caller") (codes "\n")))

@@ -1,4 +1,4 @@
--- One of two things that a truth value chooses; what is told of a step, and of the number of outcomes.
+-- One of two things that a truth value chooses; what is said of a step, and of the number of outcomes.
 use Rattle.std.proofs.Common.{◌≡◌, ℕ, ◌++◌, Bool, true, false, List, Option, Some, codes, decimal, length, refl, sym, ap, ◌∙◌, append_assoc}
 use Rattle.std.specs.Prelude.{MatchBool}
 use Rattle.lab_scenario_orders.specs.Verdicts.{is_count_against}
@@ -25,7 +25,7 @@ is_second false A B e b = b
 pub all_are_counted : (c : Crew) (most : ℕ) (found : StepOutcomes) → AreOutcomes c most found → told_weight (λ told. 1) found.all.items ≡ found.count
 all_are_counted c most found are = are.counted (λ told. 1) ∙ (total_of_ones (orders (machine c) (first_seen c) found.steps) ∙ sym are.count)
 
--- a number and words behind it, in a line
+-- a number and words after it, in a line
 pub step_line : (name words said : List ℕ) (number : ℕ) → said ≡ words
     → name ++ (codes ": bad step " ++ (decimal number ++ (codes ": " ++ (said ++ codes "\n")))) ≡ line_about name (codes "bad step " ++ (decimal number ++ (codes ": " ++ words)))
 step_line name words said number same =

@@ -1,4 +1,4 @@
--- What `lab orders` tells of one order alone.
+-- What `lab orders` says of one order alone.
 use Rattle.std.specs.Prelude.{◌≡◌, ◌⊎◌, ℕ, List, ◌++◌, codes, decimal, map, Option, Some, None, IsSomeAnd, option_map, unwrap_or}
 use Rattle.evl_kernel.specs.state.States.{Handler}
 use Rattle.lab_scenario_orders.specs.Callers.{first_seen, machine}
@@ -20,7 +20,7 @@ text_name asked = unwrap_or (option_map (λ file. file.now) asked.file) (codes "
 unfoldable pub order_of : Callers → List ℕ → List ℕ
 order_of callers order = order_scenario callers order
 
--- ---- the order that a text tells
+-- ---- the order that a text names
 
 -- why it is none; for want of memory there are no words
 abbrev pub order_fault_words : OrderFault → Option (List ℕ)

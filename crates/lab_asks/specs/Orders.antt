@@ -1,4 +1,4 @@
--- What `lab orders` tells of the orders of callers.
+-- What `lab orders` says of the orders of callers.
 use Rattle.std.specs.Prelude.{◌≡◌, ◌⊎◌, ℕ, false, MatchBool, List, codes, Option, Some, None, IsSomeAnd, option_and_then, option_map}
 use Rattle.toml.specs.Parse.{parse_document}
 use Rattle.evl_kernel.specs.state.States.{Handler}
@@ -89,11 +89,16 @@ TellsText bank most one name text output =
     ((callers : Callers) × AreCallersIn text callers × TellsAsked bank most one name callers text output)
     ⊎ ((fault : TextFault) × IsRefused text fault × IsSomeAnd (text_fault_words (as_orders (kind_of text)) fault) (λ words. output ≡ refuses 2 (line_about name words)))
 
+-- rule: For a text of callers `lab orders` prints the report of all orders of their atomic steps, or the lines of the
+--   first order of one outcome or to one moment, and ends as for calls; or, with 2, it says why the text is refused,
+--   what cannot be asked of steps, or that the orders, or runs of one length, are more than a count holds.
+--   also: StepOrders.{TellsSteps, TellsAsked, TellsUnpicked, TellsFound, outcomes_told}
+--   clauses: tell_either; tell_steps; tell_crew; go_through
 -- a text of callers is gone through step by step, any other call by call
 abbrev pub TellsEither : List Handler → ℕ → Shown → List ℕ → List ℕ → Output → Type 0
 TellsEither bank most one name text output = MatchBool (asks_steps text) (TellsSteps most one name text output) (TellsText bank most one name text output)
 
--- a text of lines stands for its text of callers, if it can be read
+-- a text of lines means its text of callers, if it can be read
 abbrev pub TellsGiven : List Handler → ℕ → Shown → List ℕ → List ℕ → Output → Type 0
 TellsGiven bank most one name text output =
     ((plain : List ℕ) × IsOfCallers text plain × TellsEither bank most one name plain output)
@@ -105,7 +110,7 @@ TellsRead bank most one name = OfRead (TellsGiven bank most one name) name
 
 -- ---- what the words ask
 
--- the bank's file is refused, or the orders of a file or of the input are told over its callbacks
+-- the bank's file is refused, or the orders of a file or of the input are reported over its callbacks
 abbrev pub TellsOrders : Asked → Option (List ℕ) → Option (List ℕ) → Option (List ℕ) → Option (List ℕ) → Option (List ℕ) → ℕ → Type 0
 TellsOrders asked known old new quiet spoken status =
     Refuses (option_map (λ file. file.now) asked.bank) old new quiet spoken status

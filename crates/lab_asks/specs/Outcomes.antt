@@ -1,4 +1,4 @@
--- What `lab orders` tells of the outcomes of all orders.
+-- What `lab orders` says of the outcomes of all orders.
 use Rattle.std.specs.Prelude.{◌≡◌, ◌⊎◌, ◌-◌, ℕ, List, ◌++◌, codes, decimal, flat_map, length, position, slice_get, string_bytes, Option, Some, None, option_and_then}
 use Rattle.evl_kernel.specs.state.States.{Handler}
 use Rattle.lab_orders.specs.declared.firsts.First.{First}
@@ -8,7 +8,7 @@ use Rattle.lab_orders.specs.declared.tallies.Tally.{Tally}
 use Rattle.lab_scenario_orders.specs.Asks.{is_against}
 use Rattle.lab_scenario_orders.specs.Json.{json_text}
 use Rattle.lab_scenario_orders.specs.Outcomes.{AreOutcomes, CanNotTell}
-use Rattle.lab_answers.specs.Answers.{answers_text}
+use Rattle.lab_orders.specs.Answers.{answers_text}
 use Rattle.lab_scenario_orders.specs.Reports.{counts_text, report_text}
 use Rattle.lab_scenario_orders.specs.declared.asks.Ask.{Ask}
 use Rattle.lab_scenario_orders.specs.declared.callers.Caller.{Caller}
@@ -33,7 +33,7 @@ report_of callers asks found = report_text callers asks.watches.items found
 unfoldable pub json_of : Callers → Ask → Outcomes → List ℕ
 json_of callers asks found = json_text callers asks found
 
--- the answers that came at each caller's steps, behind the report's counts
+-- the answers that came at each caller's steps, after the report's counts
 abbrev pub caller_answers : List Tally → Caller → List ℕ
 caller_answers outcomes caller = answers_text outcomes caller.who.0 (length caller.places.items)
 
@@ -47,7 +47,7 @@ answers_of callers found = counts_text found ++ callers_answers found.all.items 
 unfoldable pub scenario_of : Callers → Tally → List ℕ
 scenario_of callers outcome = order_of callers outcome.order.items
 
--- ---- what is told
+-- ---- what is reported
 
 -- the report, and what came of what is asked
 abbrev pub report_told : List ℕ → Callers → Ask → Outcomes → Option ℕ → Output
@@ -108,7 +108,7 @@ outcomes_told Answers name callers asks found place = answers_told name callers 
 outcomes_told (Outcome number) name callers asks found place = scenario_told name number callers asks found place (slice_get found.all.items (number - 1))
 outcomes_told (State number) name callers asks found place = state_told name number callers asks found place (order_at found.firsts.items number)
 
--- the outcomes of all orders, or that there are more of these, or of runs of one length, than a count can tell
+-- the outcomes of all orders, or that there are more of these, or of runs of one length, than a count can hold
 abbrev pub TellsAll : List Handler → ℕ → View → List ℕ → Callers → Ask → Output → Type 0
 TellsAll bank most one name callers asks output =
     ((found : Outcomes) × AreOutcomes callers bank asks.watches.items most found × (output ≡ outcomes_told one name callers asks found (first_against asks found.all.items)))

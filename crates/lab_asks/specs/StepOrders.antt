@@ -1,4 +1,4 @@
--- What `lab orders` tells of the orders of callers' atomic steps.
+-- What `lab orders` says of the orders of callers' atomic steps.
 use Rattle.std.specs.Prelude.{◌≡◌, ◌⊎◌, ◌+◌, ◌-◌, ◌^◌, min, ℕ, Bool, ◌||◌, MatchBool, if◌then◌else◌, length, nat_lt, List, [], ◌∷◌, ◌++◌, codes, decimal, position, slice_get, string_bytes, Option, Some, None, IsSomeAnd, is_some, option_and_then, Result, Ok, Err}
 use Rattle.toml.specs.Parse.{parse_document}
 use Rattle.lab_orders.specs.declared.levels.OrdersError.TheVariants.{Count}
@@ -11,12 +11,12 @@ use Rattle.lab_scenario_orders.specs.declared.asks.Ask.{Ask}
 use Rattle.lab_scenario_orders.specs.declared.asks.AskFault.{AskFault}
 use Rattle.lab_scenario_orders.specs.declared.asks.Never.{Never}
 use Rattle.lab_step_orders.specs.Outcomes.{AreOutcomes, CanNotTell}
-use Rattle.lab_answers.specs.Answers.{answers_text}
+use Rattle.lab_orders.specs.Answers.{answers_text}
 use Rattle.lab_step_orders.specs.Reports.{counts_text, report_text}
 use Rattle.lab_step_orders.specs.declared.crews.Crew.{Crew}
 use Rattle.lab_step_orders.specs.declared.crews.CrewCaller.{CrewCaller}
 use Rattle.lab_step_orders.specs.declared.outcomes.StepOutcomes.{StepOutcomes}
-use Rattle.lab_step_pictures.specs.Lines.{order_lines}
+use Rattle.lab_step_texts.specs.Lines.{order_lines}
 use Rattle.lab_step_texts.specs.Answers.{first_impossible}
 use Rattle.lab_step_texts.specs.Asks.{IsAskOf, IsUnaskedFor}
 use Rattle.lab_step_texts.specs.Crews.{IsReadAs, IsRefused}
@@ -51,7 +51,7 @@ abbrev pub callers_answers : List Tally → ℕ → List CrewCaller → List ℕ
 callers_answers outcomes number [] = []
 callers_answers outcomes number (caller ∷ rest) = answers_text outcomes number (length caller.calls.items) ++ callers_answers outcomes (number + 1) rest
 
--- behind the report's counts
+-- after the report's counts
 unfoldable pub answers_of : Crew → StepOutcomes → List ℕ
 answers_of crew found = counts_text found ++ callers_answers found.all.items 0 crew.callers.items
 
@@ -126,13 +126,13 @@ outcomes_told view.Answers name crew asks found = verdict (answers_of crew found
 outcomes_told (view.Outcome number) name crew asks found = one_told name number crew asks found (slice_get found.all.items (number - 1))
 outcomes_told (view.State number) name crew asks found = state_told name number crew asks found (order_at found.firsts.items number)
 
--- the outcomes of all orders, or that there are more of these, or of runs of one length, than a count can tell
+-- the outcomes of all orders, or that there are more of these, or of runs of one length, than a count can hold
 abbrev pub TellsFound : ℕ → StepView → List ℕ → Crew → Ask → Output → Type 0
 TellsFound most one name crew asks output =
     ((found : StepOutcomes) × AreOutcomes crew most found × (output ≡ outcomes_told one name crew asks found))
     ⊎ (CanNotTell crew Count × (output ≡ refuses 2 (line_about name (codes "more orders than can be counted"))))
 
--- what is printed of orders of steps, or why they can't be told so
+-- what is printed of orders of steps, or why they can't be reported so
 abbrev pub told_for : Shown → Result StepView (List ℕ)
 told_for Report = Ok view.Report
 told_for (Outcome number) = Ok (view.Outcome number)

@@ -1,4 +1,4 @@
-//! What `lab orders` tells of what is asked alone.
+//! What `lab orders` says of what is asked alone.
 ghost use Rattle.std.specs.Prelude.{◌≡◌, IfErr, IfOk, OnOk, Some, false, map};
 ghost use Rattle.std.specs.Io.KnownBytes.{Appends};
 ghost use Rattle.evl_plans.specs.Told.{handler_of};
@@ -16,7 +16,7 @@ use lab_streams::{AGAINST, Asked, Stream, UNANSWERED, refused, tell_refused};
 use std::alloc::{AllocError, Global};
 use std::io;
 
-// How a number of orders is told.
+// How a number of orders is reported.
 fn order_word(count: u128) -> &'static str
     ensures { result.now ≡ order_word count }
 {
@@ -52,7 +52,7 @@ fn print_head<O: Stream>(found: &Verdict, out: &mut O) -> io::Result<()>
     Ok(())
 }
 
-// Tells that outcomes aren't counted, and answers the status.
+// Says that outcomes aren't counted, and answers the status.
 fn tell_uncounted<E: Stream>(err: &mut E, name: &str) -> io::Result<u8>
     ensures status { IfOk result (λ status. status ≡ 5) }
     ensures line { OnOk result (Appends (E.contents err.old) (E.contents err.new) (uncounted_text name.now)) }
@@ -62,7 +62,7 @@ fn tell_uncounted<E: Stream>(err: &mut E, name: &str) -> io::Result<u8>
     Ok(UNANSWERED)
 }
 
-// Tells what holds where no end is against what is asked and no question about moments is, and answers the status.
+// Says what holds where no end is against what is asked and no question about moments is, and answers the status.
 fn tell_quiet<E: Stream>(err: &mut E, name: &str, ask: &Ask, found: &Verdict) -> io::Result<u8>
     ensures status { IfOk result (λ status. status ≡ quiet_status ask.now found.now) }
     ensures line { OnOk result (Appends (E.contents err.old) (E.contents err.new) (quiet_text name.now ask.now found.now)) }
@@ -77,7 +77,7 @@ fn tell_quiet<E: Stream>(err: &mut E, name: &str, ask: &Ask, found: &Verdict) ->
     tell_holds(err, name, ask, found.orders)
 }
 
-// How it is told that so many orders are against what is asked.
+// How it is reported that so many orders are against what is asked.
 fn against_words(against: u128) -> &'static str
     ensures { result.now ≡ against_words against }
 {
@@ -88,7 +88,7 @@ fn against_words(against: u128) -> &'static str
     }
 }
 
-// Tells that so many orders are, and answers the status.
+// Says that so many orders are, and answers the status.
 fn tell_against_orders<E: Stream>(err: &mut E, name: &str, against: u128) -> io::Result<u8>
     ensures status { IfOk result (λ status. status ≡ 1) }
     ensures line { OnOk result (Appends (E.contents err.old) (E.contents err.new) (against_line name.now against)) }
@@ -99,7 +99,7 @@ fn tell_against_orders<E: Stream>(err: &mut E, name: &str, against: u128) -> io:
     Ok(AGAINST)
 }
 
-// Tells the first question about moments against which it is what was found, and else what holds, and answers the status.
+// Names the first question about moments against which it is what was found, and else what holds, and answers the status.
 fn tell_place<E: Stream>(err: &mut E, name: &str, ask: &Ask, found: &Verdict) -> io::Result<u8>
     ensures status { IfOk result (λ status. status ≡ place_status ask.now found.now (verdicts.state_against found.now.firsts.items found.now.whole 0 ask.now.watches.items)) }
     ensures line { OnOk result (Appends (E.contents err.old) (E.contents err.new) (place_text name.now ask.now found.now (verdicts.state_against found.now.firsts.items found.now.whole 0 ask.now.watches.items))) }
@@ -115,7 +115,7 @@ fn tell_place<E: Stream>(err: &mut E, name: &str, ask: &Ask, found: &Verdict) ->
     }
 }
 
-// Tells what came of what is asked, and answers the status.
+// Says what came of what is asked, and answers the status.
 fn tell_verdict<E: Stream>(err: &mut E, name: &str, ask: &Ask, found: &Verdict) -> io::Result<u8>
     ensures status { IfOk result (λ status. status ≡ alone_status ask.now found.now) }
     ensures line { OnOk result (Appends (E.contents err.old) (E.contents err.new) (alone_text name.now ask.now found.now)) }
@@ -127,7 +127,7 @@ fn tell_verdict<E: Stream>(err: &mut E, name: &str, ask: &Ask, found: &Verdict) 
     tell_place(err, name, ask, found)
 }
 
-// Prints what was found, tells what came of what is asked, and answers the status.
+// Prints what was found, says what came of what is asked, and answers the status.
 fn tell_found<O: Stream, E: Stream>(
     asked: &Asked<'_>,
     ask: &Ask,
@@ -165,8 +165,8 @@ fn go_alone<O: Stream, E: Stream>(
     }
 }
 
-/// Tells what came of what is asked alone, and answers the status: 1 where an order is against it, 0 where none is, 5 where
-/// longer orders were cut off or only outcomes tell, 2 where nothing is asked.
+/// Says what came of what is asked alone, and answers the status: 1 where an order is against it, 0 where none is, 5 where
+/// longer orders were cut off or only outcomes say, 2 where nothing is asked.
 pub(crate) fn tell_alone<O: Stream, E: Stream>(
     alloc: Global,
     asked: &Asked<'_>,

@@ -1,4 +1,4 @@
-//! What `lab orders --answers` tells: which answers came at each step of each caller, and in how many orders.
+//! What `lab orders --answers` says: which answers came at each step of each caller, and in how many orders.
 ghost use Rattle.std.specs.Prelude.{◌≡◌, ◌<◌, ◌++◌, IfErr, IfOk, OnOk, false, flat_map};
 ghost use Rattle.std.specs.Io.KnownBytes.{Appends};
 ghost use Rattle.lab_orders.specs.Tallies.{told_weight};
@@ -10,14 +10,13 @@ ghost use Rattle.lab_streams.specs.Outputs.{Writes};
 ghost use Rattle.lab_streams.specs.Streams.{EndsEarly};
 
 use crate::verdicts::tell_against;
-use lab_answers::{put_answers, put_head};
-use lab_orders::Tally;
+use lab_orders::{Tally, put_answers, put_head};
 use lab_scenario_orders::{Ask, Asked as Answered, Caller, Callers, Outcomes};
 use lab_streams::{Asked, Stream};
 use std::alloc::{AllocError, Global};
 use std::io;
 
-/// A number of orders is one that a count tells.
+/// A number of orders is one that a count holds.
 pub(crate) fn know_count(count: u128)
     ensures { count < count_limit }
 {}
@@ -67,7 +66,7 @@ fn put_callers(
     Ok(())
 }
 
-// The answers of all callers' steps, behind the counts.
+// The answers of all callers' steps, after the counts.
 #[tactic(auto, unfolding(crate::specs::Outcomes::answers_of))]
 fn answers_of(alloc: Global, callers: &Callers, found: &Outcomes) -> Result<Vec<u8>, AllocError>
     requires { told_weight (λ told. 1) found.now.all.items ≡ found.now.count }
@@ -102,7 +101,7 @@ fn print_answers<O: Stream>(
     }
 }
 
-/// Prints the answers of all callers' steps, whose outcomes have as many orders together as were counted; tells what came
+/// Prints the answers of all callers' steps, whose outcomes have as many orders together as were counted; says what came
 /// of what is asked, and answers the status.
 pub(crate) fn tell_answers<O: Stream, E: Stream>(
     alloc: Global,

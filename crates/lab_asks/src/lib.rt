@@ -1,4 +1,4 @@
-//! What `lab orders` tells of all orders of callers' calls, or of their atomic steps, and what came of what was asked.
+//! What `lab orders` says of all orders of callers' calls, or of their atomic steps, and what came of what was asked.
 #![tactic(auto)]
 
 mod alone;

@@ -36,7 +36,7 @@ pub fn outcome_at(all: &[Tally], number: u32) -> Option<&Tally>
     all.get(number.saturating_sub(1) as usize)
 }
 
-/// Tells that there is no outcome with this number, and answers the status.
+/// Says that there is no outcome with this number, and answers the status.
 pub fn tell_no_outcome<E: Stream>(err: &mut E, name: &str, number: u32) -> io::Result<u8>
     ensures status { IfOk result (λ status. status ≡ 2) }
     ensures line { OnOk result (Appends (E.contents err.old) (E.contents err.new) (line_about name.now (codes "there is no outcome " ++ decimal number))) }
@@ -46,7 +46,7 @@ pub fn tell_no_outcome<E: Stream>(err: &mut E, name: &str, number: u32) -> io::R
     Ok(AT_FAULT)
 }
 
-/// Tells that no order leads to a moment as the question with this number looks for, and answers the status.
+/// Says that no order leads to a moment as the question with this number looks for, and answers the status.
 pub fn tell_no_state<E: Stream>(err: &mut E, name: &str, number: u32) -> io::Result<u8>
     ensures status { IfOk result (λ status. status ≡ 2) }
     ensures line { OnOk result (Appends (E.contents err.old) (E.contents err.new) (line_about name.now (codes "no order leads to state " ++ decimal number))) }

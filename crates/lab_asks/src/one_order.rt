@@ -1,4 +1,4 @@
-//! What `lab orders` tells of one order alone.
+//! What `lab orders` says of one order alone.
 ghost use Rattle.std.specs.Prelude.{◌≡◌, ◌<◌, All, IfErr, IfOk, IsSomeAnd, OnOk, false, length, map};
 ghost use Rattle.std.specs.Io.KnownBytes.{Appends};
 ghost use Rattle.evl_plans.specs.Told.{handler_of};
@@ -30,7 +30,7 @@ pub(crate) fn print_order<O: Stream>(
     }
 }
 
-// Tells which word of an order is no caller, and answers the status.
+// Says which word of an order is no caller, and answers the status.
 fn tell_no_caller<E: Stream>(err: &mut E, name: &str, number: usize) -> io::Result<u8>
     ensures status { IfOk result (λ status. status ≡ 2) }
     ensures line { OnOk result (IsSomeAnd (order_fault_words (OrderFault.Name number)) (λ words. Appends (E.contents err.old) (E.contents err.new) (line_about name.now words))) }
@@ -40,7 +40,7 @@ fn tell_no_caller<E: Stream>(err: &mut E, name: &str, number: usize) -> io::Resu
     Ok(AT_FAULT)
 }
 
-// Tells which step of an order can't be made, and answers the status.
+// Says which step of an order can't be made, and answers the status.
 fn tell_no_step<E: Stream>(err: &mut E, name: &str, number: usize) -> io::Result<u8>
     ensures status { IfOk result (λ status. status ≡ 2) }
     ensures line { OnOk result (IsSomeAnd (order_fault_words (OrderFault.Step number)) (λ words. Appends (E.contents err.old) (E.contents err.new) (line_about name.now words))) }
@@ -50,7 +50,7 @@ fn tell_no_step<E: Stream>(err: &mut E, name: &str, number: usize) -> io::Result
     Ok(AT_FAULT)
 }
 
-// Tells why a text is no order that can be made, and answers the status.
+// Says why a text is no order that can be made, and answers the status.
 fn tell_order_fault<E: Stream>(err: &mut E, name: &str, fault: OrderFault) -> io::Result<u8>
     ensures status { IfOk result (λ status. status ≡ 2) }
     ensures line { OnOk result (IsSomeAnd (order_fault_words fault) (λ words. Appends (E.contents err.old) (E.contents err.new) (line_about name.now words))) }
@@ -63,7 +63,7 @@ fn tell_order_fault<E: Stream>(err: &mut E, name: &str, fault: OrderFault) -> io
     }
 }
 
-// Prints an order whose steps can all be made as a scenario, or tells which can't, and answers the status.
+// Prints an order whose steps can all be made as a scenario, or says which can't, and answers the status.
 fn tell_made<O: Stream, E: Stream>(
     alloc: Global,
     asked: &Asked<'_>,
@@ -86,7 +86,7 @@ fn tell_made<O: Stream, E: Stream>(
     }
 }
 
-/// Prints the order that a text tells as a scenario, and answers the status: 2 where the text is none, or one of its
+/// Prints the order that a text names as a scenario, and answers the status: 2 where the text is none, or one of its
 /// steps can't be made.
 pub(crate) fn tell_order<O: Stream, E: Stream>(
     alloc: Global,

@@ -12,7 +12,7 @@ use lab_streams::{AT_FAULT, Stream, tell_fault_by, tell_refused};
 use std::alloc::Global;
 use std::{fmt, io};
 
-/// Tells why a text of a kind is refused that was taken for its callers.
+/// Says why a text of a kind is refused that was taken for its callers.
 pub fn tell_text_fault<E: Stream>(
     err: &mut E,
     name: &str,
@@ -47,7 +47,7 @@ impl fmt::Display for AtLine {
     }
 }
 
-/// Tells why it can't be read what is asked.
+/// Says why it can't be read what is asked.
 pub fn tell_ask_fault<E: Stream>(
     alloc: Global,
     err: &mut E,
@@ -64,7 +64,7 @@ pub fn tell_ask_fault<E: Stream>(
     Ok(true)
 }
 
-/// Tells which answer no step of its caller can have, and what may be meant.
+/// Says which answer no step of its caller can have, and what may be meant.
 pub fn tell_meant<E: Stream>(
     alloc: Global,
     err: &mut E,
@@ -81,7 +81,7 @@ pub fn tell_meant<E: Stream>(
     Ok(true)
 }
 
-/// Tells which answer no step of its caller can have, and answers the status.
+/// Says which answer no step of its caller can have, and answers the status.
 pub fn tell_impossible<E: Stream>(
     alloc: Global,
     err: &mut E,

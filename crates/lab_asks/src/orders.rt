@@ -86,7 +86,7 @@ fn print_json<O: Stream>(
     }
 }
 
-// Prints the report, tells what came of what is asked, and answers the status.
+// Prints the report, says what came of what is asked, and answers the status.
 fn tell_report<O: Stream, E: Stream>(
     alloc: Global,
     asked: &Asked<'_>,
@@ -104,7 +104,7 @@ fn tell_report<O: Stream, E: Stream>(
     tell_against(err, asked.name(), ask, answered)
 }
 
-// Prints the outcomes as JSON, tells what came of what is asked, and answers the status.
+// Prints the outcomes as JSON, says what came of what is asked, and answers the status.
 fn tell_json<O: Stream, E: Stream>(
     alloc: Global,
     asked: &Asked<'_>,
@@ -135,7 +135,7 @@ fn print_scenario<O: Stream>(
     print_order(alloc, callers, bank, outcome.order.as_slice(), out)
 }
 
-// Prints the scenario of this outcome alone, tells what came of what is asked, and answers the status.
+// Prints the scenario of this outcome alone, says what came of what is asked, and answers the status.
 fn tell_scenario<O: Stream, E: Stream>(
     alloc: Global,
     asked: &Asked<'_>,
@@ -160,7 +160,7 @@ fn tell_scenario<O: Stream, E: Stream>(
     }
 }
 
-// Prints the first order to a moment as the question with this number looks for, if there is one, tells what came of what
+// Prints the first order to a moment as the question with this number looks for, if there is one, says what came of what
 // is asked, and answers the status.
 fn tell_state<O: Stream, E: Stream>(
     alloc: Global,
@@ -186,7 +186,7 @@ fn tell_state<O: Stream, E: Stream>(
     }
 }
 
-// Prints what is asked for of the outcomes, tells what came of what is asked, and answers the status.
+// Prints what is asked for of the outcomes, says what came of what is asked, and answers the status.
 fn tell_answered<O: Stream, E: Stream>(
     alloc: Global,
     asked: &Asked<'_>,
@@ -318,7 +318,7 @@ fn impossible_in<'a>(
     }
 }
 
-// Tells such an answer; where there is none, goes through all orders. Answers the status.
+// Prints such an answer; where there is none, goes through all orders. Answers the status.
 fn tell_found<O: Stream, E: Stream>(
     alloc: Global,
     asked: &Asked<'_>,
@@ -358,7 +358,7 @@ fn tell_possible<O: Stream, E: Stream>(
     tell_found(alloc, asked, callers, ask, found, plans, out, err)
 }
 
-// Tells what is asked of callers, and answers the status.
+// Says what is asked of callers, and answers the status.
 fn tell_callers<O: Stream, E: Stream>(
     alloc: Global,
     asked: &Asked<'_>,
@@ -421,7 +421,7 @@ fn tell_either<O: Stream, E: Stream>(
     }
 }
 
-// Goes through all orders of the text of callers that stands for a text, and answers the status.
+// Goes through all orders of the text of callers that means a text, and answers the status.
 fn tell_given<O: Stream, E: Stream>(
     alloc: Global,
     asked: &Asked<'_>,

@@ -6,8 +6,7 @@ ghost use Rattle.lab_step_orders.specs.Reports.{counts_text};
 ghost use Rattle.lab_asks.specs.StepOrders.{answers_of, callers_answers};
 
 use crate::answers::know_count;
-use lab_answers::{put_answers, put_head};
-use lab_orders::Tally;
+use lab_orders::{Tally, put_answers, put_head};
 use lab_step_orders::{Crew, CrewCaller, StepOutcomes};
 use std::alloc::{AllocError, Global};
 
@@ -42,7 +41,7 @@ fn put_callers(
     Ok(())
 }
 
-/// The answers of all callers' calls, behind the counts, where the outcomes have as many orders together as were counted.
+/// The answers of all callers' calls, after the counts, where the outcomes have as many orders together as were counted.
 #[tactic(auto, unfolding(crate::specs::StepOrders::answers_of))]
 pub(crate) fn answers_of(
     alloc: Global,

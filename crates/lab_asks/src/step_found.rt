@@ -11,7 +11,7 @@ use crate::step_orders::tell_printed;
 use lab_orders::Tally;
 use lab_scenario_orders::Ask;
 use lab_step_orders::{Crew, StepOutcomes, write_step_report};
-use lab_step_pictures::write_order_lines;
+use lab_step_texts::write_order_lines;
 use lab_streams::Stream;
 use std::alloc::{AllocError, Global};
 use std::io;
@@ -22,7 +22,7 @@ pub(crate) enum StepView {
     Report,
     /// The first order of the outcome with this number, from 1, step by step.
     Outcome(u32),
-    /// The same of the first order that leads to a moment as the question with this number looks for, from 1.
+    /// As above, of the first order that leads to a moment as the question with this number looks for, from 1.
     State(u32),
     /// Which answers came to each call.
     Answers,
@@ -127,7 +127,7 @@ fn tell_one<O: Stream, E: Stream>(
     }
 }
 
-// The same of the first order of the question with this number.
+// As `tell_one`, of the first order of the question with this number.
 fn tell_state<O: Stream, E: Stream>(
     alloc: Global,
     name: &str,
@@ -148,7 +148,7 @@ fn tell_state<O: Stream, E: Stream>(
     }
 }
 
-/// Prints the report, or one order alone, tells what came of what is asked, and answers the status.
+/// Prints the report, or one order alone, says what came of what is asked, and answers the status.
 pub(crate) fn tell_found<O: Stream, E: Stream>(
     alloc: Global,
     name: &str,

@@ -20,7 +20,7 @@ use lab_streams::{AGAINST, AT_FAULT, Asked, Shown, Stream, refused, tell_fault, 
 use std::alloc::{AllocError, Global};
 use std::io;
 
-// Tells what holds where no outcome is against what is asked, and answers the status.
+// Says what holds where no outcome is against what is asked, and answers the status.
 fn tell_none<E: Stream>(err: &mut E, name: &str, ask: &Ask, found: &StepOutcomes) -> io::Result<u8>
     ensures status { IfOk result (λ status. status ≡ none_status ask.now found.now) }
     ensures line { OnOk result (Appends (E.contents err.old) (E.contents err.new) (none_text name.now ask.now found.now)) }
@@ -36,7 +36,7 @@ fn tell_none<E: Stream>(err: &mut E, name: &str, ask: &Ask, found: &StepOutcomes
     }
 }
 
-// Tells whether there are as many outcomes as are asked for, and else what holds, and answers the status.
+// Says whether there are as many outcomes as are asked for, and else what holds, and answers the status.
 fn tell_number<E: Stream>(
     err: &mut E,
     name: &str,
@@ -59,7 +59,7 @@ fn tell_number<E: Stream>(
     tell_none(err, name, ask, found)
 }
 
-// Tells the first question about moments against which it is what was found, and else what holds, and answers the status.
+// Names the first question about moments against which it is what was found, and else what holds, and answers the status.
 fn tell_states<E: Stream>(
     err: &mut E,
     name: &str,
@@ -80,7 +80,7 @@ fn tell_states<E: Stream>(
     }
 }
 
-// Tells what came of what is asked, and answers the status.
+// Says what came of what is asked, and answers the status.
 fn tell_against<E: Stream>(
     err: &mut E,
     name: &str,
@@ -111,7 +111,7 @@ fn against_in(ask: &Ask, found: &StepOutcomes) -> Option<usize>
     first_against(ask, found.all.as_slice())
 }
 
-/// Prints this, and tells what came of what is asked; answers the status.
+/// Prints this, and says what came of what is asked; answers the status.
 pub(crate) fn tell_printed<O: Stream, E: Stream>(
     printed: &[u8],
     name: &str,
@@ -150,7 +150,7 @@ fn go_through<O: Stream, E: Stream>(
     }
 }
 
-// What is printed of the orders of steps, or why they can't be told so.
+// What is printed of the orders of steps, or why they can't be reported so.
 fn told_for(shown: Shown<'_>) -> Result<StepView, &'static str>
     ensures view { IfOk result (λ view. told_for shown.entry ≡ Ok view) }
     ensures words { IfErr result (λ words. told_for shown.entry ≡ Err words.now) }
@@ -166,7 +166,7 @@ fn told_for(shown: Shown<'_>) -> Result<StepView, &'static str>
     }
 }
 
-// Goes through all orders, unless they can't be told as is asked; answers the status.
+// Goes through all orders, unless they can't be reported as is asked; answers the status.
 fn tell_gone<O: Stream, E: Stream>(
     alloc: Global,
     asked: &Asked<'_>,
@@ -196,7 +196,7 @@ fn impossible_in<'a>(alloc: Global, crew: &Crew, ask: &'a Ask) -> io::Result<Opt
     }
 }
 
-// Tells such an answer; where there is none, goes through all orders. Answers the status.
+// Prints such an answer; where there is none, goes through all orders. Answers the status.
 fn tell_possible<O: Stream, E: Stream>(
     alloc: Global,
     asked: &Asked<'_>,
@@ -259,7 +259,7 @@ fn asks_whole(ask: &Ask) -> bool
     ask.as_picked
 }
 
-// Tells what is asked of callers, and answers the status.
+// Says what is asked of callers, and answers the status.
 fn tell_crew<O: Stream, E: Stream>(
     alloc: Global,
     asked: &Asked<'_>,
@@ -280,7 +280,7 @@ fn tell_crew<O: Stream, E: Stream>(
     }
 }
 
-// Tells why a step isn't gone through.
+// Says why a step isn't gone through.
 fn tell_step<E: Stream>(
     err: &mut E,
     name: &str,
@@ -295,7 +295,7 @@ fn tell_step<E: Stream>(
     Ok(true)
 }
 
-// Tells what is wrong with a line.
+// Says what is wrong with a line.
 fn tell_line<E: Stream>(err: &mut E, name: &str, line: usize, words: &str) -> io::Result<bool>
     ensures text { OnOk result (Appends (E.contents err.old) (E.contents err.new) (line_about name.now (line_words line words.now))) }
     ensures early { IfErr result (EndsEarly false false (E.has_failed err.new)) }
@@ -304,7 +304,7 @@ fn tell_line<E: Stream>(err: &mut E, name: &str, line: usize, words: &str) -> io
     Ok(true)
 }
 
-// Tells which text of a line isn't facts.
+// Says which text of a line isn't facts.
 fn tell_facts<E: Stream>(
     alloc: Global,
     err: &mut E,
@@ -319,7 +319,7 @@ fn tell_facts<E: Stream>(
     tell_line(err, name, line, words.as_str())
 }
 
-// Tells why a text isn't gone through.
+// Says why a text isn't gone through.
 fn tell_steps_fault<E: Stream>(
     alloc: Global,
     err: &mut E,

@@ -67,7 +67,7 @@ fn picked_words(ask: &Ask) -> &'static str
     }
 }
 
-// Tells what is asked of the ends of orders.
+// Says what is asked of the ends of orders.
 fn tell_ends<E: Stream>(err: &mut E, name: &str, ask: &Ask) -> io::Result<()>
     ensures line { OnOk result (Appends (E.contents err.old) (E.contents err.new) (ends_text name.now ask.now)) }
     ensures early { IfErr result (EndsEarly false false (E.has_failed err.new)) }
@@ -78,7 +78,7 @@ fn tell_ends<E: Stream>(err: &mut E, name: &str, ask: &Ask) -> io::Result<()>
     write!(err, "lab: {name}: {ends}{never} never")
 }
 
-// Tells what is asked of moments, and of the number of outcomes.
+// Says what is asked of moments, and of the number of outcomes.
 fn tell_moments<E: Stream>(err: &mut E, ask: &Ask) -> io::Result<()>
     ensures line { OnOk result (Appends (E.contents err.old) (E.contents err.new) (moments_text ask.now)) }
     ensures early { IfErr result (EndsEarly false false (E.has_failed err.new)) }
@@ -90,7 +90,7 @@ fn tell_moments<E: Stream>(err: &mut E, ask: &Ask) -> io::Result<()>
     write!(err, "{states}{counted}")
 }
 
-// Tells in how many orders it holds.
+// Says in how many orders it holds.
 fn tell_count<E: Stream>(err: &mut E, ask: &Ask, count: u128) -> io::Result<()>
     ensures line { OnOk result (Appends (E.contents err.old) (E.contents err.new) (count_text ask.now count)) }
     ensures early { IfErr result (EndsEarly false false (E.has_failed err.new)) }
@@ -99,7 +99,7 @@ fn tell_count<E: Stream>(err: &mut E, ask: &Ask, count: u128) -> io::Result<()>
     writeln!(err, ": hold in all {count} orders{picked}")
 }
 
-/// Tells that what is asked holds in all orders.
+/// Says that what is asked holds in all orders.
 pub fn tell_holds<E: Stream>(err: &mut E, name: &str, ask: &Ask, count: u128) -> io::Result<u8>
     ensures status { IfOk result (λ status. status ≡ 0) }
     ensures line { OnOk result (Appends (E.contents err.old) (E.contents err.new) (holds_text name.now ask.now count)) }
@@ -111,7 +111,7 @@ pub fn tell_holds<E: Stream>(err: &mut E, name: &str, ask: &Ask, count: u128) ->
     Ok(0)
 }
 
-/// Tells that no order of fewer steps is against what is asked, and that there are longer ones.
+/// Says that no order of fewer steps is against what is asked, and that there are longer ones.
 pub fn tell_unanswered<E: Stream>(err: &mut E, name: &str, steps: usize) -> io::Result<u8>
     ensures status { IfOk result (λ status. status ≡ 5) }
     ensures line { OnOk result (Appends (E.contents err.old) (E.contents err.new) (unanswered_text name.now steps)) }
@@ -124,7 +124,7 @@ pub fn tell_unanswered<E: Stream>(err: &mut E, name: &str, steps: usize) -> io::
     Ok(UNANSWERED)
 }
 
-// Tells what holds where no outcome is against what is asked, and answers the status.
+// Says what holds where no outcome is against what is asked, and answers the status.
 fn tell_none<E: Stream>(err: &mut E, name: &str, ask: &Ask, found: &Outcomes) -> io::Result<u8>
     ensures status { IfOk result (λ status. status ≡ none_status ask.now found.now) }
     ensures line { OnOk result (Appends (E.contents err.old) (E.contents err.new) (none_text name.now ask.now found.now)) }
@@ -140,7 +140,7 @@ fn tell_none<E: Stream>(err: &mut E, name: &str, ask: &Ask, found: &Outcomes) ->
     }
 }
 
-// Tells whether there are as many outcomes as are asked for, and else what holds, and answers the status.
+// Says whether there are as many outcomes as are asked for, and else what holds, and answers the status.
 fn tell_number<E: Stream>(err: &mut E, name: &str, ask: &Ask, found: &Outcomes) -> io::Result<u8>
     ensures status { IfOk result (λ status. status ≡ number_status ask.now found.now) }
     ensures line { OnOk result (Appends (E.contents err.old) (E.contents err.new) (number_text name.now ask.now found.now)) }
@@ -158,7 +158,7 @@ fn tell_number<E: Stream>(err: &mut E, name: &str, ask: &Ask, found: &Outcomes) 
     tell_none(err, name, ask, found)
 }
 
-// Tells the first question about moments against which it is what was found, and else what holds, and answers the status.
+// Names the first question about moments against which it is what was found, and else what holds, and answers the status.
 fn tell_states<E: Stream>(err: &mut E, name: &str, ask: &Ask, found: &Outcomes) -> io::Result<u8>
     ensures status { IfOk result (λ status. status ≡ states_status ask.now found.now) }
     ensures line { OnOk result (Appends (E.contents err.old) (E.contents err.new) (states_text name.now ask.now found.now)) }
@@ -174,7 +174,7 @@ fn tell_states<E: Stream>(err: &mut E, name: &str, ask: &Ask, found: &Outcomes) 
     }
 }
 
-/// Tells what came of what is asked, and answers the status.
+/// Says what came of what is asked, and answers the status.
 pub fn tell_against<E: Stream>(
     err: &mut E,
     name: &str,

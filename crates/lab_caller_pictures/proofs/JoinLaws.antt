@@ -1,4 +1,4 @@
--- One line more behind those that are joined, and where they end; what is shown at a place.
+-- One line more after those that are joined, and where they end; what is shown at a place.
 use Rattle.std.proofs.Common.{◌≡◌, ◌∙◌, ◌+◌, List, ℕ, suc, [], ◌∷◌, ◌++◌, Bor, length, map, option_map, slice_get, ap, ap₂, sym, refl, arith, append_assoc, append-nil}
 use Rattle.std.specs.Prelude.{Option, Some, None}
 use Rattle.std.proofs.lemmas.List.{map-append}

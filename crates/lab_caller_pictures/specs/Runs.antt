@@ -1,4 +1,4 @@
--- What is drawn of a text of callers: the lines that its run is told by, and the scenario of the calls that were entered.
+-- What is drawn of a text of callers: the lines that its run prints, and the scenario of the calls that were entered.
 use Rattle.std.specs.Prelude.{◌≡◌, ◌≢◌, ℕ, ⊤, false, List, length, map, string_bytes, Option, Some, None, Ok}
 use Rattle.evl_base.specs.declared.board.Board.{Board}
 use Rattle.evl_kernel.specs.state.KernelViews.{KernelView}
@@ -22,13 +22,13 @@ use Rattle.lab_caller_pictures.specs.declared.plays.Entered.{Entered}
 use Rattle.lab_caller_pictures.specs.declared.plays.Unplayed.{Unplayed}
 use Rattle.lab_caller_pictures.specs.declared.plays.Unplayed.TheVariants as why
 
--- what a text of callers asks for is played over these callbacks: what is told, how many calls were entered behind each step, and the kernel that is left
+-- what a text of callers asks for is played over these callbacks: what is printed, how many calls had been entered by the end of each step, and the kernel that is left
 pub record PlaysKept (bank : List Handler) (asked : CallersText) (told : Played) (entered : List ℕ) (left : Option (KernelView Planned)) : Type 0 where
   pub plans : List Planned
   pub bank_is : map handler_of plans ≡ bank
   pub is_kept : IsKept (λ p. p.kinds.0) (λ p. p.plan) asked plans told entered left
 
--- the scenario of all calls that a kernel entered, and how many these were behind each step
+-- the scenario of all calls that a kernel entered, and how many had been entered by the end of each step
 pub record IsEntered (board : Board) (limit : ℕ) (entered : List ℕ) (k : KernelView Planned) (known : Entered) : Type 0 where
   pub scenario : scenario_of None (string_bytes known.scenario) ≡ Ok (script_of_history board limit k.history.entries)
   pub counts : known.counts.items ≡ entered
@@ -60,6 +60,11 @@ pub record IsRunBy (bank : List Handler) (asked : CallersText) (run : CallersRun
   pub lines : string_bytes run.lines ≡ string_bytes told.lines
   pub known : IsKnown (without_staxes asked.board) asked.limit entered left run.entered
 
+-- rule: A text of callers is played over copies of callbacks, and shown by its lines. If a machine is closed and a
+--   scenario can hold its history, the scenario of all calls that were entered is known, over the text's board without
+--   staxes, and how many they were after each step. A text, a board or a step that is refused is reported apart.
+--   also: Runs.IsWhyOf; Plays.IsKept
+--   clauses: play_drawn; play_kept
 -- of a text
 abbrev pub IsRunOf : List Handler → List ℕ → CallersRun → Type 0
 IsRunOf bank text run = (asked : CallersText) × IsRead None text asked × IsRunBy bank asked run

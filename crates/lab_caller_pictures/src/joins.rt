@@ -1,4 +1,4 @@
-//! How the lanes of callers stand behind each of their lines: words by the lines, threads by the kernel.
+//! The states of callers' lanes after each of their lines: words by the lines, threads by the kernel.
 ghost use Rattle.std.specs.Prelude.{◌≡◌, IfOk, map, option_map};
 ghost use Rattle.evl_plans.specs.Told.{handler_of};
 ghost use Rattle.lab_caller_pictures.specs.Joins.{AreJoined, all_joined, is_thread, joined, shown_after, threads_in};
@@ -52,7 +52,7 @@ fn joined(words: Moment, threads: Option<&Moment>) -> Result<Moment, AllocError>
     })
 }
 
-// The words of each line with the threads after as many calls as were entered behind it.
+// The words of each line with the threads after as many calls as had been entered by then.
 fn all_joined(
     alloc: Global,
     shown: &[Moment],
@@ -68,7 +68,7 @@ fn all_joined(
     Ok(all)
 }
 
-/// How the lanes of callers' marks stand behind each of their lines: the words as the lines show them, and the threads
+/// The states of callers' lanes after each of their lines: the words as the lines show them, and the threads
 /// as the kernel had them after as many calls of this scenario, over copies of these callbacks, as were entered then.
 /// `AllocError` where memory couldn't grow.
 pub fn joined_moments(

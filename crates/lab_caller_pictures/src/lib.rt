@@ -1,9 +1,10 @@
-//! Texts of callers for their pictures: played, with how the threads stood behind each line.
+//! What is drawn of marks, by what they come from; and texts of callers, played to be drawn.
 //! What names no source is this profile's own.
 #![tactic(auto)]
 
+mod drawn;
 mod joins;
 mod plays;
 
-pub use joins::joined_moments;
+pub use drawn::{Source, drawn_of, picture_of};
 pub use plays::{CallersRun, Entered, Unplayed, play_drawn};

@@ -7,19 +7,20 @@ use evl_base::{Board, Refusal};
 use evl_kernel::KernelOf;
 use evl_plans::{Planned, copied_bank};
 use evl_scenario::{Fault, Unwritten, without_staxes, write_scenario};
+use evl_shell::leave;
 use lab_callers::{Ending, Kept, Played, StepFault, play_kept};
 use lab_callers_text::{CallersText, read_callers};
 use std::alloc::{AllocError, Global};
 
-/// The scenario of all calls of the kernel that callers entered, and how many these were behind each step.
+/// The scenario of all calls of the kernel that callers entered, and how many had been entered by the end of each step.
 #[derive(Drop)]
 pub struct Entered {
     pub scenario: String,
     pub counts: Vec<usize>,
 }
 
-/// The lines that callers are told by, and what is known of the calls that were entered: nothing where a caller has the
-/// core at the end, or where the scenario would be longer than one may be.
+/// The lines that a run of callers prints, and what is known of the calls that were entered: nothing where a caller has
+/// the core at the end, or where the scenario would be longer than one may be.
 #[derive(Drop)]
 pub struct CallersRun {
     pub lines: String,
@@ -52,8 +53,12 @@ fn known_of(
     let Some(kernel) = kernel else {
         return Ok(None);
     };
-    let written = write_scenario(alloc, board, limit, kernel.history());
-    drop(kernel);
+    let entries = kernel.history().to_vec(alloc);
+    leave(kernel);
+    let Ok(entries) = entries else {
+        return Err(AllocError);
+    };
+    let written = write_scenario(alloc, board, limit, entries.as_slice());
     match written {
         Ok(scenario) => Ok(Some(Entered { scenario, counts })),
         Err(Unwritten::Memory) => Err(AllocError),
@@ -80,7 +85,9 @@ fn run_of(
     } = kept;
     let Played { lines, ending, .. } = told;
     if let Ending::Fault(number, fault) = ending {
-        drop(kernel);
+        if let Some(kernel) = kernel {
+            leave(kernel);
+        }
         return Err(Unplayed::Step(number, fault));
     }
     match known_of(alloc, board, limit, entered, kernel) {

@@ -7,7 +7,7 @@ use Rattle.std.proofs.lemmas.Option.{slice_get_read}
 use Rattle.lab_callers.specs.Crews.{StepsAt}
 use Rattle.evl_machine.specs.callers.Handles.{CallerState}
 
--- whoever comes to the place that was left stands there instead
+-- what comes to the place that was left is there instead
 comes_back : {X : Type 0} (xs : List X) (k : ℕ) (x : X) → k < length xs → insert (remove xs k) k x ≡ slice_set xs k x
 comes_back [] k x lt = absurd (omega arith)
 comes_back (y ∷ ys) zero x lt = refl
@@ -24,7 +24,7 @@ back_at xs left later k before after does lt read gone back done = record {
   done = done;
 }
 
--- what all others are, and whoever comes to a place among them, all are, also where there was no room
+-- what all others are, and the one that comes to a place among them is, all are, also where there was no room
 pub all_back : {X : Type 0} (P : X → Type 0) (xs ys : List X) (k : ℕ) (x : X) (room : Bool) → All P xs → P x → ys ≡ (if room then insert xs k x else xs) → All P ys
 all_back P xs ys k x true all one is = subst (All P) (sym is) (All-append P (take k xs) (x ∷ drop k xs) (All-take P k xs all) (All-cons P x (drop k xs) one (All-drop P k xs all)))
 all_back P xs ys k x false all one is = subst (All P) (sym is) all

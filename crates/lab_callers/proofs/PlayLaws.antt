@@ -1,4 +1,4 @@
--- One step more behind those that are made.
+-- One step more after those that are made.
 use Rattle.std.proofs.Common.{◌≡◌, ℕ, ◌+◌, List, [], ◌∷◌, ◌++◌, length, Result, Ok, Err, OnOk, refl, sym, ◌∙◌, ap, subst, arith, append_assoc, append-nil, length-append}
 use Rattle.lab_callers.specs.Plays.{HaveMade, MakesAll, MakesStep, Run, ShowsAfter}
 use Rattle.lab_callers.specs.declared.views.Shows.{Shows}
@@ -27,13 +27,13 @@ module _ {C : Type 0} (limit : ℕ) where
     made = one_more start 1 h.done h.lines own mid now step h.made (subst (λ k. MakesStep limit mid k step own now) (omega (arith, h.number_is)) makes);
   }
 
--- what is told, and a text put in front of it
+-- what is shown, and a text put in front of it
 pub front_told : {C T E : Type 0} (old new : Run C) (who : ℕ) (answer : List ℕ) (shown : Shows) (before front mid whole : List ℕ) (r : Result T E) → mid ≡ before ++ front
     → OnOk r ((x : List ℕ) × ShowsAfter old who answer shown x new × (whole ≡ mid ++ x)) → OnOk r ((x : List ℕ) × ShowsAfter old who answer shown x new × (whole ≡ before ++ (front ++ x)))
 front_told old new who answer shown before front mid whole (Ok u) is (x, after, text) = (x, after, text ∙ ap (λ (l : List ℕ). l ++ x) is ∙ simp append_assoc)
 front_told old new who answer shown before front mid whole (Err e) is h = h
 
--- an answer, what is shown behind it, and the plays below
+-- an answer, what is shown after it, and the plays below
 pub told_behind : (before arrow answer shown feed plays first second third whole : List ℕ) → first ≡ before ++ (arrow ++ answer) → second ≡ first ++ shown → third ≡ second ++ feed
     → whole ≡ third ++ plays → whole ≡ before ++ (arrow ++ (answer ++ (shown ++ (feed ++ plays))))
 told_behind before arrow answer shown feed plays first second third whole one two three four =

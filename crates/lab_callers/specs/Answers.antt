@@ -29,7 +29,7 @@ use Rattle.evl_machine.specs.declared.locking.Ended.TheVariants as ended
 use Rattle.evl_words.specs.declared.gate.StaxPass.{StaxPass}
 use Rattle.evl_words.specs.declared.mutex.MutexPass.{MutexPass}
 
--- a pass is told by its name
+-- a pass is given by its name
 abbrev pub given_text : {P : Type 0} → List ℕ → Result P Refusal → List ℕ
 given_text name (Ok pass) = name
 given_text name (Err refusal) = name_of refusal
@@ -73,7 +73,7 @@ ended_shows had who (Ok (ended.Locked pass)) = shows.Mutex pass.mutex
 ended_shows had who (Ok ended.TimedOut) = word_shown (awaited_mutex had who)
 ended_shows had who (Err refusal) = word_shown (awaited_mutex had who)
 
--- a thread's caller makes a call of the machine: what is told is its answer, and what names hold then follows from it
+-- a thread's caller makes a call of the machine: what is reported is its answer, and what names hold then follows from it
 pub record Tells {C R : Type 0} (text : R → List ℕ) (leaves : R → Holdings) (does : R → CallerState C → CallerState C → Type 0) (old : CrewState C) (who : ℕ) (told : List ℕ) (new : CrewState C) (has : Holdings) : Type 0 where
   pub reply : R
   pub made : Steps old who (does reply) new
@@ -131,7 +131,12 @@ module _ {C : Type 0} where
   abbrev pub GivesSo : CrewState C → ℕ → List ℕ → Shows → CrewState C → Type 0
   GivesSo old who told shown new = GivesCore old who new × (told ≡ codes "done") × (shown ≡ shows.Core)
 
-  -- What a step does to the callers of a machine with this limit and to what names hold, what is told of it, and what it shows: the answer of the call that its word names, as the machine stands
+  -- rule: A name that is to hold a pass holds none before. A step spends its name's first pass; one that comes back is
+  --   the name's again. A thread that begins to wait for a mutex waits until that ends.
+  --   also: Holdings.Holdings
+  --   clauses: play_callers
+  --   rows: name_is_held
+  -- What a step does to the callers of a machine with this limit and to what names hold, what is reported of it, and what it shows: the answer of the call that its word names, as the machine is
   abbrev pub Makes : ℕ → Act → CrewState C → Holdings → ThreadId → List ℕ → Shows → CrewState C → Holdings → Type 0
   Makes limit (act.Call asked) old had who told shown new has = (has ≡ had) × CallsSo limit asked old who.0 told shown new
   Makes limit (act.TryLockStax stax name) old had who told shown new has = EntersStax stax name old had who told shown new has

@@ -82,7 +82,7 @@ module _ {C : Type 0} where
       (CallsByHolder old asked reply new)
       (Steps old who (λ before after. Called limit before asked reply after) new)
 
-  -- a caller that hasn't the core takes it, and stands apart from the others then
+  -- a caller that hasn't the core takes it, and is apart from the others then
   pub record GetsCore (old : CrewState C) (who : ℕ) (new : CrewState C) : Type 0 where
     pub apart : has_core (is_some old.held) old.holder who ≡ false
     pub caller : CallerState C

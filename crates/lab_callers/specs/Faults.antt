@@ -1,4 +1,4 @@
--- Why a step can't be made, and how that is told.
+-- Why a step can't be made, and how that is reported.
 use Rattle.std.specs.Prelude.{◌≡◌, ℕ, ⊤, Bool, List, String, codes, if◌then◌else◌, length, Option, Some, None, is_some, string_bytes}
 use Rattle.std.specs.Option.{option_or}
 use Rattle.std.specs.declared.alloc.Global.{Global}
@@ -47,7 +47,7 @@ caller_fault (act.Call asked) crew who = call_fault (is_some crew.held) crew.hol
 caller_fault act.Give crew who = give_fault (is_some crew.held) crew.holder who
 caller_fault other crew who = place_fault (is_some crew.held) crew.holder who (length crew.callers)
 
--- why a step can't be made, if it can't: what is wrong with the name is told first
+-- why a step can't be made, if it can't: what is wrong with the name is reported first
 abbrev pub step_fault : {C : Type 0} → Act → CrewState C → Holdings → ℕ → Option StepFault
 step_fault made crew had who = option_or (name_fault made had) (caller_fault made crew who)
 

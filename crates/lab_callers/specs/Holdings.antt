@@ -34,7 +34,7 @@ is_of_stax stax named = named.1.gate.0 == stax
 abbrev pub is_wait_of : ℕ → ThreadId × MutexId → Bool
 is_wait_of who wait = wait.0.0 == who
 
--- a name gets a pass, behind the others
+-- a name gets a pass, after the others
 abbrev pub with_stax : Holdings → String Global → StaxPass → Holdings
 with_stax had name pass = record had { staxes = had.staxes ++ (name, pass) ∷ [] }
 
@@ -48,11 +48,11 @@ with_staxes had others = record had { staxes = others }
 abbrev pub with_mutexes : Holdings → List (String Global × MutexPass) → Holdings
 with_mutexes had others = record had { mutexes = others }
 
--- a caller waits for a mutex, behind the others
+-- a caller waits for a mutex, after the others
 abbrev pub with_wait : Holdings → ThreadId → MutexId → Holdings
 with_wait had who mutex = record had { waits = had.waits ++ (who, mutex) ∷ [] }
 
--- what stands at a place is gone, if there is one
+-- what is at a place is gone, if there is one
 abbrev pub without : {A : Type 0} → Option ℕ → List A → List A
 without None all = all
 without (Some place) all = remove all place

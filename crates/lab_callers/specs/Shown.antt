@@ -1,4 +1,4 @@
--- What stands in a line behind the answer of a step.
+-- What is in a line after the answer of a step.
 use Rattle.std.specs.Prelude.{ℕ, Bool, List, [], ◌++◌, codes, count_by, decimal, nat_eq, nat_lt, Option, Some, None, option_map, if◌then◌else◌}
 use Rattle.evl_base.specs.Refusal.{name_of}
 use Rattle.evl_base.specs.declared.numbers.MutexId.{MutexId}
@@ -28,7 +28,7 @@ stage_words Oob = codes "out-of-band"
 abbrev pub holders_text : ℕ → List ℕ
 holders_text n = if nat_eq n 1 then codes ", 1 holder" else codes ", " ++ (decimal n ++ codes " holders")
 
--- how a stax stands that so many hold at a stage
+-- how a stax is that so many hold at a stage
 abbrev pub stax_text : ℕ → Stage → ℕ → List ℕ
 stax_text stax stage n = codes " | stax " ++ (decimal stax ++ (codes ": " ++ (if nat_eq n 0 then codes "free" else stage_words stage ++ holders_text n)))
 
@@ -39,7 +39,7 @@ owner_text (Some owner) = codes "T" ++ decimal owner.0
 abbrev pub claim_text : Bool → List ℕ
 claim_text claimed = if claimed then codes ", claimed" else []
 
--- what stands in a mutex's word
+-- what is in a mutex's word
 abbrev pub word_text : ℕ → Option InWord → List ℕ
 word_text mutex None = []
 word_text mutex (Some word) = codes " | mutex " ++ (decimal mutex ++ (codes ": " ++ (owner_text word.owner ++ claim_text word.is_claimed)))
@@ -59,14 +59,14 @@ abbrev pub thread_asked : Holdings → Shows → Option ThreadId
 thread_asked had (shows.Stax stax) = option_map (λ seat. record { 0 = seat }) (stax_holder had stax.0)
 thread_asked had other = None
 
--- What stands behind an answer: how the core, the mutex's word or the stax stands, which is counted from the passes that names hold. Of a stax that the board hasn't there is nothing
+-- What comes after an answer: how the core, the mutex's word or the stax is, which is counted from the passes that names hold. Of a stax that the board hasn't there is nothing
 abbrev pub shown_text : ℕ → Holdings → Option ℕ → View → Shows → List ℕ
 shown_text staxes had holder view shows.Nothing = []
 shown_text staxes had holder view (shows.Stax stax) = if nat_lt stax.0 staxes then stax_text stax.0 view.stage (count_by (is_of_stax stax.0) had.staxes) else []
 shown_text staxes had holder view (shows.Mutex mutex) = word_text mutex.0 view.word
 shown_text staxes had holder view shows.Core = core_text holder
 
--- what is told in the end: of a closed machine with the lines of its kernel's history, and of one that isn't closed
+-- what is reported in the end: of a closed machine with the lines of its kernel's history, and of one that isn't closed
 abbrev pub closed_text : History → List ℕ
 closed_text h = codes "close -> done" ++ (line_feed ++ lines_behind 0 h.entries h.plays)
 

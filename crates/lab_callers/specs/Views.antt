@@ -19,7 +19,7 @@ module _ {C : Type 0} where
     pub agrees : MatchOption word ⊤ (Agrees by.kernel.history.state mutex)
     pub tied : MatchOption word ⊤ (SaysTied (ceilings_of by.caller.machine.first) by.kernel.history.state mutex)
 
-  -- The plays of the kernel behind so many, how many it has, how many calls were entered, the stage of a thread, and the word of a mutex, where they are asked for
+  -- The plays of the kernel after so many, how many it has, how many calls were entered, the stage of a thread, and the word of a mutex, where they are asked for
   pub record Sees (by : HeldState C) (q : Question) (v : View) : Type 0 where
     pub plays : v.plays.items ≡ drop q.plays by.kernel.history.plays
     pub made : v.made ≡ length by.kernel.history.plays

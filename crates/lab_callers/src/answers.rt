@@ -46,7 +46,7 @@ impl From<AllocError> for Stop {
     }
 }
 
-/// What is told of a step.
+/// What is reported of a step.
 #[derive(Drop)]
 pub struct Told {
     pub answer: String,

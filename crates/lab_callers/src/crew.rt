@@ -20,7 +20,7 @@ use evl_words::{MutexPass, StaxPass};
 use std::alloc::{AllocError, Global};
 use std::marker::Model;
 
-/// The callers of a machine. Who has the core stands apart from the others, which keep their order.
+/// The callers of a machine. Who has the core is apart from the others, which keep their order.
 #[derive(Drop)]
 pub struct Crew<'a, C: Handler> {
     machine: &'a MachineOf<C, Global>,

@@ -1,4 +1,4 @@
-//! How the steps of a text of callers end: a machine that is closed, or isn't, and what is told and left of it.
+//! How the steps of a text of callers end: a machine that is closed, or isn't, and what is reported and left of it.
 ghost use Rattle.std.specs.Prelude.{◌≡◌, ◌⊎◌, ◌↔◌, false, Err, None, All, IfErr, IfOk, length, string_bytes};
 ghost use Rattle.lab_callers.specs.Crews.{crew_of};
 ghost use Rattle.lab_callers.specs.Plays.{ClosesSo, EndsSo, IsKept, IsStopped, IsTold, run_of};
@@ -16,26 +16,29 @@ use evl_scenario::write_history;
 use lab_callers_text::{CallersStep, CallersText};
 use std::alloc::{AllocError, Global};
 
-/// What is told of the steps, and what is left of their machine.
+/// What is reported of the steps, and what is left of their machine.
 #[derive(Drop)]
 pub struct Kept<C: Handler> {
     pub told: Played,
-    /// Where all steps were made, how many calls of the kernel were entered behind each.
+    /// Where all steps were made, how many calls of the kernel were entered after each.
     pub entered: Vec<usize>,
     /// The kernel, where the machine is closed.
     pub kernel: Option<KernelOf<C, Global>>,
 }
 
-// What is told of a closed machine's kernel.
+// What is reported of a closed machine's kernel.
 fn closing_of<C: Handler>(alloc: Global, kernel: &KernelOf<C, Global>) -> Result<String, AllocError>
     ensures { IfOk result (λ text. string_bytes text ≡ closed_text kernel.now.history) }
 {
     let mut text = String::from_str(alloc, "close -> done\n")?;
-    write_history(&mut text, kernel.history(), kernel.plays())?;
+    match kernel.history().to_vec(alloc) {
+        Ok(entries) => write_history(&mut text, entries.as_slice(), kernel.plays())?,
+        Err(_) => return Err(AllocError),
+    }
     Ok(text)
 }
 
-// What is told of a machine that isn't closed.
+// What is reported of a machine that isn't closed.
 fn refused_closing(alloc: Global, refusal: Refusal) -> Result<String, AllocError>
     ensures { IfOk result (λ text. string_bytes text ≡ open_text refusal) }
 {
@@ -51,7 +54,7 @@ fn leave<C: Handler>(machine: MachineOf<C, Global>, callers: Vec<CallerOf<C, Glo
     drop(callers);
 }
 
-// A machine is made, and there is no memory for what is told of it.
+// A machine is made, and there is no memory for what is reported of it.
 fn unplayed<C: Handler>(
     machine: MachineOf<C, Global>,
     callers: Vec<CallerOf<C, Global>>,
@@ -62,10 +65,10 @@ fn unplayed<C: Handler>(
     Err(Refusal::NoMemory)
 }
 
-// How steps end, what is told of their machine then, and the kernel, where it is closed.
+// How steps end, what is reported of their machine then, and the kernel, where it is closed.
 type Closing<C> = (Ending, String, Option<KernelOf<C, Global>>);
 
-// What is told of a closed machine's kernel, which stays.
+// What is reported of a closed machine's kernel, which stays.
 fn told_closed<C: Handler>(
     alloc: Global,
     kernel: KernelOf<C, Global>,
@@ -81,7 +84,7 @@ fn told_closed<C: Handler>(
     }
 }
 
-// What is told of a machine that isn't closed, which goes with its callers.
+// What is reported of a machine that isn't closed, which goes with its callers.
 fn told_open<C: Handler>(
     alloc: Global,
     refusal: Refusal,
@@ -94,7 +97,7 @@ fn told_open<C: Handler>(
     refused_closing(alloc, refusal)
 }
 
-// Closes a machine, if it can be: how that ends, what is told of it, and the kernel that is left.
+// Closes a machine, if it can be: how that ends, what is reported of it, and the kernel that is left.
 fn closing<C: Handler>(
     alloc: Global,
     machine: MachineOf<C, Global>,
@@ -115,7 +118,7 @@ fn closing<C: Handler>(
     }
 }
 
-// What is told in the end, once the machine is closed, if it can be.
+// What is reported in the end, once the machine is closed, if it can be.
 fn closed<C: Handler>(
     report: Report,
     machine: MachineOf<C, Global>,
@@ -147,7 +150,7 @@ fn closed<C: Handler>(
     }
 }
 
-// What is told of steps that end before the last one.
+// What is reported of steps that end before the last one.
 fn stopped<C: Handler>(report: Report, number: usize, stop: Stop) -> Result<Kept<C>, Refusal>
     ensures lines { IfOk result (λ kept. string_bytes kept.told.lines ≡ report.text) }
     ensures ending { IfOk result (λ kept. IsStopped number stop kept.told) }
@@ -174,7 +177,7 @@ fn stopped<C: Handler>(report: Report, number: usize, stop: Stop) -> Result<Kept
     }
 }
 
-// What is told of all steps, over a machine.
+// What is reported of all steps, over a machine.
 fn told_over<C: Handler>(
     report: Report,
     machine: MachineOf<C, Global>,
@@ -198,7 +201,7 @@ fn told_over<C: Handler>(
 }
 
 /// Makes the steps of a text of callers over a new machine with these callbacks, one after another on one host thread,
-/// and closes the machine; with what is told are left how many calls were entered behind each step, and the kernel of a
+/// and closes the machine; with what is reported are left how many calls were entered after each step, and the kernel of a
 /// machine that is closed. `Range` exactly where the board, the bank or the limit is outside its limits, `NoMemory`
 /// where a growth was refused.
 pub fn play_kept<C: Handler>(
@@ -228,7 +231,7 @@ pub fn play_kept<C: Handler>(
     }
 }
 
-// What is told, where nothing else is kept.
+// What is reported, where nothing else is kept.
 fn told_alone<C: Handler>(kept: Kept<C>) -> Played
     ensures { result ≡ kept.told }
 {
@@ -237,7 +240,7 @@ fn told_alone<C: Handler>(kept: Kept<C>) -> Played
     told
 }
 
-/// What `play_kept` tells of a text of callers. `Range` exactly where the board, the bank or the limit is outside its
+/// What `play_kept` says of a text of callers. `Range` exactly where the board, the bank or the limit is outside its
 /// limits, `NoMemory` where a growth was refused.
 pub fn play_callers<C: Handler>(
     alloc: Global,

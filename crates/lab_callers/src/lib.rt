@@ -1,5 +1,5 @@
 //! Callers of both stages in a text: the machine's calls, one after another on one host thread, each with its answer
-//! and what stands in the word that it went to.
+//! and what is in the word that it went to.
 #![tactic(auto)]
 
 mod answers;

@@ -29,7 +29,7 @@ fn put_holders(text: &mut String, count: usize) -> Result<(), AllocError>
     }
 }
 
-/// Writes how a stax stands.
+/// Writes how a stax is.
 pub fn put_stax(
     text: &mut String,
     stax: StaxId,
@@ -71,7 +71,7 @@ fn put_claim(text: &mut String, is_claimed: bool) -> Result<(), AllocError>
     }
 }
 
-// Writes what stands in a mutex's word.
+// Writes what is in a mutex's word.
 fn put_word(text: &mut String, mutex: MutexId, word: InWord) -> Result<(), AllocError>
     ensures { OnOk result (string_bytes text.new ≡ string_bytes text.old ++ word_text mutex.0 (Some word)) }
 {
@@ -81,7 +81,7 @@ fn put_word(text: &mut String, mutex: MutexId, word: InWord) -> Result<(), Alloc
     put_claim(text, word.is_claimed)
 }
 
-/// Writes what stands in a mutex's word, if there is one.
+/// Writes what is in a mutex's word, if there is one.
 pub fn put_mutex(text: &mut String, mutex: MutexId, word: Option<InWord>) -> Result<(), AllocError>
     ensures { OnOk result (string_bytes text.new ≡ string_bytes text.old ++ word_text mutex.0 word) }
 {

@@ -35,7 +35,7 @@ pub enum Ending {
     Fault(usize, StepFault),
 }
 
-/// What is told of the steps.
+/// What is reported of the steps.
 #[derive(Drop)]
 pub struct Played {
     /// The board, and a line for each step that was made, with its plays below it.
@@ -45,7 +45,7 @@ pub struct Played {
     pub ending: Ending,
 }
 
-/// What callers have and have been told, beside their machine, and how many calls were entered behind each step.
+/// What callers have and what was reported, beside their machine, and how many calls were entered after each step.
 #[derive(Drop)]
 pub struct Report {
     pub alloc: Global,
@@ -101,7 +101,7 @@ fn question(report: &Report, shows: Shows) -> Question
     }
 }
 
-// Writes what a step went to, as it stands now.
+// Writes what a step went to, as it is now.
 fn put_shown(
     report: &mut Report,
     shows: Shows,
@@ -222,7 +222,7 @@ fn play_steps<C: Handler>(
 }
 
 impl Report {
-    /// What is told before the first step.
+    /// What is reported before the first step.
     pub fn new(alloc: Global, board: &Board, limit: u32) -> Result<Report, AllocError>
         ensures line { IfOk result (λ report. report.text ≡ board_line_text (board_line_of board.now limit)) }
         ensures none { IfOk result (λ report. (report.plays ≡ 0) × (report.holdings ≡ nothing_held) × (report.entered ≡ [])) }

@@ -18,7 +18,7 @@ pub enum Shows {
     Core,
 }
 
-/// What is asked: a mutex's word, a thread's stage, and the plays behind so many.
+/// What is asked: a mutex's word, a thread's stage, and the plays after so many.
 #[derive(Clone, Copy)]
 pub struct Question {
     pub mutex: Option<MutexId>,
@@ -36,7 +36,7 @@ pub struct View {
     pub entered: usize,
 }
 
-// The plays behind so many.
+// The plays after so many.
 fn plays_behind(alloc: Global, plays: &[Play], count: usize) -> Result<Vec<Play>, AllocError>
     ensures { IfOk result (λ later. later.items ≡ drop count plays.now) }
 {
@@ -46,7 +46,7 @@ fn plays_behind(alloc: Global, plays: &[Play], count: usize) -> Result<Vec<Play>
     Vec::from_slice(alloc, &plays[count..])
 }
 
-// What stands in a mutex's word.
+// What is in a mutex's word.
 fn word_of<C: Handler, A: Allocator>(
     held: &mut HeldOf<'_, C, A>,
     mutex: Option<MutexId>,

@@ -1,4 +1,4 @@
--- A table's map after a key is taken away or a value is put, and what stands at other keys.
+-- A table's map after a key is taken away or a value is put, and what is at other keys.
 use Rattle.std.proofs.Common.{◌≡◌, ℕ, List, [], ◌∷◌, Bool, true, false, cond, codes, option_and_then, Option, Some, String, Global, Ordering, Less, Equal, Greater, string_bytes, nat_cmp, is_eq, refl, ap, sym, ◌∙◌}
 use Rattle.std.specs.BTreeMap.{insert_entry, is_at}
 use Rattle.std.specs.Cmp.Lexicographic.{slice_cmp}
@@ -39,7 +39,7 @@ pub inserted : (es : List Entry) (k : String Global) (v : Value) → members_vie
 inserted [] k v = refl
 inserted (e ∷ es) k v = view_match (string_cmp k e.0) _ _ _ ∙ rw (inserted es k v)
 
--- ---- what stands at another key stays
+-- ---- what is at another key stays
 
 past_it : (o : Ordering) (d : Data) (rest : Option Data) → (o ≡ Equal → ⊥) → match_ordering o rest (Some d) rest ≡ rest
 past_it Less d rest other = refl

@@ -18,7 +18,7 @@ plain_act word.FinishLockMutex name = act.FinishLockMutex name
 plain_act word.Give name = act.Give
 plain_act _ name = act.Take
 
--- the numbers are those of the call that stands for the step
+-- the numbers are those of the call in place of the step
 abbrev pub named_act : OwnWord → String Global → Call → Act
 named_act w name (call.Peek sem) = act.TryLockStax (record { 0 = sem.0 }) name
 named_act w name (call.Release mutex) = act.TryLockMutex mutex name

@@ -18,7 +18,7 @@ is_name text = is_within 1 32 (length text) && list_all is_letter text
 abbrev pub as_name : List ℕ → Option (List ℕ)
 as_name text = if is_name text then Some text else None
 
--- the name that stands at a key
+-- the name that is at a key
 abbrev pub name_at : List ℕ → Members → Option (List ℕ)
 name_at key table = option_and_then as_name (text_at key table)
 

@@ -16,7 +16,7 @@ use Rattle.evl_scenario.specs.declared.faults.Fault.{Fault}
 use Rattle.evl_scenario.specs.declared.faults.Fault.TheVariants as fault
 use Rattle.evl_scenario.specs.declared.steps.Step.{Step}
 
--- the steps of a scenario in their order, each with the mark of what it stands for
+-- the steps of a scenario in their order, each with the mark of what it means
 abbrev pub steps_as : List (Option Mark) → List Step → List CallersStep
 steps_as (mark ∷ marks) (step ∷ steps) = (record { who = step.who; act = act_of mark step.call }) ∷ steps_as marks steps
 steps_as _ _ = []
@@ -53,6 +53,12 @@ pub record IsRead (given : Option ℕ) (bytes : List ℕ) (read : CallersText) :
   pub limits : List ℕ
   pub marks : List (Option Mark)
   pub says : SaysSo document text limits marks
+  -- rule: A text of callers is read as its document says: the staxes' limits, each step's word, the name at the word's
+  --   own key (1 to 32 allowed letters); the rest as a scenario. The document has at most 80 levels, the board is
+  --   within its limits.
+  --   clauses: read_callers
+  --   rows: a_bad_board_is_refused; a_board_has_staxes; a_limit_is_handed_in; each_word_is_read; names_are_refused;
+  --   no_step_is_written; other_keys_are_refused
   pub opens : OpensAs given text limits marks read
 
 -- ---- why a text is refused
@@ -92,6 +98,12 @@ IsRefusedIn given document e =
     ⊎ ((limits : List ℕ) × (staxes_in document ≡ Some limits) × (steps : Items) × (items_in document ≡ Some steps) × (plain : Members) × (read_for document ≡ Some plain)
     × IsRefusedFor given plain limits steps e)
 
+-- rule: A text is refused exactly for what its document says, or for want of memory: it is longer than 1 MiB, no UTF-8
+--   or no document (`text`); it has no table of a board, no list of staxes or of steps (`board`); or else the text of a
+--   scenario that is read for it is refused, or a stax is outside its limits (`board`). For a step without the name or
+--   number that its word needs, a step without keys is read, which is refused.
+--   clauses: read_callers
+--   rows: a_bad_board_is_refused; names_are_refused; other_keys_are_refused
 -- Why a text is refused: it's no document; or else for what its document is. Or memory ran out.
 abbrev pub IsRefused : Option ℕ → List ℕ → Fault → Type 0
 IsRefused given bytes e =

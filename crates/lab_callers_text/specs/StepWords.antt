@@ -34,7 +34,7 @@ name_key FinishLockMutex = Some (codes "as")
 name_key Take = None
 name_key Give = None
 
--- the key whose number stands at that of a semaphore
+-- the key whose number is at that of a semaphore
 abbrev pub number_key : OwnWord → Option (List ℕ)
 number_key TryLockStax = Some (codes "stax")
 number_key BeginLockMutex = Some (codes "mutex")

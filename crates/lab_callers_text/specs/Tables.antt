@@ -4,7 +4,7 @@ use Rattle.std.specs.Cmp.Lexicographic.{slice_cmp}
 use Rattle.std.specs.Ordering.{match_ordering, nat_cmp}
 use Rattle.toml.specs.Data.{Data, Members, no_members, member, same_key}
 
--- without what stands at a key
+-- without what is at a key
 abbrev pub without : List ℕ → Members → Members
 without key no_members = no_members
 without key (member other value rest) = if same_key key other then rest else member other value (without key rest)

@@ -91,7 +91,7 @@ fn put_named(text: &mut String, word: &str, name: &String) -> Result<(), AllocEr
 }
 
 impl Act {
-    /// Writes the word and its keys behind a text, as a trace has them.
+    /// Writes the word and its keys after a text, as a trace has them.
     pub fn put(&self, text: &mut String) -> Result<(), AllocError>
         ensures { OnOk result (string_bytes text.new ≡ string_bytes text.old ++ act_text self.now) }
     {

@@ -92,7 +92,7 @@ fn take_steps(alloc: Global, document: &mut Table) -> Option<Vec<Value>>
     }
 }
 
-// Puts a step as that of a scenario behind others, and its mark behind theirs. Where it can't be put so, an empty table,
+// Puts a step as that of a scenario after others, and its mark after theirs. Where it can't be put so, an empty table,
 // which the reader of scenarios refuses, and no mark.
 fn put_step(
     alloc: Global,

@@ -28,7 +28,7 @@ pub struct Mark {
 /// Why a step wasn't put so.
 #[derive(Clone, Copy, PartialEq, Eq)]
 pub enum MarkFault {
-    /// A key of its word is missing, has a value that it can't have, or stands beside another of the same meaning.
+    /// A key of its word is missing, has a value that it can't have, or is beside another of the same meaning.
     Step,
     /// A growth was refused.
     Memory,
@@ -108,7 +108,7 @@ fn take_name_of(table: &mut Table, word: OwnWord) -> Option<Option<String>>
     }
 }
 
-// Moves what stands at a key to that of a semaphore, where nothing stands yet.
+// Moves what is at a key to that of a semaphore, where nothing is yet.
 fn move_number(alloc: Global, table: &mut Table, key: &str) -> Result<(), MarkFault>
     ensures moved { OnOk result (moved_member key.now (table_view table.old) ≡ Some (table_view table.new)) }
     ensures other { IfErr result (λ fault. (fault ≡ MarkFault.Memory) ⊎ (moved_member key.now (table_view table.old) ≡ None)) }

@@ -63,7 +63,7 @@ fn text_of(alloc: Global, table: &Table) -> Result<String, Fault>
     }
 }
 
-// The steps of callers, of the marks and what stands for them.
+// The steps of callers, of the marks and what is in their place.
 fn steps_of(
     alloc: Global,
     marks: Vec<Option<Mark>>,

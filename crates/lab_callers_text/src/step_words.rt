@@ -45,7 +45,7 @@ pub fn own_word(text: &str) -> Option<OwnWord>
 }
 
 impl OwnWord {
-    /// The key at which the name of a pass stands, if the word has one.
+    /// The key at which the name of a pass is, if the word has one.
     pub fn name_key(self) -> Option<&'static str>
         ensures { option_map (λ key. key.now) result ≡ name_key self }
     {

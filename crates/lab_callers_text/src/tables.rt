@@ -7,14 +7,14 @@ ghost use Rattle.lab_callers_text.specs.Tables.{with_value, without};
 use std::alloc::{AllocError, Global};
 use toml::{Table, Value};
 
-/// What stands at a key.
+/// What is at a key.
 pub fn field<'a>(table: &'a Table, key: &str) -> Option<&'a Value>
     ensures { option_map (λ value. view value.now) result ≡ get_member key.now (table_view table.now) }
 {
     table.get(key)
 }
 
-/// Takes away what stands at a key.
+/// Takes away what is at a key.
 pub fn take(table: &mut Table, key: &str) -> Option<Value>
     ensures value { option_map view result ≡ get_member key.now (table_view table.old) }
     ensures rest { table_view table.new ≡ without key.now (table_view table.old) }

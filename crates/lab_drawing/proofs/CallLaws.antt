@@ -146,7 +146,7 @@ on_lane keys h fits =
 
 -- ---- answers with no bar
 
--- only hexadecimal digits stand there
+-- only hexadecimal digits are there
 hex_apart : (c n : ℕ) → list_all (λ d. not (d == c)) lower_digits ≡ true → not (0 == c) ≡ true → not (slice_index lower_digits n == c) ≡ true
 hex_apart c n h none = by lower_digits n h
   where

@@ -21,7 +21,7 @@ use Rattle.lab_drawing.specs.Named.{value_of}
 use Rattle.lab_drawing.specs.Texts.{around_part, up_to}
 use Rattle.lab_drawing.proofs.TextLaws.{past_at, past_lacks}
 
--- ---- what stands behind a part
+-- ---- what is after a part
 
 abbrev pub behind_part : List ℕ → List ℕ → Option (List ℕ)
 behind_part part text = option_map (λ cut. cut.1) (around_part part text)
@@ -84,7 +84,7 @@ same_key (a ∷ one) (b ∷ other) x y p q e =
 at_key : (key rest : List ℕ) → looked_for key ++ rest ≡ 32 ∷ (key ++ 61 ∷ rest)
 at_key key rest = ap (λ (x : List ℕ). 32 ∷ x) (append_assoc key (61 ∷ []) rest)
 
--- no space stands in a word
+-- no space is in a word
 pub past_word : (key word rest : List ℕ) → Lacks 32 word → behind_part (looked_for key) (word ++ rest) ≡ behind_part (looked_for key) rest
 past_word key [] rest h = refl
 past_word key (c ∷ word) rest h =
@@ -140,7 +140,7 @@ up_front (c ∷ value) rest h end =
     let (here, more) = and_parts (not (c == 32)) (list_all (λ x. not (x == 32)) value) h in
     up_more c (value ++ rest) (apart c 32 here) ∙ ap (λ (x : List ℕ). c ∷ x) (up_front value rest more end)
 
--- a text in which no space stands
+-- a text that has no space
 pub up_whole : (value : List ℕ) → Lacks 32 value → up_to (codes " ") value ≡ value
 up_whole value h = ap (up_to (codes " ")) (sym (append-nil value)) ∙ up_front value [] h (inl refl)
 

@@ -5,10 +5,8 @@ use Rattle.std.specs.Option.{option_map_or}
 use Rattle.std.proofs.lemmas.Bool.{false≢true}
 use Rattle.std.proofs.lemmas.List.{drop_more}
 use Rattle.lab_drawing.proofs.PageLaws.{drop_short}
-use Rattle.lab_drawing.specs.Lanes.{AreLanesOf, AreSorted, is_above, is_lane, lanes_in, place, with_lane, put_named, put_touched, touches}
-use Rattle.evl_base.specs.declared.stage.Stage.TheVariants.{Inband, Oob}
+use Rattle.lab_drawing.specs.Lanes.{AreSorted, is_above, is_lane, place, with_lane, put_named, put_touched, touches}
 use Rattle.lab_drawing.specs.declared.lanes.Lane.{Lane}
-use Rattle.lab_drawing.specs.declared.lanes.Lane.TheVariants.{Thread, Mutex, Stax, Core, Sem, Flags, Xbuf, Timer, Clock, Line, Stage}
 use Rattle.lab_drawing.specs.declared.marks.Mark.{Mark}
 
 before_both : (a b c d e f : ℕ) → (nat_lt a c || (a == c && nat_lt b d)) ≡ true → (nat_lt c e || (c == e && nat_lt d f)) ≡ true → (nat_lt a e || (a == e && nat_lt b f)) ≡ true
@@ -101,7 +99,7 @@ module _ (lane : Lane) where
       by false true m e f more k = refl
       by false false m e f more k = absurd (false≢true (sym k ∙ ap not f))
 
-  -- the same of a list that was looked at, at an index
+  -- whether the lane is at an index of a list that was looked at
   found_at : (lanes seen other : List Lane) (at : ℕ) (r b : Bool) → seen ≡ lanes → other ≡ lanes → at ≡ prefix_len (λ l. is_above l lane) seen
       → r ≡ option_map_or (λ l. not (is_above lane l)) (slice_get other at) false → r ≡ b
       → option_map_or (λ l. not (is_above lane l)) (slice_get lanes (prefix_len (λ l. is_above l lane) lanes)) false ≡ b
@@ -174,116 +172,3 @@ pub all_touched : (marks : List Mark) (i : ℕ) (lanes : List Lane) → length m
     → (l : Lane) → list_any (is_lane l) lanes ≡ list_any (touches l) marks
 all_touched marks i lanes h all l =
     or_false (list_any (is_lane l) lanes) ∙ ap (λ (ms : List Mark). list_any (is_lane l) lanes || list_any (touches l) ms) (sym (drop_short marks i h)) ∙ all l
-
--- ---- the lanes of marks are one list
-
--- the lane at a place
-abbrev lane_at : ℕ → ℕ → Lane
-lane_at kind number =
-    if kind == 0 then Thread number
-    else if kind == 1 then Mutex number
-    else if kind == 2 then Stax number
-    else if kind == 3 then Core
-    else if kind == 4 then Sem number
-    else if kind == 5 then Flags number
-    else if kind == 6 then Xbuf number
-    else if kind == 7 then Timer number
-    else if kind == 8 then Clock
-    else if kind == 9 then Line Oob number
-    else if kind == 10 then Stage Oob
-    else if kind == 11 then Line Inband number
-    else Stage Inband
-
-at_place : (lane : Lane) → lane_at (place lane).0 (place lane).1 ≡ lane
-at_place (Thread number) = refl
-at_place (Mutex number) = refl
-at_place (Stax number) = refl
-at_place Core = refl
-at_place (Sem number) = refl
-at_place (Flags number) = refl
-at_place (Xbuf number) = refl
-at_place (Timer number) = refl
-at_place Clock = refl
-at_place (Line Oob number) = refl
-at_place (Line Inband number) = refl
-at_place (Stage Oob) = refl
-at_place (Stage Inband) = refl
-
-both_same : (a b c d : ℕ) → (a == c && b == d) ≡ true → (a ≡ c) × (b ≡ d)
-both_same a b c d h = (grind (arith), grind (arith))
-
-same_lane : (one other : Lane) → is_lane one other ≡ true → one ≡ other
-same_lane one other h =
-    let same = both_same (place one).0 (place one).1 (place other).0 (place other).1 h in
-    sym (at_place one) ∙ ap (λ (k : ℕ). lane_at k (place one).1) same.0 ∙ ap (lane_at (place other).0) same.1 ∙ at_place other
-
-itself : (a b : ℕ) → (a == a && b == b) ≡ true
-itself a b = grind (arith)
-
-apart : (a b c d : ℕ) → (nat_lt a c || (a == c && nat_lt b d)) ≡ true → (a == c && b == d) ≡ false
-apart a b c d h = grind (arith)
-
-one_way : (a b c d : ℕ) → (nat_lt a c || (a == c && nat_lt b d)) ≡ true → (nat_lt c a || (c == a && nat_lt d b)) ≡ false
-one_way a b c d h = grind (arith)
-
-not_below : (lane : Lane) (rest : List Lane) → AllByRecursion (λ other. is_above lane other ≡ true) rest → list_any (is_lane lane) rest ≡ false
-not_below lane [] all = refl
-not_below lane (first ∷ rest) all =
-    ap (λ (b : Bool). b || list_any (is_lane lane) rest) (apart (place lane).0 (place lane).1 (place first).0 (place first).1 all.0) ∙ not_below lane rest all.1
-
--- what stands in a list below a lane is below it
-found_below : (lane first : Lane) (rest : List Lane) → AllByRecursion (λ other. is_above first other ≡ true) rest → list_any (is_lane lane) rest ≡ true → is_above first lane ≡ true
-found_below lane first [] all h = absurd (false≢true h)
-found_below lane first (other ∷ rest) all h = by (is_lane lane other) refl (λ k. found_below lane first rest all.1 k) h
-  where
-    by : (b : Bool) → is_lane lane other ≡ b → (list_any (is_lane lane) rest ≡ true → is_above first lane ≡ true) → (b || list_any (is_lane lane) rest) ≡ true
-        → is_above first lane ≡ true
-    by true e more k = ap (is_above first) (same_lane lane other e) ∙ all.0
-    by false e more k = more k
-
-first_lane : (x y : Lane) (xs ys : List Lane) → AllByRecursion (λ other. is_above x other ≡ true) xs → AllByRecursion (λ other. is_above y other ≡ true) ys
-    → (is_lane x x || list_any (is_lane x) xs) ≡ (is_lane x y || list_any (is_lane x) ys) → (is_lane y x || list_any (is_lane y) xs) ≡ (is_lane y y || list_any (is_lane y) ys) → x ≡ y
-first_lane x y xs ys s t h k = by (is_lane x y) (is_lane y x) refl refl h k
-  where
-    by : (a b : Bool) → is_lane x y ≡ a → is_lane y x ≡ b → (is_lane x x || list_any (is_lane x) xs) ≡ (a || list_any (is_lane x) ys)
-        → (b || list_any (is_lane y) xs) ≡ (is_lane y y || list_any (is_lane y) ys) → x ≡ y
-    by true b e f h k = same_lane x y e
-    by false true e f h k = sym (same_lane y x f)
-    by false false e f h k =
-        let above : is_above y x ≡ true = found_below x y ys t (sym h ∙ ap (λ (b : Bool). b || list_any (is_lane x) xs) (itself (place x).0 (place x).1)) in
-        let below : is_above x y ≡ true = found_below y x xs s (k ∙ ap (λ (b : Bool). b || list_any (is_lane y) ys) (itself (place y).0 (place y).1)) in
-        absurd (false≢true (sym (one_way (place x).0 (place x).1 (place y).0 (place y).1 below) ∙ above))
-
-other_lanes : (first : Lane) (xs ys : List Lane) → AllByRecursion (λ other. is_above first other ≡ true) xs → AllByRecursion (λ other. is_above first other ≡ true) ys
-    → ((l : Lane) → (is_lane l first || list_any (is_lane l) xs) ≡ (is_lane l first || list_any (is_lane l) ys)) → (l : Lane) → list_any (is_lane l) xs ≡ list_any (is_lane l) ys
-other_lanes first xs ys s t h l = by (is_lane l first) refl (h l)
-  where
-    by : (a : Bool) → is_lane l first ≡ a → (a || list_any (is_lane l) xs) ≡ (a || list_any (is_lane l) ys) → list_any (is_lane l) xs ≡ list_any (is_lane l) ys
-    by true e k =
-        ap (λ (m : Lane). list_any (is_lane m) xs) (same_lane l first e) ∙ not_below first xs s
-        ∙ sym (ap (λ (m : Lane). list_any (is_lane m) ys) (same_lane l first e) ∙ not_below first ys t)
-    by false e k = k
-
--- two sorted lists of the same lanes
-same_lanes : (xs ys : List Lane) → AreSorted xs → AreSorted ys → ((l : Lane) → list_any (is_lane l) xs ≡ list_any (is_lane l) ys) → xs ≡ ys
-same_lanes [] [] s t h = refl
-same_lanes [] (y ∷ ys) s t h = absurd (false≢true (h y ∙ ap (λ (b : Bool). b || list_any (is_lane y) ys) (itself (place y).0 (place y).1)))
-same_lanes (x ∷ xs) [] s t h = absurd (false≢true (sym (h x) ∙ ap (λ (b : Bool). b || list_any (is_lane x) xs) (itself (place x).0 (place x).1)))
-same_lanes (x ∷ xs) (y ∷ ys) s t h =
-    let first : x ≡ y = first_lane x y xs ys s.0 t.0 (h x) (h y) in
-    let below : AllByRecursion (λ other. is_above x other ≡ true) ys = subst (λ (z : Lane). AllByRecursion (λ other. is_above z other ≡ true) ys) (sym first) t.0 in
-    ap (λ (z : Lane). z ∷ xs) first
-    ∙ ap (λ (r : List Lane). y ∷ r)
-    (same_lanes xs ys s.1 t.1 (other_lanes x xs ys s.0 below (λ l. h l ∙ ap (λ (z : Lane). is_lane l z || list_any (is_lane l) ys) (sym first))))
-
-lanes_sorted : (marks : List Mark) → AreSorted (lanes_in marks)
-lanes_sorted [] = tt
-lanes_sorted (mark ∷ rest) = put_named_sorted mark.names (with_lane mark.lane (lanes_in rest)) (put_sorted mark.lane (lanes_in rest) (lanes_sorted rest))
-
-lanes_touched : (l : Lane) (marks : List Mark) → list_any (is_lane l) (lanes_in marks) ≡ list_any (touches l) marks
-lanes_touched l [] = refl
-lanes_touched l (mark ∷ rest) = touched_lanes l mark (lanes_in rest) ∙ ap (λ (b : Bool). touches l mark || b) (lanes_touched l rest)
-
--- and no other list is
-pub lanes_are : (marks : List Mark) (lanes : List Lane) → AreLanesOf marks lanes → lanes ≡ lanes_in marks
-lanes_are marks lanes h = same_lanes lanes (lanes_in marks) h.sorted (lanes_sorted marks) (λ l. h.touched l ∙ sym (lanes_touched l marks))

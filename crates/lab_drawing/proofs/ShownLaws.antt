@@ -1,4 +1,4 @@
--- A word that a line shows is read as it stands.
+-- A word that a line shows is read as the line shows it.
 use Rattle.std.proofs.Common.{◌≡◌, ◌≢◌, ◌<◌, ℕ, ◌^◌, ◌==◌, Bool, true, false, not, List, [], ◌∷◌, ◌++◌, append-nil, codes, decimal, if◌then◌else◌, Option, Some, None, option_map, option_and_then, refl, sym, ap, ◌∙◌}
 use Rattle.std.proofs.lemmas.Bool.{and_parts}
 use Rattle.std.specs.List.{list_all}
@@ -21,7 +21,7 @@ use Rattle.lab_drawing.proofs.TextLaws.{decimal_lacks, number_back, past_at, pas
 
 -- ---- around a part
 
--- no such byte stands before it
+-- no such byte is before it
 around_first : (c : ℕ) (part front behind : List ℕ) → Lacks c front → around_part (c ∷ part) (front ++ c ∷ (part ++ behind)) ≡ Some (front, behind)
 unfolding around_part
 around_first c part [] behind h = rw (past_at (c ∷ part) (c ∷ (part ++ behind)) behind refl) refl
@@ -30,7 +30,7 @@ around_first c part (x ∷ front) behind h =
     let none : past_front (c ∷ part) (x ∷ (front ++ c ∷ (part ++ behind))) ≡ None = past_lacks (c ∷ part) (x ∷ (front ++ c ∷ (part ++ behind))) (λ r e. apart x c here (head_of e)) in
     rw (none, around_first c part front behind more) refl
 
--- its byte doesn't stand in the text
+-- its byte isn't in the text
 around_lacking : (c : ℕ) (part text : List ℕ) → Lacks c text → around_part (c ∷ part) text ≡ None
 unfolding around_part
 around_lacking c part [] h = rw (past_lacks (c ∷ part) [] (λ r e. cc)) refl
@@ -38,7 +38,7 @@ around_lacking c part (x ∷ text) h =
     let (here, more) = and_parts (not (x == c)) (list_all (λ b. not (b == c)) text) h in
     rw (past_lacks (c ∷ part) (x ∷ text) (λ r e. apart x c here (head_of e)), around_lacking c part text more) refl
 
--- the byte behind a front part without a bar is none
+-- a front part without a bar, with a space after it, does not begin with a bar
 no_bar_next : (front behind more : List ℕ) → Lacks 124 front → front ++ 32 ∷ behind ≢ 124 ∷ more
 no_bar_next [] behind more h e = apart 124 32 refl (sym (head_of e))
 no_bar_next (x ∷ front) behind more h e = apart x 124 (and_parts (not (x == 124)) (list_all (λ b. not (b == 124)) front) h).0 (head_of e)
@@ -85,7 +85,7 @@ named (core holder) fits = (refl, refl)
 shown_at : (front name how : List ℕ) (lane : Lane) → Lacks 124 front → Lacks 58 name → lane_named name ≡ Some lane → word_shown (front ++ (bar ++ (name ++ (codes ": " ++ how)))) ≡ Some (lane, how)
 shown_at front name how lane f n is = rw (around_bar front (name ++ (codes ": " ++ how)) f, around_first 58 (32 ∷ []) name how n, is) refl
 
--- ---- how it stands
+-- ---- its state
 
 held_as : (text : List ℕ) (condition : Condition) (number count : ℕ) (more : List ℕ) → Lacks 44 text → held_at text ≡ Some condition → count < 2 ^ 16
     → standing_by (Stax number) (text ++ (codes ", " ++ (decimal count ++ 32 ∷ more))) ≡ Some (record { lane = Stax number; condition = condition; number = Some count; policy = None; lender = None })
@@ -117,7 +117,7 @@ stands (mutex number None false) fits = rw (around_lacking 44 (codes " claimed")
 stands (core None) fits = refl
 stands (core (Some holder)) fits = rw (number_after (codes "taken by T") holder fits) refl
 
--- the word that a line shows stands as it is shown, and the others as before
+-- the word that a line shows has the state that is shown, and the others have theirs from before
 pub word_is_shown : (front : List ℕ) (word : Word) (before : List Standing) → Lacks 124 front → WordFits word
     → stand_after (word_shown (line_showing front word)) before ≡ others (lane_of word) before ++ option_to_list (word_stands word)
 word_is_shown front word before h fits =

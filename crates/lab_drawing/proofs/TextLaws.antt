@@ -135,7 +135,7 @@ number_again bits n small wide =
 pub number_back : (n : ℕ) → n < 2 ^ 16 → number_in 16 (decimal n) ≡ Some n
 number_back n small = number_again 16 n small (omega arith)
 
--- ---- other bytes don't stand in a number
+-- ---- a number has no other bytes
 
 abbrev pub is_no_digit : ℕ → Bool
 is_no_digit c = nat_lt c 48 || nat_lt 57 c

@@ -37,7 +37,7 @@ number_lacks : (number : Option ℕ) → Lacks 32 (number_text number)
 number_lacks None = refl
 number_lacks (Some n) = decimal_lacks 32 n refl
 
--- behind the key stands the delta, and the answer
+-- after the key are the delta and the answer
 tick_behind : (number : Option ℕ) (thread delta : ℕ)
     → behind_part (codes " tick delta=") (number_text number ++ (codes " T" ++ (decimal thread ++ (codes " tick delta=" ++ (decimal delta ++ codes " -> done")))))
     ≡ Some (decimal delta ++ codes " -> done")

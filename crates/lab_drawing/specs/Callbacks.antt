@@ -18,6 +18,9 @@ callback_named line = callback_said line.says
 abbrev pub is_missing : ℕ → TraceLine → Bool
 is_missing count line = option_map_or (λ number. nat_le count number) (callback_named line) false
 
+-- rule: A callback is missing if a call of a trace names one at `callback=` that a bank of so many has not: the first
+--   such is found.
+--   clauses: missing_callback
 -- the first one that a call of these lines names and that a bank of so many hasn't
 abbrev pub missing_callback : ℕ → List TraceLine → Option ℕ
 missing_callback count [] = None

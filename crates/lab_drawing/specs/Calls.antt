@@ -47,12 +47,17 @@ abbrev pub ends_wait : Call → Bool
 ends_wait (Finish keep) = true
 ends_wait _ = false
 
+-- rule: So the mark of a step with fitting values names the element, timer or stage of its keys, and shows a refusal
+--   exactly if its answer is one, else a beginning exactly for `Begun`, else an end exactly for a `Finish`.
+--   also: Calls.call_lane
+--   clauses: marks_of
+--   rows: flags_named; nothing_named; shown_named; stage_named
 -- how the mark of a call that is answered so looks
 abbrev pub call_shape : Call → Result Reply Refusal → Shape
 call_shape call (Err refusal) = shape.Refused
 call_shape call (Ok Begun) = shape.Begun
 call_shape call (Ok reply) = if ends_wait call then shape.Ended else shape.Answered
 
--- what is told of the mark of a step and of what its call answered
+-- what the mark of a step has, by what its call answered
 abbrev pub step_told : List ℕ → Step → Result Reply Refusal → Told
 step_told text step answer = record { line = text; lane = Thread step.who.0; names = call_lane step.call; shape = call_shape step.call answer }

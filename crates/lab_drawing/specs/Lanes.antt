@@ -24,7 +24,7 @@ lane_text (Line Inband number) = codes "inband " ++ decimal number
 lane_text (Stage Oob) = codes "out-of-band"
 lane_text (Stage Inband) = codes "in-band"
 
--- where a lane stands in a picture, from the top: its kind, and its number
+-- where a lane is in a picture, from the top: its kind, and its number
 abbrev pub place : Lane → ℕ × ℕ
 place (Thread number) = (0, number)
 place (Mutex number) = (1, number)
@@ -49,15 +49,19 @@ is_above one other = is_before (place one) (place other)
 abbrev pub is_lane : Lane → Lane → Bool
 is_lane one other = (place one).0 == (place other).0 && (place one).1 == (place other).1
 
--- a mark stands in this lane, or its call names it
+-- a mark is in this lane, or its call names it
 abbrev pub touches : Lane → Mark → Bool
 touches lane mark = is_lane lane mark.lane || option_map_or (is_lane lane) mark.names false
 
--- each lane stands above all that follow it, so that none is there twice
+-- each lane is above all that follow it, so that none is there twice
 abbrev pub AreSorted : List Lane → Type 0
 AreSorted [] = Unit {0}
 AreSorted (lane ∷ rest) = AllByRecursion (λ other. is_above lane other ≡ true) rest × AreSorted rest
 
+-- rule: The lanes are those that have marks or are named, each once: threads, mutexes, staxes, the core, semaphores,
+--   flag groups, cross-buffers, timers, the clock, out-of-band lines, that stage, in-band lines, that stage; each kind
+--   by number.
+--   clauses: lanes_of
 -- the lanes of marks, from the top: those that the marks touch, and no others
 pub record AreLanesOf (marks : List Mark) (lanes : List Lane) : Type 0 where
   pub sorted : AreSorted lanes
@@ -78,8 +82,3 @@ put_named (Some lane) lanes = with_lane lane lanes
 -- the lanes that a mark touches, among sorted ones
 abbrev pub put_touched : Mark → List Lane → List Lane
 put_touched mark lanes = put_named mark.names (with_lane mark.lane lanes)
-
--- the one list of lanes that `AreLanesOf` marks (`lanes_are`)
-abbrev pub lanes_in : List Mark → List Lane
-lanes_in [] = []
-lanes_in (mark ∷ rest) = put_touched mark (lanes_in rest)

@@ -1,13 +1,12 @@
 pub mod Callbacks
 pub mod Calls
-pub mod Drawings
 pub mod Events
-pub mod Frames
-pub mod Heads
 pub mod Lanes
 pub mod Marks
 pub mod Named
 pub mod Pictures
+pub mod Ranks
+pub mod Shapes
 pub mod Shown
 pub mod Standings
 pub mod Strips

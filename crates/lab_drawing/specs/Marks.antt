@@ -1,4 +1,4 @@
--- The marks of a picture: what each tells of its line.
+-- The marks of a picture: what each says of its line.
 use Rattle.std.specs.Prelude.{ℕ, Bool, true, false, List, [], ◌∷◌, ◌++◌, Option, Some, None, option_map, option_to_list, if◌then◌else◌}
 use Rattle.evl_base.specs.declared.play.Play.TheVariants as play
 use Rattle.evl_base.specs.declared.play.Play as played
@@ -42,7 +42,7 @@ play_shape (play.Timer timer count missed handled) = fire_shape handled
 play_shape (play.Line line stage count handled) = fire_shape handled
 play_shape _ = Played
 
--- what is told of a mark: its line, its lane, the lane that it names, and how it looks
+-- what a mark has: its line, its lane, the lane that it names, and how it looks
 pub record Told : Type 0 where
   pub line : List ℕ
   pub lane : Lane
@@ -90,6 +90,12 @@ abbrev pub marked_behind : List Lane → List TraceLine → List Told
 marked_behind lines [] = []
 marked_behind lines (line ∷ rest) = option_to_list (marked_at lines line) ++ marked_behind (lines_after lines (said_on lines line.says)) rest
 
+-- rule: A line has a callback on a stage from a `request` to a `free` that are done; the clock's always has one. Both
+--   calls name the line's lane on that stage. `arrive` is an event out-of-band if the line has a callback there, else
+--   in-band; `post` is one on its stage. With a callback there it names the line's lane, as an arrival; else the stage,
+--   as spurious. A play is in its line's lane.
+--   also: Events.lines_after
+--   clauses: marks_of
 -- the clock's line has a callback from the first
 abbrev pub all_marked : List TraceLine → List Told
 all_marked lines = marked_behind (Clock ∷ []) lines

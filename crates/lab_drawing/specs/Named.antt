@@ -11,7 +11,7 @@ use Rattle.lab_drawing.specs.declared.lanes.Lane.TheVariants.{Mutex, Stax, Sem, 
 use Rattle.lab_drawing.specs.declared.marks.Shape.{Shape}
 use Rattle.lab_drawing.specs.declared.marks.Shape.TheVariants.{Answered, Begun, Ended, Refused}
 
--- the value of a key in the text of a call: what stands behind the key, up to a space
+-- the value of a key in the text of a call: what is after the key, up to a space
 abbrev pub value_of : List ℕ → List ℕ → Option (List ℕ)
 value_of call key = option_map (λ cut. up_to (codes " ") cut.1) (around_part key call)
 
@@ -39,7 +39,7 @@ stage_at call = option_and_then stage_lane (value_of call (codes " stage="))
 abbrev pub lane_named : List ℕ → Option Lane
 lane_named call = option_or (first_lane (number_at call) lane_keys) (stage_at call)
 
--- the lane of what is shown behind the answer, or else of what the call names
+-- the lane of what is shown after the answer, or else of what the call names
 abbrev pub entry_names : List ℕ → List ℕ → Option Lane
 entry_names call answer = option_or (option_map (λ told. told.0) (word_shown answer)) (lane_named call)
 

@@ -23,7 +23,7 @@ lane_of (held_stax number at count) = Stax number
 lane_of (mutex number owner claimed) = Mutex number
 lane_of (core holder) = Core
 
--- ---- how it is told
+-- ---- how it is printed
 
 abbrev pub stage_words : stages.Stage → List ℕ
 stage_words stage.Inband = codes "in-band"
@@ -46,11 +46,11 @@ word_text (held_stax number at count) = stage_words at ++ holders_text count
 word_text (mutex number owner claimed) = owner_text owner ++ (if claimed then codes ", claimed" else [])
 word_text (core holder) = holder_text holder
 
--- a line that shows a word behind its front part
+-- a line that shows a word after its front part
 abbrev pub line_showing : List ℕ → Word → List ℕ
 line_showing front word = front ++ (bar ++ (lane_text (lane_of word) ++ (codes ": " ++ word_text word)))
 
--- ---- how its lane stands, if it isn't free
+-- ---- the state of its lane, if it isn't free
 
 abbrev pub stage_condition : stages.Stage → Condition
 stage_condition stage.Inband = Inband

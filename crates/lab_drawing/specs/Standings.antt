@@ -1,4 +1,4 @@
--- How the words that callers went to stand after each of their lines.
+-- The states of the words that callers went to, after each of their lines.
 use Rattle.std.specs.Prelude.{ℕ, ◌+◌, ◌-◌, ◌^◌, min, not, List, [], ◌∷◌, ◌++◌, map, filter, codes, Option, Some, None, option_and_then, option_to_list, unwrap_or}
 use Rattle.std.specs.List.{last_or}
 use Rattle.lab_traces.specs.Parts.{before_end}
@@ -11,7 +11,7 @@ use Rattle.lab_drawing.specs.declared.marks.Mark.{Mark}
 use Rattle.lab_drawing.specs.declared.moments.Moment.{Moment}
 use Rattle.lab_drawing.specs.declared.moments.Standing.{Standing}
 
--- what is told of a moment: the date, and the lanes that show something
+-- what a moment has: the date, and the lanes that show something
 pub record Told : Type 0 where
   pub date : ℕ
   pub standings : List Standing
@@ -19,7 +19,7 @@ pub record Told : Type 0 where
 abbrev pub told_at : Moment → Told
 told_at moment = record { date = moment.date; standings = moment.standings.items }
 
--- what stands before the answer of a call that is done
+-- what is before the answer of a call that is done
 unfoldable pub before_done : List ℕ → Option (List ℕ)
 before_done text = before_end (codes " -> done") text
 
@@ -38,16 +38,16 @@ date_after line date = min (date + unwrap_or (moved_by line) 0) (2 ^ 64 - 1)
 abbrev pub others : Lane → List Standing → List Standing
 others lane standings = filter (λ standing. not (is_lane standing.lane lane)) standings
 
--- a lane stands as these words tell, where it isn't free, and the others as before
+-- a lane has the state that these words say, where it isn't free, and the others have theirs from before
 abbrev pub stand_with : Lane → List ℕ → List Standing → List Standing
 stand_with lane how before = others lane before ++ option_to_list (standing_by lane how)
 
--- how they stand behind what a line shows
+-- their states after what a line shows
 abbrev pub stand_after : Option (Lane × List ℕ) → List Standing → List Standing
 stand_after None before = before
 stand_after (Some told) before = stand_with told.0 told.1 before
 
--- the moment after a line, behind the one before it
+-- the moment after a line, given the one before it
 abbrev pub told_after : Told → List ℕ → Told
 told_after before line = record { date = date_after line before.date; standings = stand_after (word_shown line) before.standings }
 
@@ -59,7 +59,7 @@ at_first = record { date = 0; standings = [] }
 abbrev pub last_told : List Told → Told
 last_told told = unwrap_or (last_or None told) at_first
 
--- the moments after each of some lines, behind a moment
+-- the moments after each of some lines, given the moment before the first
 abbrev pub told_behind : Told → List (List ℕ) → List Told
 told_behind before [] = []
 told_behind before (line ∷ rest) = told_after before line ∷ told_behind (told_after before line) rest

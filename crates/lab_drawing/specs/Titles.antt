@@ -1,5 +1,5 @@
--- The titles of a picture's marks.
-use Rattle.std.specs.Prelude.{◌≡◌, ℕ, ◌==◌, List, [], ◌∷◌, ◌++◌, codes, if◌then◌else◌}
+-- Texts in XML, and the titles of a picture's marks.
+use Rattle.std.specs.Prelude.{ℕ, ◌==◌, List, [], ◌∷◌, ◌++◌, codes, if◌then◌else◌}
 
 -- a byte as XML has it in a text
 abbrev pub escaped_byte : ℕ → List ℕ
@@ -16,8 +16,3 @@ escaped (c ∷ rest) = escaped_byte c ++ escaped rest
 -- the title of the mark of a line
 abbrev pub title_text : List ℕ → List ℕ
 title_text line = codes "<title>" ++ (escaped line ++ codes "</title>")
-
--- the titles of these lines stand in the text, one behind the other
-abbrev pub HoldsTitles : List (List ℕ) → List ℕ → Type 0
-HoldsTitles [] text = Unit {0}
-HoldsTitles (line ∷ rest) text = (front : List ℕ) × (back : List ℕ) × (text ≡ front ++ (title_text line ++ back)) × HoldsTitles rest back

@@ -1,4 +1,4 @@
--- What stands behind the answer in a caller's line: how a stax, a mutex's word or the core stands.
+-- What is after the answer in a caller's line: the state of a stax, of a mutex's word or of the core.
 use Rattle.std.specs.Prelude.{ℕ, List, [], ◌∷◌, codes, bytes_eq, if◌then◌else◌, Option, Some, None, option_and_then, option_map}
 use Rattle.std.specs.Option.{option_map_or, option_or}
 use Rattle.evl_scenario.specs.Values.{past_front}
@@ -9,7 +9,7 @@ use Rattle.lab_drawing.specs.declared.moments.Condition.{Condition}
 use Rattle.lab_drawing.specs.declared.moments.Condition.TheVariants.{Claimed, Inband, Oob, Owned, Taken}
 use Rattle.lab_drawing.specs.declared.moments.Standing.{Standing}
 
--- what stands between an answer and what is shown
+-- what is between an answer and what is shown
 abbrev pub bar : List ℕ
 bar = codes " | "
 
@@ -21,7 +21,7 @@ outcome answer = up_to bar answer
 abbrev pub number_behind : List ℕ → List ℕ → Option ℕ
 number_behind word text = option_and_then (number_in 16) (past_front word text)
 
--- the lane of the first of some words behind which a number is found
+-- the lane of the first of some words after which a number is found
 abbrev pub first_lane : (List ℕ → Option ℕ) → List (List ℕ × (ℕ → Lane)) → Option Lane
 first_lane found [] = None
 first_lane found (one ∷ rest) = option_or (option_map one.1 (found one.0)) (first_lane found rest)
@@ -34,14 +34,14 @@ lane_words = (codes "stax ", λ number. Stax number) ∷ (codes "mutex ", λ num
 abbrev pub lane_named : List ℕ → Option Lane
 lane_named name = if bytes_eq name (codes "core") then Some Core else first_lane (λ word. number_behind word name) lane_words
 
--- what is shown behind the bar: a lane, and in words how it stands
+-- what is shown after the bar: a lane, and its state in words
 abbrev pub word_shown : List ℕ → Option (Lane × List ℕ)
 word_shown line =
     option_and_then (λ (front, behind).
     option_and_then (λ (name, how).
     option_map (λ lane. (lane, how)) (lane_named name)) (around_part (codes ": ") behind)) (around_part bar line)
 
--- ---- how it stands, where it isn't free, and the number that is told with it
+-- ---- its state, where it isn't free, and the number that is printed with it
 
 -- at which stage a stax is held
 abbrev pub held_at : List ℕ → Option Condition
@@ -76,6 +76,6 @@ stands_by _ how = None
 abbrev pub stood : Lane → Condition × Option ℕ → Standing
 stood lane told = record { lane = lane; condition = told.0; number = told.1; policy = None; lender = None }
 
--- how a lane stands by these words
+-- the state of a lane by these words
 abbrev pub standing_by : Lane → List ℕ → Option Standing
 standing_by lane how = option_map (stood lane) (stands_by lane how)

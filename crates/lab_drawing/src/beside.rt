@@ -1,8 +1,8 @@
-//! What is told beside marks, in a picture that goes down.
-ghost use Rattle.std.specs.Prelude.{◌≡◌, ◌++◌, string_bytes, IfOk, OnOk};
+//! What is shown beside marks, in a picture that goes down.
+ghost use Rattle.std.specs.Prelude.{◌≡◌};
 ghost use Rattle.lab_drawing.specs.Events.{line_at};
 ghost use Rattle.lab_drawing.specs.Pictures as pictures;
-ghost use Rattle.lab_drawing.specs.Pictures.{beside_mark, beside_text, told_beside};
+ghost use Rattle.lab_drawing.specs.Pictures.{told_beside};
 
 use crate::escapes::put_text;
 use crate::frames::Goes;
@@ -27,7 +27,7 @@ fn line_told(line: &str) -> Option<u64>
     }
 }
 
-// What is told beside a mark: of a play its count, of a spurious event the interrupt line.
+// What is shown beside a mark: of a play its count, of a spurious event the interrupt line.
 fn told_beside(mark: &Mark<'_>) -> Option<u64>
     ensures { result ≡ told_beside mark.now.shape mark.now.line.now }
 {
@@ -39,32 +39,26 @@ fn told_beside(mark: &Mark<'_>) -> Option<u64>
 }
 
 // A number beside a mark.
-fn beside_text(alloc: Global, number: Option<u64>) -> Result<String, AllocError>
-    ensures { IfOk result (λ text. string_bytes text ≡ beside_text number) }
-{
+fn beside_text(alloc: Global, number: Option<u64>) -> Result<String, AllocError> {
     match number {
         None => Ok(String::new(alloc)),
         Some(told) => { format!(in alloc; "<text x=\"8\" y=\"9\" fill=\"#5c4300\">{told}</text>") }
     }
 }
 
-// Appends what is told beside a mark.
-fn put_told(alloc: Global, text: &mut Vec<u8>, mark: &Mark<'_>) -> Result<(), AllocError>
-    ensures { OnOk result (text.new.items ≡ text.old.items ++ beside_text (told_beside mark.now.shape mark.now.line.now)) }
-{
+// Appends what is shown beside a mark.
+fn put_told(alloc: Global, text: &mut Vec<u8>, mark: &Mark<'_>) -> Result<(), AllocError> {
     let number = beside_text(alloc, told_beside(mark))?;
     put_text(text, number.as_str())
 }
 
-/// Appends what is told beside a mark, in a picture that goes down.
+/// Appends what is shown beside a mark, in a picture that goes down.
 pub fn put_beside(
     alloc: Global,
     text: &mut Vec<u8>,
     goes: Goes,
     mark: &Mark<'_>,
-) -> Result<(), AllocError>
-    ensures { OnOk result (text.new.items ≡ text.old.items ++ beside_mark goes mark.now) }
-{
+) -> Result<(), AllocError> {
     match goes {
         Goes::Across => Ok(()),
         Goes::Down => put_told(alloc, text, mark),

@@ -1,7 +1,7 @@
 //! The dates of a picture, and the room that they have where it goes down.
-ghost use Rattle.std.specs.Prelude.{◌≡◌, ◌<◌, IfOk, max, string_bytes};
-ghost use Rattle.lab_drawing.specs.Frames as frames;
-ghost use Rattle.lab_drawing.specs.Frames.{date_text, dates_room, longest_date};
+ghost use Rattle.std.specs.Prelude.{◌≡◌, ◌<◌, IfOk, string_bytes};
+ghost use Rattle.lab_drawing.specs.Ranks as ranks;
+ghost use Rattle.lab_drawing.specs.Ranks.{date_text};
 
 use crate::frames::steps;
 use crate::moments::Moment;
@@ -10,10 +10,10 @@ use std::alloc::{AllocError, Global};
 // How wide a character of a date is.
 const CHARACTER: usize = 6;
 
-// The greatest unit that tells a date whole: how many nanoseconds it has, and its word.
+// The greatest unit of which a date is a whole number: how many nanoseconds it has, and its word.
 fn unit_of(date: u64) -> (u64, &'static str)
-    ensures nanoseconds { result.0 ≡ (frames.unit_of date).0 }
-    ensures word { result.1.now ≡ (frames.unit_of date).1 }
+    ensures nanoseconds { result.0 ≡ (ranks.unit_of date).0 }
+    ensures word { result.1.now ≡ (ranks.unit_of date).1 }
     ensures some { 0 < result.0 }
 {
     if date == 0 {
@@ -29,7 +29,7 @@ fn unit_of(date: u64) -> (u64, &'static str)
     }
 }
 
-/// A date in the greatest unit that tells it whole. `AllocError` where the text couldn't grow.
+/// A date in the greatest unit of which it is a whole number. `AllocError` where the text couldn't grow.
 pub fn date_text(alloc: Global, date: u64) -> Result<String, AllocError>
     ensures { IfOk result (λ text. string_bytes text ≡ date_text date) }
 {
@@ -39,9 +39,7 @@ pub fn date_text(alloc: Global, date: u64) -> Result<String, AllocError>
 }
 
 // How many characters the longest date has.
-fn longest_date(alloc: Global, moments: &[Moment]) -> Result<usize, AllocError>
-    ensures { IfOk result (λ count. count ≡ longest_date moments.now) }
-{
+fn longest_date(alloc: Global, moments: &[Moment]) -> Result<usize, AllocError> {
     let mut longest = 0;
     for moment in moments {
         let told = date_text(alloc, moment.date)?;
@@ -52,9 +50,7 @@ fn longest_date(alloc: Global, moments: &[Moment]) -> Result<usize, AllocError>
 
 /// How wide the room for dates is, left of the lanes of a picture that goes down: as the longest date wants it.
 /// `AllocError` where memory couldn't grow.
-pub fn dates_room(alloc: Global, moments: &[Moment]) -> Result<usize, AllocError>
-    ensures { IfOk result (λ room. room ≡ dates_room moments.now) }
-{
+pub fn dates_room(alloc: Global, moments: &[Moment]) -> Result<usize, AllocError> {
     let longest = longest_date(alloc, moments)?;
     Ok(steps(10, CHARACTER, longest).max(64))
 }

@@ -1,7 +1,4 @@
 //! The parts of a picture that goes down.
-ghost use Rattle.std.specs.Prelude.{◌≡◌, ◌++◌, string_bytes, IfOk, OnOk};
-ghost use Rattle.lab_drawing.specs.Drawings as drawings;
-ghost use Rattle.lab_drawing.specs.Frames.{line_down, name_above, short_name};
 
 use crate::lanes::Lane;
 use crate::moments::Condition;
@@ -15,17 +12,13 @@ pub fn put_line_down(
     y: usize,
     end: usize,
     ink: &str,
-) -> Result<(), AllocError>
-    ensures { OnOk result (string_bytes text.new ≡ string_bytes text.old ++ line_down x y end ink.now) }
-{
+) -> Result<(), AllocError> {
     write!(text, "<path d=\"M{x} {y}V{end}\" stroke=\"{ink}\"/>")?;
     Ok(())
 }
 
 // The name of a lane in the words of a trace.
-fn short_name(alloc: Global, lane: Lane) -> Result<String, AllocError>
-    ensures { IfOk result (λ text. string_bytes text ≡ short_name lane) }
-{
+fn short_name(alloc: Global, lane: Lane) -> Result<String, AllocError> {
     match lane {
         Lane::Stage(Stage::Oob) => String::from_str(alloc, "oob"),
         Lane::Stage(Stage::Inband) => String::from_str(alloc, "inband"),
@@ -35,9 +28,7 @@ fn short_name(alloc: Global, lane: Lane) -> Result<String, AllocError>
 }
 
 /// Appends the name of a lane above it.
-pub fn put_name_above(text: &mut String, x: usize, y: usize, lane: Lane) -> Result<(), AllocError>
-    ensures { OnOk result (string_bytes text.new ≡ string_bytes text.old ++ name_above x y lane) }
-{
+pub fn put_name_above(text: &mut String, x: usize, y: usize, lane: Lane) -> Result<(), AllocError> {
     let named = short_name(*text.allocator(), lane)?;
     let name = named.as_str();
     write!(
@@ -47,10 +38,8 @@ pub fn put_name_above(text: &mut String, x: usize, y: usize, lane: Lane) -> Resu
     Ok(())
 }
 
-/// The strip of a condition, left of the place where a mark stands.
-pub fn strip_down(condition: Condition) -> &'static str
-    ensures { result.now ≡ drawings.strip_down condition }
-{
+/// The strip of a condition, left of a mark's place.
+pub fn strip_down(condition: Condition) -> &'static str {
     match condition {
         Condition::Inband => {
             "<path d=\"M-10.5 -10v20\" stroke=\"#8a6d00\" stroke-width=\"1.5\"/>"

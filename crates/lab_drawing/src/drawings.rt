@@ -1,7 +1,4 @@
 //! The drawings of a picture: lines and shapes.
-ghost use Rattle.std.specs.Prelude.{◌≡◌, ◌++◌, string_bytes, OnOk};
-ghost use Rattle.lab_drawing.specs.Drawings.{shape_text};
-ghost use Rattle.lab_drawing.specs.Frames.{lane_ink, lane_name, line_text};
 
 use crate::frames::LEFT;
 use crate::lanes::Lane;
@@ -9,17 +6,13 @@ use crate::marks::Shape;
 use std::alloc::AllocError;
 
 /// Appends a line so far down, up to here.
-pub fn put_line(text: &mut String, y: usize, end: usize, ink: &str) -> Result<(), AllocError>
-    ensures { OnOk result (string_bytes text.new ≡ string_bytes text.old ++ line_text y end ink.now) }
-{
+pub fn put_line(text: &mut String, y: usize, end: usize, ink: &str) -> Result<(), AllocError> {
     write!(text, "<path d=\"M{LEFT} {y}H{end}\" stroke=\"{ink}\"/>")?;
     Ok(())
 }
 
 /// Appends the name of a lane, so far down.
-pub fn put_lane_name(text: &mut String, y: usize, lane: Lane) -> Result<(), AllocError>
-    ensures { OnOk result (string_bytes text.new ≡ string_bytes text.old ++ lane_name y lane) }
-{
+pub fn put_lane_name(text: &mut String, y: usize, lane: Lane) -> Result<(), AllocError> {
     write!(
         text,
         "<text x=\"8\" y=\"{y}\" font-size=\"11\">{lane}</text>\n"
@@ -28,9 +21,7 @@ pub fn put_lane_name(text: &mut String, y: usize, lane: Lane) -> Result<(), Allo
 }
 
 /// The colour of the line of a lane.
-pub fn lane_ink(lane: Lane) -> &'static str
-    ensures { result.now ≡ lane_ink lane }
-{
+pub fn lane_ink(lane: Lane) -> &'static str {
     match lane {
         Lane::Thread(_) => "#b8c4d6",
         Lane::Line(_, _) | Lane::Stage(_) => "#d8c48c",
@@ -38,10 +29,8 @@ pub fn lane_ink(lane: Lane) -> &'static str
     }
 }
 
-/// The drawing of a shape, around the place where it stands.
-pub fn shape_text(shape: Shape) -> &'static str
-    ensures { result.now ≡ shape_text shape }
-{
+/// The drawing of a shape, around its place.
+pub fn shape_text(shape: Shape) -> &'static str {
     match shape {
         Shape::Answered | Shape::Arrived | Shape::Spurious => {
             "<circle r=\"5\" fill=\"#1f5fa8\"/>"

@@ -1,9 +1,7 @@
 //! The sheet that marks are drawn on: bands of lanes, one below the other.
-ghost use Rattle.std.specs.Prelude.{◌≡◌, ◌≤◌, ◌+◌, ◌-◌, ◌*◌, ◌++◌, max, min, is_some, string_bytes, unwrap_or, IfOk, OnOk, Some};
-ghost use Rattle.lab_drawing.specs.Frames as frames;
-ghost use Rattle.lab_drawing.specs.Frames.{band_count, band_depth, band_height, band_top, capped, date_row, frame_text, lane_across, lane_down, lane_height, lane_left, lane_line, lanes_end, layout, layout_of, left_of, legend_height, lines_left, longest, most_shown, picture_height, picture_width, place_on, row_down, tie_to, to_line, top_of};
-ghost use Rattle.lab_drawing.specs.Heads.{head_text, second_legend};
-ghost use Rattle.lab_drawing.specs.Lanes.{AreLanesOf, put_touched};
+ghost use Rattle.std.specs.Prelude.{◌≡◌, is_some, position, IfOk, OnOk};
+ghost use Rattle.lab_drawing.specs.Lanes.{AreLanesOf, is_lane, put_touched};
+ghost use Rattle.lab_drawing.specs.Pictures.{shows_waits};
 
 use crate::dates::dates_room;
 use crate::downwards::{put_line_down, put_name_above};
@@ -16,7 +14,7 @@ use crate::ranks::word_place;
 use crate::ties::{TieEnd, tie_down, tie_right};
 use std::alloc::{AllocError, Global};
 
-/// How many marks stand side by side in a band.
+/// How many marks are side by side in a band.
 pub const COLUMNS: usize = 60;
 
 // The room for the names of lanes, left of the first column.
@@ -32,7 +30,7 @@ const TOP: usize = 44;
 
 const BETWEEN: usize = 20;
 
-// The room for the dates above a band, and for the second line of a legend, where it is told how lanes stand.
+// The room for the dates above a band, and for the second line of a legend, where the lanes' states are shown.
 const DATES: usize = 32;
 
 const SECOND: usize = 20;
@@ -40,7 +38,7 @@ const SECOND: usize = 20;
 // How much higher a lane is with its strip.
 const STRIP: usize = 6;
 
-// How many characters of a line are shown at most, also where words are shown behind answers, and how wide one is.
+// How many characters of a line are shown at most, also where words are shown after answers, and how wide one is.
 const MOST_SHOWN: usize = 72;
 
 const MOST_TOLD: usize = 100;
@@ -70,12 +68,12 @@ pub enum Goes {
     Down,
 }
 
-/// What a picture shows of how lanes stand.
+/// What a picture shows of lanes' states.
 #[derive(Clone, Copy, PartialEq, Eq)]
 pub enum Shows {
-    /// The waits that the answers tell.
+    /// The waits that the answers report.
     Waits,
-    /// Dates, and strips of all that a machine's readers tell.
+    /// Dates, and strips of all that a machine's readers answer.
     Machine,
     /// Dates, the waits, and strips of the words that callers went to.
     Words,
@@ -84,15 +82,15 @@ pub enum Shows {
 }
 
 /// How a picture is laid out: its lanes from the first, the characters that are shown of a line, how many marks it has,
-/// what it shows of how lanes stand, which way it goes, and how wide the room for its dates is where that is down.
+/// what it shows of lanes' states, which way it goes, and how wide the room for its dates is where that is down.
 #[derive(Drop)]
 pub struct Sheet {
     pub lanes: Vec<Lane>,
     pub shown: usize,
     pub goes: Goes,
     pub dated: usize,
+    pub shows: Shows,
     count: usize,
-    shows: Shows,
 }
 
 // Puts the lanes that a mark touches among sorted ones.
@@ -106,7 +104,7 @@ fn add_touched(lanes: &mut Vec<Lane>, mark: &Mark<'_>) -> Result<(), AllocError>
     }
 }
 
-/// The lanes of some marks, from the top: those in which they stand, and those that their calls name, each once.
+/// The lanes of some marks, from the top: those in which they are, and those that their calls name, each once.
 /// `AllocError` where the list couldn't grow.
 pub fn lanes_of(alloc: Global, marks: &[Mark<'_>]) -> Result<Vec<Lane>, AllocError>
     ensures { IfOk result (λ lanes. AreLanesOf marks.now lanes.items) }
@@ -119,9 +117,7 @@ pub fn lanes_of(alloc: Global, marks: &[Mark<'_>]) -> Result<Vec<Lane>, AllocErr
 }
 
 // How many characters of a line are shown at most.
-fn most_shown(shows: Shows) -> usize
-    ensures { result ≡ most_shown shows }
-{
+fn most_shown(shows: Shows) -> usize {
     match shows {
         Shows::Words | Shows::Callers => MOST_TOLD,
         _ => MOST_SHOWN,
@@ -129,16 +125,12 @@ fn most_shown(shows: Shows) -> usize
 }
 
 /// So many steps from a place.
-pub fn steps(from: usize, step: usize, count: usize) -> usize
-    ensures { result ≡ capped (from + step * count) }
-{
+pub fn steps(from: usize, step: usize, count: usize) -> usize {
     from.saturating_add(step.saturating_mul(count))
 }
 
 // How many characters of their lines are shown, where at most so many are.
-fn shown_of(marks: &[Mark<'_>], most: usize) -> usize
-    ensures { result ≡ min most (longest marks.now) }
-{
+fn shown_of(marks: &[Mark<'_>], most: usize) -> usize {
     let mut shown = 0;
     for mark in marks {
         shown = mark.line.len().max(shown).min(most);
@@ -147,7 +139,7 @@ fn shown_of(marks: &[Mark<'_>], most: usize) -> usize
 }
 
 impl Sheet {
-    /// The sheet for some marks and moments, and what it shows of how lanes stand. `AllocError` where memory couldn't
+    /// The sheet for some marks and moments, and what it shows of lanes' states. `AllocError` where memory couldn't
     /// grow.
     pub fn of(
         alloc: Global,
@@ -156,7 +148,8 @@ impl Sheet {
         shows: Shows,
         goes: Goes,
     ) -> Result<Sheet, AllocError>
-        ensures { IfOk result (λ sheet. layout sheet ≡ layout_of goes shows moments.now marks.now) }
+        ensures lanes { IfOk result (λ sheet. AreLanesOf marks.now sheet.lanes.items) }
+        ensures shows { IfOk result (λ sheet. sheet.shows ≡ shows) }
     {
         let dated = dates_room(alloc, moments)?;
         let lanes = lanes_of(alloc, marks)?;
@@ -165,16 +158,13 @@ impl Sheet {
             shown: shown_of(marks, most_shown(shows)),
             goes,
             dated,
-            count: marks.len(),
             shows,
+            count: marks.len(),
         })
     }
 
-    // So much room, where it is told how lanes stand.
-    fn room(&self, room: usize) -> usize
-        ensures room { result ≡ frames.room self.now.shows room }
-        ensures within { result ≤ room }
-    {
+    // So much room, where the lanes' states are shown.
+    fn room(&self, room: usize) -> usize {
         match self.shows {
             Shows::Waits => 0,
             _ => room,
@@ -182,16 +172,12 @@ impl Sheet {
     }
 
     // How high a lane is.
-    fn lane(&self) -> usize
-        ensures { result ≡ lane_height (layout self.now) }
-    {
+    fn lane(&self) -> usize {
         self.room(STRIP).saturating_add(LANE)
     }
 
     // The room for the legend.
-    fn top(&self) -> usize
-        ensures { result ≡ legend_height (layout self.now) }
-    {
+    fn top(&self) -> usize {
         match self.goes {
             Goes::Across => self.room(SECOND).saturating_add(TOP),
             Goes::Down => self.room(28).saturating_add(32),
@@ -199,9 +185,7 @@ impl Sheet {
     }
 
     // How high the dates and lanes of a band are.
-    fn depth(&self) -> usize
-        ensures { result ≡ band_depth (layout self.now) }
-    {
+    fn depth(&self) -> usize {
         steps(
             self.room(DATES).saturating_add(LANE / 2),
             self.lane(),
@@ -210,9 +194,7 @@ impl Sheet {
     }
 
     // How high a band is, with the lines below it.
-    fn height(&self) -> usize
-        ensures { result ≡ band_height (layout self.now) }
-    {
+    fn height(&self) -> usize {
         match self.goes {
             Goes::Across => steps(self.depth().saturating_add(BETWEEN), CHARACTER, self.shown),
             Goes::Down => NAMES + ROW * COLUMNS + BELOW,
@@ -220,108 +202,84 @@ impl Sheet {
     }
 
     // Where the band of a column begins.
-    fn band_top(&self, column: usize) -> usize
-        ensures { result ≡ band_top (layout self.now) column }
-    {
+    fn band_top(&self, column: usize) -> usize {
         steps(self.top(), self.height(), column / COLUMNS)
     }
 
-    /// Whether it shows the waits beside how lanes stand.
+    /// Whether it shows the waits beside the lanes' states.
     pub fn shows_waits(&self) -> bool
-        ensures { result ≡ frames.shows_waits self.now.shows }
+        ensures { result ≡ shows_waits self.now.shows }
     {
         matches!(self.shows, Shows::Words | Shows::Callers)
     }
 
-    /// Where a number that is no rank stands: left of the tie, where it is the tied call that changes the number.
-    pub fn number_place(&self) -> &'static str
-        ensures { result.now ≡ frames.number_place self.now.goes self.now.shows }
-    {
+    /// Where a number that is no rank is: left of the tie, where it is the tied call that changes the number.
+    pub fn number_place(&self) -> &'static str {
         word_place(self.goes, self.shows_waits())
     }
 
     /// Whether it has this lane.
     pub fn has(&self, lane: Lane) -> bool
-        ensures { result ≡ is_some (place_on (layout self.now) lane) }
+        ensures { result ≡ is_some (position (is_lane lane) self.now.lanes.items) }
     {
         index_of(self.lanes.as_slice(), lane).is_some()
     }
 
-    /// Where the dates of the band of a column stand, from the top.
-    pub fn date_row(&self, column: usize) -> usize
-        ensures { result ≡ date_row (layout self.now) column }
-    {
+    /// Where the dates of the band of a column are, from the top.
+    pub fn date_row(&self, column: usize) -> usize {
         self.band_top(column).saturating_add(DATES)
     }
 
-    /// Where a column stands, from the left.
-    pub fn across(&self, column: usize) -> usize
-        ensures { result ≡ frames.across column }
-    {
+    /// Where a column is, from the left.
+    pub fn across(&self, column: usize) -> usize {
         steps(LEFT + COLUMN / 2, COLUMN, column % COLUMNS)
     }
 
-    // At which place among the lanes a lane stands; the first one stands for one that isn't there.
-    fn place(&self, lane: Lane) -> usize
-        ensures { result ≡ unwrap_or (place_on (layout self.now) lane) 0 }
-    {
+    // At which place among the lanes a lane is; for a lane that isn't there, the first place.
+    fn place(&self, lane: Lane) -> usize {
         index_of(self.lanes.as_slice(), lane).unwrap_or(0)
     }
 
-    /// Where a lane stands in the band of a column, from the top.
-    pub fn down(&self, column: usize, lane: Lane) -> usize
-        ensures { result ≡ frames.down (layout self.now) column lane }
-    {
+    /// Where a lane is in the band of a column, from the top.
+    pub fn down(&self, column: usize, lane: Lane) -> usize {
         let first = self.room(DATES).saturating_add(LANE);
         let top = self.band_top(column).saturating_add(first);
         steps(top, self.lane(), self.place(lane))
     }
 
     /// How far the lines below a band are below a lane.
-    pub fn below(&self, column: usize, lane: Lane) -> usize
-        ensures { result ≡ frames.below_lane (layout self.now) column lane }
-    {
+    pub fn below(&self, column: usize, lane: Lane) -> usize {
         let foot = self.band_top(column).saturating_add(self.depth());
         foot.saturating_sub(self.down(column, lane))
     }
 
-    /// Where a row stands in a picture that goes down, from the top.
-    pub fn row_down(&self, row: usize) -> usize
-        ensures { result ≡ row_down (layout self.now) row }
-    {
+    /// Where a row is in a picture that goes down, from the top.
+    pub fn row_down(&self, row: usize) -> usize {
         let first = self.band_top(row).saturating_add(NAMES + ROW / 2);
         steps(first, ROW, row % COLUMNS)
     }
 
     // Where the lines begin in a picture that goes down, from the left.
-    fn lines_left(&self) -> usize
-        ensures { result ≡ lines_left (layout self.now) }
-    {
+    fn lines_left(&self) -> usize {
         steps(self.dated, LANE_DOWN, self.lanes.len())
     }
 
-    // Where a lane stands in a picture that goes down, from the left.
-    fn lane_left(&self, lane: Lane) -> usize
-        ensures { result ≡ lane_left (layout self.now) lane }
-    {
+    // Where a lane is in a picture that goes down, from the left.
+    fn lane_left(&self, lane: Lane) -> usize {
         let first = self.dated.saturating_add(IN_LANE);
         steps(first, LANE_DOWN, self.place(lane))
     }
 
-    /// Where a mark stands in a lane, from the left.
-    pub fn left_of(&self, column: usize, lane: Lane) -> usize
-        ensures { result ≡ left_of (layout self.now) column lane }
-    {
+    /// Where a mark is in a lane, from the left.
+    pub fn left_of(&self, column: usize, lane: Lane) -> usize {
         match self.goes {
             Goes::Across => self.across(column),
             Goes::Down => self.lane_left(lane),
         }
     }
 
-    /// Where a mark stands in a lane, from the top.
-    pub fn top_of(&self, column: usize, lane: Lane) -> usize
-        ensures { result ≡ top_of (layout self.now) column lane }
-    {
+    /// Where a mark is in a lane, from the top.
+    pub fn top_of(&self, column: usize, lane: Lane) -> usize {
         match self.goes {
             Goes::Across => self.down(column, lane),
             Goes::Down => self.row_down(column),
@@ -329,9 +287,7 @@ impl Sheet {
     }
 
     /// How far it is from a mark in a lane to its line.
-    pub fn to_line(&self, column: usize, lane: Lane) -> usize
-        ensures { result ≡ to_line (layout self.now) column lane }
-    {
+    pub fn to_line(&self, column: usize, lane: Lane) -> usize {
         match self.goes {
             Goes::Across => self.below(column, lane),
             Goes::Down => self.lines_left().saturating_sub(self.lane_left(lane)),
@@ -346,9 +302,7 @@ impl Sheet {
         lane: Lane,
         other: Lane,
         end: TieEnd,
-    ) -> Result<String, AllocError>
-        ensures { IfOk result (λ text. string_bytes text ≡ tie_to (layout self.now) column lane end (Some other)) }
-    {
+    ) -> Result<String, AllocError> {
         match self.goes {
             Goes::Across => {
                 let from = self.down(column, lane);
@@ -362,40 +316,30 @@ impl Sheet {
     }
 
     // How many columns the widest band has.
-    fn columns(&self) -> usize
-        ensures { result ≡ min 60 self.now.count }
-    {
+    fn columns(&self) -> usize {
         self.count.min(COLUMNS)
     }
 
     // How wide the picture is: a legend has its place in it, however few marks there are.
-    fn width(&self) -> usize
-        ensures { result ≡ picture_width (layout self.now) }
-    {
+    fn width(&self) -> usize {
         match self.goes {
             Goes::Across => steps(LEFT + BETWEEN, COLUMN, self.columns().max(44)),
             Goes::Down => self.width_down(),
         }
     }
 
-    // The same of one that goes down.
-    fn width_down(&self) -> usize
-        ensures { result ≡ max 828 (capped (lines_left (layout self.now) + 40 + 8 * self.now.shown)) }
-    {
+    // How wide a picture that goes down is.
+    fn width_down(&self) -> usize {
         steps(self.lines_left().saturating_add(40), LETTER, self.shown).max(828)
     }
 
     // How many bands there are.
-    fn bands(&self) -> usize
-        ensures { result ≡ band_count (layout self.now) }
-    {
+    fn bands(&self) -> usize {
         self.count / COLUMNS + if self.count % COLUMNS == 0 { 0 } else { 1 }
     }
 
     // How high the picture is.
-    fn whole_height(&self) -> usize
-        ensures { result ≡ picture_height (layout self.now) }
-    {
+    fn whole_height(&self) -> usize {
         match self.goes {
             Goes::Across => steps(self.top(), self.height(), self.bands()),
             Goes::Down => {
@@ -406,19 +350,15 @@ impl Sheet {
     }
 
     /// The beginning of the picture, up to its legend.
-    pub fn head(&self, alloc: Global) -> Result<String, AllocError>
-        ensures { IfOk result (λ text. string_bytes text ≡ head_text (layout self.now)) }
-    {
+    pub fn head(&self, alloc: Global) -> Result<String, AllocError> {
         let mut text = opening(alloc, self.goes, self.width(), self.whole_height())?;
         put_shapes(&mut text)?;
         self.put_second(&mut text)?;
         Ok(text)
     }
 
-    // Appends the second line of the legend, where it is told how lanes stand.
-    fn put_second(&self, text: &mut String) -> Result<(), AllocError>
-        ensures { OnOk result (string_bytes text.new ≡ string_bytes text.old ++ second_legend self.now.goes self.now.shows self.now.lanes.items) }
-    {
+    // Appends the second line of the legend, where the lanes' states are shown.
+    fn put_second(&self, text: &mut String) -> Result<(), AllocError> {
         match self.shows {
             Shows::Waits => Ok(()),
             Shows::Machine => put_conditions(text, self.goes),
@@ -428,9 +368,7 @@ impl Sheet {
     }
 
     /// The lanes of the band that begins at a column.
-    pub fn frame(&self, alloc: Global, column: usize) -> Result<String, AllocError>
-        ensures { IfOk result (λ text. string_bytes text ≡ frame_text (layout self.now) column) }
-    {
+    pub fn frame(&self, alloc: Global, column: usize) -> Result<String, AllocError> {
         let mut text = String::new(alloc);
         let end = self.lanes_end(column);
         for lane in &self.lanes {
@@ -440,9 +378,7 @@ impl Sheet {
     }
 
     // Where the lanes of the band that begins at a column end.
-    fn lanes_end(&self, column: usize) -> usize
-        ensures { result ≡ lanes_end (layout self.now) column }
-    {
+    fn lanes_end(&self, column: usize) -> usize {
         let count = self.count.saturating_sub(column).min(COLUMNS);
         match self.goes {
             Goes::Across => steps(LEFT, COLUMN, count),
@@ -457,9 +393,7 @@ impl Sheet {
         column: usize,
         end: usize,
         lane: Lane,
-    ) -> Result<(), AllocError>
-        ensures { OnOk result (string_bytes text.new ≡ string_bytes text.old ++ lane_line (layout self.now) column end lane) }
-    {
+    ) -> Result<(), AllocError> {
         match self.goes {
             Goes::Across => self.put_lane_across(text, column, end, lane),
             Goes::Down => self.put_lane_down(text, column, end, lane),
@@ -473,9 +407,7 @@ impl Sheet {
         row: usize,
         end: usize,
         lane: Lane,
-    ) -> Result<(), AllocError>
-        ensures { OnOk result (string_bytes text.new ≡ string_bytes text.old ++ lane_down (layout self.now) row end lane) }
-    {
+    ) -> Result<(), AllocError> {
         let x = self.lane_left(lane);
         let top = self.band_top(row);
         put_line_down(text, x, top.saturating_add(20), end, lane_ink(lane))?;
@@ -489,9 +421,7 @@ impl Sheet {
         column: usize,
         end: usize,
         lane: Lane,
-    ) -> Result<(), AllocError>
-        ensures { OnOk result (string_bytes text.new ≡ string_bytes text.old ++ lane_across (layout self.now) column end lane) }
-    {
+    ) -> Result<(), AllocError> {
         let y = self.down(column, lane);
         put_line(text, y, end, lane_ink(lane))?;
         put_lane_name(text, y.saturating_add(3), lane)

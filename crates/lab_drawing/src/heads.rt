@@ -1,8 +1,6 @@
-//! What stands above the bands of a picture as SVG: its opening, and its legend.
-ghost use Rattle.std.specs.Prelude.{◌≡◌, ◌++◌, string_bytes, IfOk, OnOk, if◌then◌else◌, []};
-ghost use Rattle.lab_drawing.specs.Drawings as drawings;
-ghost use Rattle.lab_drawing.specs.Heads as heads;
-ghost use Rattle.lab_drawing.specs.Heads.{callers_signs, condition_sign, condition_signs, dark_text, opening_text, place_text, shape_sign, shape_signs, signs_of, signs_text, word_signs, word_text};
+//! What is above the bands of a picture as SVG: its opening, and its legend.
+ghost use Rattle.std.specs.Prelude.{◌≡◌, ◌++◌, string_bytes, OnOk};
+ghost use Rattle.lab_drawing.specs.Shapes.{place_text};
 
 use crate::drawings::shape_text;
 use crate::frames::{Goes, steps};
@@ -16,22 +14,23 @@ use std::alloc::{AllocError, Global};
 // How wide a character is.
 const CHARACTER: usize = 6;
 
-/// Where the first sign of a condition stands, from the left.
+/// Where the first sign of a condition is, from the left.
 pub const FIRST_SIGN: usize = 20;
 
 /// The opening of a picture of this size. `AllocError` where the text couldn't grow.
-pub fn opening(alloc: Global, goes: Goes, width: usize, height: usize) -> Result<String, AllocError>
-    ensures { IfOk result (λ text. string_bytes text ≡ opening_text goes width height) }
-{
+pub fn opening(
+    alloc: Global,
+    goes: Goes,
+    width: usize,
+    height: usize,
+) -> Result<String, AllocError> {
     let mut text = sized(alloc, goes, width, height)?;
     put_dark(&mut text)?;
     Ok(text)
 }
 
 // Its size.
-fn sized(alloc: Global, goes: Goes, width: usize, height: usize) -> Result<String, AllocError>
-    ensures { IfOk result (λ text. string_bytes text ≡ heads.sized_text goes width height) }
-{
+fn sized(alloc: Global, goes: Goes, width: usize, height: usize) -> Result<String, AllocError> {
     match goes {
         Goes::Across => sized_across(alloc, width, height),
         Goes::Down => sized_down(alloc, width, height),
@@ -39,27 +38,21 @@ fn sized(alloc: Global, goes: Goes, width: usize, height: usize) -> Result<Strin
 }
 
 // That of a picture that goes across.
-fn sized_across(alloc: Global, width: usize, height: usize) -> Result<String, AllocError>
-    ensures { IfOk result (λ text. string_bytes text ≡ heads.sized_across width height) }
-{
+fn sized_across(alloc: Global, width: usize, height: usize) -> Result<String, AllocError> {
     format!(in alloc;
         "<svg xmlns=\"http://www.w3.org/2000/svg\" width=\"{width}\" height=\"{height}\" viewBox=\"0 0 {width} {height}\" font-family=\"DejaVu Sans Mono, monospace\" font-size=\"9\">\n"
     )
 }
 
 // That of one that goes down.
-fn sized_down(alloc: Global, width: usize, height: usize) -> Result<String, AllocError>
-    ensures { IfOk result (λ text. string_bytes text ≡ heads.sized_down width height) }
-{
+fn sized_down(alloc: Global, width: usize, height: usize) -> Result<String, AllocError> {
     format!(in alloc;
         "<svg xmlns=\"http://www.w3.org/2000/svg\" width=\"{width}\" height=\"{height}\" viewBox=\"0 0 {width} {height}\" font-family=\"DejaVu Sans Mono, monospace\" font-size=\"10\">\n"
     )
 }
 
 // Appends how it looks on a dark screen, and its background.
-fn put_dark(text: &mut String) -> Result<(), AllocError>
-    ensures { OnOk result (string_bytes text.new ≡ string_bytes text.old ++ dark_text) }
-{
+fn put_dark(text: &mut String) -> Result<(), AllocError> {
     text.push_str(
         "<style>@media screen and (prefers-color-scheme:dark){[fill=\"#ffffff\"]{fill:#14181d}text,[fill=\"#202020\"]{fill:#e8e8e8}",
     )?;
@@ -72,15 +65,13 @@ fn put_dark(text: &mut String) -> Result<(), AllocError>
     Ok(())
 }
 
-// Where the next sign stands, with so much room beside the word.
-fn sign_end(space: usize, at: usize, word: &str) -> usize
-    ensures { result ≡ heads.sign_end space at word.now }
-{
+// Where the next sign is, with so much room beside the word.
+fn sign_end(space: usize, at: usize, word: &str) -> usize {
     steps(at.saturating_add(space), CHARACTER, word.len())
 }
 
-// Appends the beginning of what stands here.
-fn put_place(text: &mut String, x: usize, y: usize) -> Result<(), AllocError>
+/// Appends the beginning of an element at a place.
+pub fn put_place(text: &mut String, x: usize, y: usize) -> Result<(), AllocError>
     ensures { OnOk result (string_bytes text.new ≡ string_bytes text.old ++ place_text x y) }
 {
     write!(text, "<g transform=\"translate({x},{y})\">")?;
@@ -88,29 +79,21 @@ fn put_place(text: &mut String, x: usize, y: usize) -> Result<(), AllocError>
 }
 
 // Appends the word of a sign, beside the drawing, and its end.
-fn put_sign_word(text: &mut String, x: usize, y: usize, word: &str) -> Result<(), AllocError>
-    ensures { OnOk result (string_bytes text.new ≡ string_bytes text.old ++ word_text x y word.now) }
-{
+fn put_sign_word(text: &mut String, x: usize, y: usize, word: &str) -> Result<(), AllocError> {
     write!(text, "<text x=\"{x}\" y=\"{y}\">{word}</text></g>\n")?;
     Ok(())
 }
 
-// Appends the sign of a shape, so far from the left, and says where the next one stands.
-fn put_shape(text: &mut String, at: usize, shape: Shape, word: &str) -> Result<usize, AllocError>
-    ensures text { OnOk result (string_bytes text.new ≡ string_bytes text.old ++ shape_sign at (drawings.shape_text shape) word.now) }
-    ensures next { IfOk result (λ next. next ≡ heads.sign_end 32 at word.now) }
-{
+// Appends the sign of a shape, so far from the left, and says where the next one is.
+fn put_shape(text: &mut String, at: usize, shape: Shape, word: &str) -> Result<usize, AllocError> {
     put_place(text, at, 18)?;
     text.push_str(shape_text(shape))?;
     put_sign_word(text, 12, 3, word)?;
     Ok(sign_end(32, at, word))
 }
 
-// The same of the end of a tie.
-fn put_end(text: &mut String, at: usize, end: TieEnd, word: &str) -> Result<usize, AllocError>
-    ensures text { OnOk result (string_bytes text.new ≡ string_bytes text.old ++ shape_sign at (drawings.end_text end) word.now) }
-    ensures next { IfOk result (λ next. next ≡ heads.sign_end 32 at word.now) }
-{
+// Appends the sign of the end of a tie, so far from the left, and says where the next one is.
+fn put_end(text: &mut String, at: usize, end: TieEnd, word: &str) -> Result<usize, AllocError> {
     put_place(text, at, 18)?;
     text.push_str(end_text(end))?;
     put_sign_word(text, 12, 3, word)?;
@@ -118,9 +101,7 @@ fn put_end(text: &mut String, at: usize, end: TieEnd, word: &str) -> Result<usiz
 }
 
 /// Appends the legend of the shapes. `AllocError` where the text couldn't grow.
-pub fn put_shapes(text: &mut String) -> Result<(), AllocError>
-    ensures { OnOk result (string_bytes text.new ≡ string_bytes text.old ++ signs_text shape_sign 32 16 shape_signs) }
-{
+pub fn put_shapes(text: &mut String) -> Result<(), AllocError> {
     let begun = put_shape(text, 16, Shape::Answered, "answered")?;
     let ended = put_shape(text, begun, Shape::Begun, "a wait begins")?;
     let refused = put_shape(text, ended, Shape::Ended, "a wait ends")?;
@@ -133,7 +114,7 @@ pub fn put_shapes(text: &mut String) -> Result<(), AllocError>
     Ok(())
 }
 
-// Appends a sign that stands here: its drawing, and its word, so far from there.
+// Appends a sign at this place: its drawing, and its word, so far from there.
 fn put_sign(
     text: &mut String,
     x: usize,
@@ -142,9 +123,7 @@ fn put_sign(
     right: usize,
     down: usize,
     word: &str,
-) -> Result<(), AllocError>
-    ensures { OnOk result (string_bytes text.new ≡ string_bytes text.old ++ (place_text x y ++ (drawn.now ++ word_text right down word.now))) }
-{
+) -> Result<(), AllocError> {
     put_place(text, x, y)?;
     text.push_str(drawn)?;
     put_sign_word(text, right, down, word)?;
@@ -158,34 +137,27 @@ fn put_condition_sign(
     at: usize,
     drawn: &str,
     word: &str,
-) -> Result<(), AllocError>
-    ensures { OnOk result (string_bytes text.new ≡ string_bytes text.old ++ condition_sign goes at drawn.now word.now) }
-{
+) -> Result<(), AllocError> {
     match goes {
         Goes::Across => put_sign(text, at, 28, drawn, 12, 13, word),
         Goes::Down => put_sign(text, at, 42, drawn, 0, 4, word),
     }
 }
 
-// Appends the sign of a condition, so far from the left, and says where the next one stands.
+// Appends the sign of a condition, so far from the left, and says where the next one is.
 fn put_condition(
     text: &mut String,
     goes: Goes,
     at: usize,
     condition: Condition,
     word: &str,
-) -> Result<usize, AllocError>
-    ensures text { OnOk result (string_bytes text.new ≡ string_bytes text.old ++ condition_sign goes at (drawings.strip_for goes condition) word.now) }
-    ensures next { IfOk result (λ next. next ≡ heads.sign_end 36 at word.now) }
-{
+) -> Result<usize, AllocError> {
     put_condition_sign(text, goes, at, strip_for(goes, condition), word)?;
     Ok(sign_end(36, at, word))
 }
 
 /// Appends the legend of the conditions. `AllocError` where the text couldn't grow.
-pub fn put_conditions(text: &mut String, goes: Goes) -> Result<(), AllocError>
-    ensures { OnOk result (string_bytes text.new ≡ string_bytes text.old ++ signs_text (condition_sign goes) 36 20 (condition_signs goes)) }
-{
+pub fn put_conditions(text: &mut String, goes: Goes) -> Result<(), AllocError> {
     let ready = put_condition(text, goes, FIRST_SIGN, Condition::Picked, "picked")?;
     let blocked = put_condition(text, goes, ready, Condition::Ready, "ready")?;
     let inband = put_condition(text, goes, blocked, Condition::Blocked, "blocked")?;
@@ -198,11 +170,9 @@ pub fn put_conditions(text: &mut String, goes: Goes) -> Result<(), AllocError>
     Ok(())
 }
 
-/// Appends the legend of how callers' threads stand, and behind it that of words. `AllocError` where the text couldn't
-/// grow.
-pub fn put_callers(text: &mut String, goes: Goes, lanes: &[Lane]) -> Result<(), AllocError>
-    ensures { OnOk result (string_bytes text.new ≡ string_bytes text.old ++ signs_text (condition_sign goes) 36 20 (callers_signs goes lanes.now)) }
-{
+/// Appends the legend of the states of callers' threads, and after it that of words. `AllocError` where the text
+/// couldn't grow.
+pub fn put_callers(text: &mut String, goes: Goes, lanes: &[Lane]) -> Result<(), AllocError> {
     let ready = put_condition(text, goes, FIRST_SIGN, Condition::Picked, "picked")?;
     let blocked = put_condition(text, goes, ready, Condition::Ready, "ready")?;
     let inband = put_condition(text, goes, blocked, Condition::Blocked, "blocked")?;
@@ -211,9 +181,7 @@ pub fn put_callers(text: &mut String, goes: Goes, lanes: &[Lane]) -> Result<(), 
 }
 
 // Whether a condition is one of the word of a lane.
-fn is_of_word(condition: Condition, lane: Lane) -> bool
-    ensures { result ≡ heads.is_of_word condition lane }
-{
+fn is_of_word(condition: Condition, lane: Lane) -> bool {
     match lane {
         Lane::Mutex(_) => matches!(condition, Condition::Owned | Condition::Claimed),
         Lane::Stax(_) => matches!(condition, Condition::Inband | Condition::Oob),
@@ -222,14 +190,12 @@ fn is_of_word(condition: Condition, lane: Lane) -> bool
     }
 }
 
-// The same of one of some lanes.
-fn is_of_words(lanes: &[Lane], condition: Condition) -> bool
-    ensures { result ≡ heads.is_of_words lanes.now condition }
-{
+// Whether a condition is one of the word of one of some lanes.
+fn is_of_words(lanes: &[Lane], condition: Condition) -> bool {
     lanes.iter().any(|lane| is_of_word(condition, *lane))
 }
 
-// Appends the sign of a condition, where the word of one of the lanes can have it, and says where the next one stands.
+// Appends the sign of a condition, where the word of one of the lanes can have it, and says where the next one is.
 fn put_word(
     text: &mut String,
     goes: Goes,
@@ -237,10 +203,7 @@ fn put_word(
     lanes: &[Lane],
     condition: Condition,
     word: &str,
-) -> Result<usize, AllocError>
-    ensures text { OnOk result (string_bytes text.new ≡ string_bytes text.old ++ (if heads.is_of_words lanes.now condition then condition_sign goes at (drawings.strip_for goes condition) word.now else [])) }
-    ensures next { IfOk result (λ next. next ≡ (if heads.is_of_words lanes.now condition then heads.sign_end 36 at word.now else at)) }
-{
+) -> Result<usize, AllocError> {
     if is_of_words(lanes, condition) {
         put_condition(text, goes, at, condition, word)
     } else {
@@ -248,11 +211,14 @@ fn put_word(
     }
 }
 
-/// Appends the legend of how words stand, of those that have a lane, so far from the left. `AllocError` where the text
+/// Appends the legend of words' states, of those that have a lane, so far from the left. `AllocError` where the text
 /// couldn't grow.
-pub fn put_words(text: &mut String, goes: Goes, lanes: &[Lane], at: usize) -> Result<(), AllocError>
-    ensures { OnOk result (string_bytes text.new ≡ string_bytes text.old ++ signs_text (condition_sign goes) 36 at (signs_of goes lanes.now word_signs)) }
-{
+pub fn put_words(
+    text: &mut String,
+    goes: Goes,
+    lanes: &[Lane],
+    at: usize,
+) -> Result<(), AllocError> {
     let claimed = put_word(text, goes, at, lanes, Condition::Owned, "owned")?;
     let inband = put_word(text, goes, claimed, lanes, Condition::Claimed, "claimed")?;
     let oob = put_word(text, goes, inband, lanes, Condition::Inband, "held in-band")?;

@@ -1,9 +1,4 @@
 //! What is shown of a line below its mark.
-ghost use Rattle.std.specs.Prelude.{◌≡◌, ◌-◌, ◌==◌, ◌&&◌, ◌++◌, length, nat_le, if◌then◌else◌, IfOk, OnOk, string_bytes};
-ghost use Rattle.std.specs.Fmt.{is_char_start, take_chars};
-ghost use Rattle.lab_drawing.specs.Pictures as pictures;
-ghost use Rattle.lab_drawing.specs.Pictures.{ellipsis, label_text, shown_text};
-ghost use Rattle.lab_drawing.specs.Titles.{escaped};
 
 use crate::escapes::{put_escaped, put_text};
 use crate::frames::Goes;
@@ -11,23 +6,17 @@ use crate::marks::Shape;
 use std::alloc::{AllocError, Global};
 
 // Whether a byte is the first of a character.
-fn begins(byte: u8) -> bool
-    ensures { result ≡ is_char_start byte }
-{
+fn begins(byte: u8) -> bool {
     byte < 0x80 || byte >= 0xc0
 }
 
 // Whether a character begins with a byte that is one more than so many.
-fn is_more(byte: u8, left: usize) -> bool
-    ensures { result ≡ (is_char_start byte && left == 0) }
-{
+fn is_more(byte: u8, left: usize) -> bool {
     begins(byte) && left == 0
 }
 
-// How many characters are left behind a byte.
-fn left_behind(byte: u8, left: usize) -> usize
-    ensures { result ≡ (if is_char_start byte then left - 1 else left) }
-{
+// How many characters are left after a byte.
+fn left_behind(byte: u8, left: usize) -> usize {
     if begins(byte) {
         left.saturating_sub(1)
     } else {
@@ -36,9 +25,7 @@ fn left_behind(byte: u8, left: usize) -> usize
 }
 
 // The first characters of a text, so many at most.
-fn front(text: &[u8], count: usize) -> &[u8]
-    ensures { result.now ≡ take_chars count text.now }
-{
+fn front(text: &[u8], count: usize) -> &[u8] {
     let mut left = count;
     for (i, byte) in text.iter().enumerate() {
         if is_more(*byte, left) {
@@ -50,25 +37,19 @@ fn front(text: &[u8], count: usize) -> &[u8]
 }
 
 // Whether a text has at most so many bytes.
-fn fits(text: &[u8], most: usize) -> bool
-    ensures { result ≡ nat_le (length text.now) most }
-{
+fn fits(text: &[u8], most: usize) -> bool {
     text.len() <= most
 }
 
 // Appends the first characters of a text, and ….
-fn put_front(buffer: &mut Vec<u8>, text: &[u8], count: usize) -> Result<(), AllocError>
-    ensures { OnOk result (buffer.new.items ≡ buffer.old.items ++ (escaped (take_chars count text.now) ++ ellipsis)) }
-{
+fn put_front(buffer: &mut Vec<u8>, text: &[u8], count: usize) -> Result<(), AllocError> {
     put_escaped(buffer, front(text, count))?;
     buffer.extend_from_slice(&[226, 128, 166])?;
     Ok(())
 }
 
 // Appends what is shown of a line, where at most so many bytes are shown whole.
-fn put_shown(buffer: &mut Vec<u8>, line: &str, most: usize) -> Result<(), AllocError>
-    ensures { OnOk result (buffer.new.items ≡ buffer.old.items ++ shown_text most line.now) }
-{
+fn put_shown(buffer: &mut Vec<u8>, line: &str, most: usize) -> Result<(), AllocError> {
     let shown = line.trim_start().as_bytes();
     if fits(shown, most) {
         put_escaped(buffer, shown)?;
@@ -79,19 +60,15 @@ fn put_shown(buffer: &mut Vec<u8>, line: &str, most: usize) -> Result<(), AllocE
 }
 
 /// How the label of a mark looks in a picture that goes this way.
-pub fn look_for(goes: Goes, shape: Shape) -> &'static str
-    ensures { result.now ≡ pictures.look_for goes shape }
-{
+pub fn look_for(goes: Goes, shape: Shape) -> &'static str {
     match goes {
         Goes::Across => label_ink(shape),
         Goes::Down => label_look(shape),
     }
 }
 
-/// How far behind the place of lines a label begins: a play is indented in a picture that goes down.
-pub fn indent(goes: Goes, shape: Shape) -> usize
-    ensures { result ≡ pictures.indent goes shape }
-{
+/// How far after the place of lines a label begins: a play is indented in a picture that goes down.
+pub fn indent(goes: Goes, shape: Shape) -> usize {
     match goes {
         Goes::Across => 0,
         Goes::Down => indent_down(shape),
@@ -99,19 +76,15 @@ pub fn indent(goes: Goes, shape: Shape) -> usize
 }
 
 // The same in a picture that goes down.
-fn indent_down(shape: Shape) -> usize
-    ensures { result ≡ pictures.indent_down shape }
-{
+fn indent_down(shape: Shape) -> usize {
     match shape {
         Shape::Played | Shape::Unhandled => 24,
         _ => 8,
     }
 }
 
-// How a label looks in a picture that goes down: a refusal is bold, and a play is told apart from calls.
-fn label_look(shape: Shape) -> &'static str
-    ensures { result.now ≡ pictures.label_look shape }
-{
+// How a label looks in a picture that goes down: a refusal is bold, and a play looks different from calls.
+fn label_look(shape: Shape) -> &'static str {
     match shape {
         Shape::Refused => "#b3261e\" font-weight=\"bold",
         Shape::Played | Shape::Unhandled => "#5c4300",
@@ -120,9 +93,7 @@ fn label_look(shape: Shape) -> &'static str
 }
 
 // The colour of the label of a mark.
-fn label_ink(shape: Shape) -> &'static str
-    ensures { result.now ≡ pictures.label_ink shape }
-{
+fn label_ink(shape: Shape) -> &'static str {
     match shape {
         Shape::Refused => "#b3261e",
         _ => "#202020",
@@ -130,23 +101,17 @@ fn label_ink(shape: Shape) -> &'static str
 }
 
 // The opening of a label so far below its mark.
-fn opening_below(alloc: Global, pixels: usize, look: &str) -> Result<String, AllocError>
-    ensures { IfOk result (λ text. string_bytes text ≡ pictures.opening_below pixels look.now) }
-{
+fn opening_below(alloc: Global, pixels: usize, look: &str) -> Result<String, AllocError> {
     format!(in alloc; "<text transform=\"translate(-3,{pixels}) rotate(90)\" fill=\"{look}\">")
 }
 
 // The opening of a label so far to the right of its mark.
-fn opening_beside(alloc: Global, pixels: usize, look: &str) -> Result<String, AllocError>
-    ensures { IfOk result (λ text. string_bytes text ≡ pictures.opening_beside pixels look.now) }
-{
+fn opening_beside(alloc: Global, pixels: usize, look: &str) -> Result<String, AllocError> {
     format!(in alloc; "<text x=\"{pixels}\" y=\"4\" font-size=\"13\" fill=\"{look}\">")
 }
 
 // The opening of a label so far from its mark.
-fn opening(alloc: Global, goes: Goes, pixels: usize, look: &str) -> Result<String, AllocError>
-    ensures { IfOk result (λ text. string_bytes text ≡ pictures.label_opening goes pixels look.now) }
-{
+fn opening(alloc: Global, goes: Goes, pixels: usize, look: &str) -> Result<String, AllocError> {
     match goes {
         Goes::Across => opening_below(alloc, pixels, look),
         Goes::Down => opening_beside(alloc, pixels, look),
@@ -162,9 +127,7 @@ pub fn put_label(
     pixels: usize,
     look: &str,
     line: &str,
-) -> Result<(), AllocError>
-    ensures { OnOk result (buffer.new.items ≡ buffer.old.items ++ label_text goes most pixels look.now line.now) }
-{
+) -> Result<(), AllocError> {
     let opened = opening(alloc, goes, pixels, look)?;
     put_text(buffer, opened.as_str())?;
     put_shown(buffer, line, most)?;

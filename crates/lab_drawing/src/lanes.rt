@@ -51,7 +51,7 @@ impl fmt::Display for Lane {
     }
 }
 
-// Where a lane stands among the lanes of a picture, from the top.
+// Where a lane is among the lanes of a picture, from the top.
 fn place(lane: Lane) -> (u8, u16)
     ensures { result ≡ lanes.place lane }
 {
@@ -90,7 +90,7 @@ pub fn is_lane(one: Lane, other: Lane) -> bool
     kind == other_kind && number == other_number
 }
 
-// The index at which a lane stands in a sorted list, or is to be put.
+// The index at which a lane is in a sorted list, or is to be put.
 fn index_for(lanes: &[Lane], lane: Lane) -> usize
     ensures index { result ≡ prefix_len (λ other. is_above other lane) lanes.now }
     ensures within { result ≤ length lanes.now }
@@ -103,7 +103,7 @@ fn index_for(lanes: &[Lane], lane: Lane) -> usize
     lanes.len()
 }
 
-// Whether a lane stands at an index.
+// Whether a lane is at an index.
 fn stands_at(lanes: &[Lane], lane: Lane, at: usize) -> bool
     ensures { result ≡ option_map_or (λ other. not (is_above lane other)) (slice_get lanes.now at) false }
 {

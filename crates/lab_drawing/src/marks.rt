@@ -42,7 +42,7 @@ pub enum Shape {
     Unhandled,
 }
 
-/// A mark: the line that it stands for, its lane, the lane of what its call names, and how it looks.
+/// A mark: its line, its lane, the lane of what its call names, and how it looks.
 #[derive(Clone, Copy, PartialEq, Eq)]
 pub struct Mark<'a> {
     pub line: &'a str,
@@ -109,7 +109,7 @@ fn named(call: &str) -> Option<Lane>
     }
 }
 
-// The lane of what is shown behind the answer of an entry, or else of what its call names.
+// The lane of what is shown after the answer of an entry, or else of what its call names.
 fn entry_names(entry: &EntryLine<'_>) -> Option<Lane>
     ensures { result ≡ named.entry_names entry.now.call.now entry.now.answer.now }
 {
@@ -266,6 +266,13 @@ fn marked_at<'a>(lines: &[Lane], line: &TraceLine<'a>) -> Option<Mark<'a>>
     Some(done_on(lines, said_on(lines, &line.says), mark))
 }
 
+// rule: Each call and play of a trace, or of callers' lines, has a mark with its line, in order. A play's is in its own
+//   lane, names nothing, and shows whether it was handled. A call's is in its thread's lane and shows a refusal (the
+//   answer before ` | ` begins with a capital letter and is not the name at `as`), else a wait's beginning (`begun`) or
+//   end (`finish`), else an answer. It names the lane after ` | `, else that of the first of the keys `mutex`, `stax`,
+//   `sem`, `flags`, `xbuf`, `timer` with a number, else its stage.
+//   clauses: marks_of; write_svg
+//   rows: limit_refused; not_closed; pass_answered; wait_ended
 /// The marks of the lines of a trace: one for each entry and each play, in order, with its line, its lane, what it
 /// names, and how it looks. `AllocError` where a list couldn't grow.
 pub fn marks_of<'a>(alloc: Global, lines: &[TraceLine<'a>]) -> Result<Vec<Mark<'a>>, AllocError>

@@ -1,11 +1,11 @@
-//! How a machine stands after the calls of a picture.
+//! The state of a machine after the calls of a picture.
 ghost use Rattle.std.specs.Prelude.{◌≡◌};
 ghost use Rattle.lab_drawing.specs.Strips.{standing_of};
 
 use crate::lanes::{Lane, is_lane};
 use evl_base::Policy;
 
-/// How a lane stands after a call.
+/// The state of a lane after a call.
 #[derive(Clone, Copy, PartialEq, Eq)]
 pub enum Condition {
     /// The thread is attached, and in-band; callers of that stage hold the stax.
@@ -28,13 +28,13 @@ pub enum Condition {
     Runs,
     /// Out-of-band callers hold the stax.
     Oob,
-    /// The claim mark stands in the mutex's word.
+    /// The claim mark is in the mutex's word.
     Claimed,
     /// A caller has the core.
     Taken,
 }
 
-/// How one lane stands, with the effective rank of its thread, the owner of its mutex or who gets it, how many events
+/// The state of one lane, with the effective rank of its thread, the owner of its mutex or who gets it, how many events
 /// are pending on its stage, how many callers hold its stax, or who has the core. Of a thread also its own policy, and
 /// the thread whose rank it is lent, if it is.
 #[derive(Clone, Copy, PartialEq, Eq)]
@@ -46,7 +46,7 @@ pub struct Standing {
     pub lender: Option<u16>,
 }
 
-/// How a machine stands after a call: the date in nanoseconds, and the lanes that show something. The others show
+/// The state of a machine after a call: the date in nanoseconds, and the lanes that show something. The others show
 /// nothing: a thread that isn't attached, a stage that isn't stalled and has no pending event, a line with none, a
 /// mutex with no recorded owner that isn't handed on, a timer that doesn't run, a word that is free or hasn't been shown.
 #[derive(Drop)]
@@ -56,7 +56,7 @@ pub struct Moment {
 }
 
 impl Moment {
-    /// How a lane stands, where it shows something.
+    /// The state of a lane, where it shows something.
     pub fn standing(&self, lane: Lane) -> Option<Standing>
         ensures { result ≡ standing_of lane self.now }
     {

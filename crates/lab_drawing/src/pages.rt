@@ -1,6 +1,7 @@
 //! Long pictures in pages.
-ghost use Rattle.std.specs.Prelude.{◌≡◌, ◌<◌, ◌≤◌, ◌*◌, ◌-◌, count_by, drop, length, max, take};
+ghost use Rattle.std.specs.Prelude.{◌≡◌, ◌*◌, count_by, take};
 ghost use Rattle.lab_drawing.specs.Marks.{is_entry};
+ghost use Rattle.lab_drawing.specs.Shapes.{HasPages, moments_at, page_at};
 
 use crate::marks::{Mark, Shape};
 use crate::moments::Moment;
@@ -8,11 +9,12 @@ use crate::moments::Moment;
 /// The most marks of a page.
 pub const PAGE: usize = 2000;
 
+// rule: Marks have as many pages of 2,000 as they need, at least one. A page has its marks, and the moments from its
+//   first entry on.
+//   clauses: page_count; page; page_moments
 /// How many pages some marks take: at least one.
 pub fn page_count(marks: &[Mark<'_>]) -> usize
-    ensures enough { length marks.now ≤ 2000 * result }
-    ensures needed { 2000 * (result - 1) < max 1 (length marks.now) }
-    ensures one { 1 ≤ result }
+    ensures { HasPages marks.now result }
 {
     marks.len().saturating_sub(1) / PAGE + 1
 }
@@ -28,10 +30,10 @@ fn first_page<'a, 'b>(marks: &'b [Mark<'a>]) -> &'b [Mark<'a>]
     }
 }
 
-/// The marks of a page, from 0; none behind the last one.
+/// The marks of a page, from 0; none after the last page.
 #[tactic(auto, using(crate::proofs::PageLaws::drop_short))]
 pub fn page<'a, 'b>(marks: &'b [Mark<'a>], number: usize) -> &'b [Mark<'a>]
-    ensures page { result.now ≡ take 2000 (drop (2000 * number) marks.now) }
+    ensures page { result.now ≡ page_at marks.now number }
 {
     match number.checked_mul(PAGE) {
         Some(from) if from < marks.len() => first_page(&marks[from..]),
@@ -72,7 +74,7 @@ fn marks_before<'a, 'b>(marks: &'b [Mark<'a>], number: usize) -> &'b [Mark<'a>]
 
 /// The moments of a page, from 0, of those of all entries: from that of its first entry on.
 pub fn page_moments<'b>(marks: &[Mark<'_>], moments: &'b [Moment], number: usize) -> &'b [Moment]
-    ensures { result.now ≡ drop (count_by is_entry (take (2000 * number) marks.now)) moments.now }
+    ensures { result.now ≡ moments_at marks.now moments.now number }
 {
     let before = entry_count(marks_before(marks, number));
     moments.get(before..).unwrap_or(&[])

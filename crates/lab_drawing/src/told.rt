@@ -1,4 +1,4 @@
-//! How the words stand after each line of callers.
+//! The words' states after each line of callers.
 ghost use Rattle.std.specs.Prelude.{◌≡◌, ◌+◌, ◌++◌, [], ◌∷◌, IfOk, OnOk, count_by, length, map, option_map, option_to_list, if◌then◌else◌, ℕ, List, ◌<◌, ◌-◌, ◌^◌, min, Option, Ok};
 ghost use Rattle.lab_drawing.specs.Marks.{is_entry};
 ghost use Rattle.evl_base.specs.declared.call.Call.TheVariants.{Tick};
@@ -20,7 +20,7 @@ use crate::words::{shown, standing_of};
 use lab_traces::before;
 use std::alloc::{AllocError, Global};
 
-// What stands before the answer of a call that is done.
+// What is before the answer of a call that is done.
 #[tactic(auto, unfolding(crate::specs::Standings::before_done))]
 fn before_done(text: &str) -> Option<&str>
     ensures { option_map (λ front. front.now) result ≡ stands.before_done text.now }
@@ -50,7 +50,7 @@ fn date_after(line: &str, date: u64) -> u64
     date.saturating_add(moved_by(line).unwrap_or(0))
 }
 
-// All of these but how one lane stands.
+// All of these but the state of one lane.
 fn others(alloc: Global, lane: Lane, standings: &[Standing]) -> Result<Vec<Standing>, AllocError>
     ensures { IfOk result (λ kept. kept.items ≡ others lane standings.now) }
 {
@@ -63,7 +63,7 @@ fn others(alloc: Global, lane: Lane, standings: &[Standing]) -> Result<Vec<Stand
     Ok(kept)
 }
 
-// How the words stand behind others, where a lane stands as these words tell.
+// The states from before, with that of a lane as these words say.
 fn stand_with(
     alloc: Global,
     lane: Lane,
@@ -79,7 +79,7 @@ fn stand_with(
     Ok(standings)
 }
 
-// How the words stand after a line: the one that it shows as it tells, and the others as before.
+// The words' states after a line: the word that it shows has the state that it says, and the others keep theirs.
 fn stand_after(alloc: Global, before: &[Standing], line: &str) -> Result<Vec<Standing>, AllocError>
     ensures { IfOk result (λ all. all.items ≡ stands.stand_after (words.word_shown line.now) before.now) }
 {
@@ -89,7 +89,7 @@ fn stand_after(alloc: Global, before: &[Standing], line: &str) -> Result<Vec<Sta
     }
 }
 
-// The moment after a line, where the date was this, and the words stood so.
+// The moment after a line, where the date and the words' states were these.
 fn moved(alloc: Global, date: u64, before: &[Standing], line: &str) -> Result<Moment, AllocError>
     ensures { IfOk result (λ moment. told_at moment ≡ told_after (record { date = date; standings = before.now }) line.now) }
 {
@@ -100,7 +100,7 @@ fn moved(alloc: Global, date: u64, before: &[Standing], line: &str) -> Result<Mo
     })
 }
 
-// The moment after a line, behind the last of some moments.
+// The moment after a line, given the moments before it.
 fn moment_after(alloc: Global, moments: &[Moment], line: &str) -> Result<Moment, AllocError>
     ensures { IfOk result (λ moment. told_at moment ≡ told_after (last_told (map told_at moments.now)) line.now) }
 {
@@ -122,7 +122,7 @@ fn add_moment(alloc: Global, moments: &mut Vec<Moment>, mark: &Mark<'_>) -> Resu
     Ok(())
 }
 
-/// How the words that callers went to stand after each entry of their lines, each as it was last shown, with the date
+/// The states of the words that callers went to, after each entry of their lines, as last shown, with the date
 /// that the ticks made: a moment for each entry. `AllocError` where memory couldn't grow.
 pub fn told_moments(alloc: Global, marks: &[Mark<'_>]) -> Result<Vec<Moment>, AllocError>
     ensures told { IfOk result (λ moments. map told_at moments.items ≡ all_told marks.now) }
@@ -131,7 +131,7 @@ pub fn told_moments(alloc: Global, marks: &[Mark<'_>]) -> Result<Vec<Moment>, Al
     // The line of a tick that is done moves the date by its delta.
     ensures ticks { (number : Option ℕ) (step : Step) (delta : ℕ) (before : Told) → step.call ≡ Tick delta → delta < 2 ^ 64 → (told_after before (entry_text (step_parts number step (Ok Done)))).date ≡ min (before.date + delta) (2 ^ 64 - 1) }
 
-    // The word that a line shows, behind a front part with no bar, stands as it is shown, and the others as before.
+    // The word that a line shows, after a front part with no bar, has the state that is shown; the others keep theirs.
     ensures shown { (front : List ℕ) (word : Word) (before : Told) → Lacks 124 front → WordFits word → (told_after before (line_showing front word)).standings ≡ others (lane_of word) before.standings ++ option_to_list (word_stands word) }
 {
     let mut moments = Vec::new(alloc);

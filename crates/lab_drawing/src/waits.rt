@@ -1,8 +1,8 @@
 //! The waits that go on in the lanes of a picture.
-ghost use Rattle.std.specs.Prelude.{◌≡◌, ◌++◌, [], IfOk, OnOk, map, string_bytes};
-ghost use Rattle.lab_drawing.specs.Frames.{layout};
+ghost use Rattle.std.specs.Prelude.{◌≡◌, ◌++◌, ◌∷◌, [], IfOk, OnOk, map, string_bytes};
 ghost use Rattle.lab_drawing.specs.Pictures as pictures;
-ghost use Rattle.lab_drawing.specs.Pictures.{bar_across, bar_down, bar_text, goes_on_behind, wait_behind, wait_text, waits_of, waits_text};
+ghost use Rattle.lab_drawing.specs.Pictures.{goes_on_behind, wait_behind, waits_of};
+ghost use Rattle.lab_drawing.specs.Shapes.{AddsSigns, bar_place, wait, wait_signs, waits_signs};
 
 use crate::frames::{Goes, Sheet};
 use crate::lanes::{Lane, is_lane};
@@ -20,7 +20,7 @@ pub fn no_waits(alloc: Global, lanes: &[Lane]) -> Result<Vec<(Lane, bool)>, Allo
     Ok(waits)
 }
 
-// Whether a wait goes on behind a call of this shape, where it did so before it or not.
+// Whether a wait goes on after a call of this shape, where it did so before it or not.
 fn waits_behind(shape: Shape, before: bool) -> bool
     ensures { result ≡ pictures.waits_behind shape before }
 {
@@ -31,7 +31,7 @@ fn waits_behind(shape: Shape, before: bool) -> bool
     }
 }
 
-// Whether a wait goes on in a lane behind a mark, where it did so before it or not.
+// Whether a wait goes on in a lane after a mark, where it did so before it or not.
 fn goes_on_behind(lane: Lane, before: bool, mark: &Mark<'_>) -> bool
     ensures { result ≡ goes_on_behind lane before mark.now }
 {
@@ -42,7 +42,7 @@ fn goes_on_behind(lane: Lane, before: bool, mark: &Mark<'_>) -> bool
     }
 }
 
-/// Notes what a mark tells of waits.
+/// Notes what a mark says of waits.
 pub fn note(waits: &mut [(Lane, bool)], mark: &Mark<'_>)
     ensures { waits.new ≡ map (wait_behind mark.now) waits.old }
 {
@@ -52,39 +52,42 @@ pub fn note(waits: &mut [(Lane, bool)], mark: &Mark<'_>)
     }
 }
 
-// Appends the bar of a wait around the place of a mark.
-fn put_bar(text: &mut String, goes: Goes, x: usize, y: usize) -> Result<(), AllocError>
-    ensures { OnOk result (string_bytes text.new ≡ string_bytes text.old ++ bar_text goes x y) }
-{
+// Where the bar of a wait is, around the place of a mark.
+fn bar_at(goes: Goes, left: usize, top: usize) -> (usize, usize) {
     match goes {
-        Goes::Across => put_bar_across(text, x.saturating_sub(8), y.saturating_sub(3)),
-        Goes::Down => put_bar_down(text, x.saturating_sub(3), y.saturating_sub(10)),
+        Goes::Across => (left.saturating_sub(8), top.saturating_sub(3)),
+        Goes::Down => (left.saturating_sub(3), top.saturating_sub(10)),
     }
 }
 
-// The same in a picture that goes down.
-fn put_bar_down(text: &mut String, x: usize, y: usize) -> Result<(), AllocError>
-    ensures { OnOk result (string_bytes text.new ≡ string_bytes text.old ++ bar_down x y) }
+// How large the bar is, and its colour.
+fn bar_look(goes: Goes) -> &'static str {
+    match goes {
+        Goes::Across => " width=\"16\" height=\"6\" fill=\"#c9d9f0\"/>\n",
+        Goes::Down => " width=\"6\" height=\"20\" fill=\"#c9d9f0\"/>\n",
+    }
+}
+
+// Appends the beginning of a bar at a place.
+fn put_bar_place(text: &mut String, x: usize, y: usize) -> Result<(), AllocError>
+    ensures { OnOk result (string_bytes text.new ≡ string_bytes text.old ++ bar_place x y) }
 {
-    write!(
-        text,
-        "<rect x=\"{x}\" y=\"{y}\" width=\"6\" height=\"20\" fill=\"#c9d9f0\"/>\n"
-    )?;
+    write!(text, "<rect x=\"{x}\" y=\"{y}\"")?;
     Ok(())
 }
 
-// The same in one that goes across.
-fn put_bar_across(text: &mut String, x: usize, y: usize) -> Result<(), AllocError>
-    ensures { OnOk result (string_bytes text.new ≡ string_bytes text.old ++ bar_across x y) }
+// Appends the bar of a wait in a lane of a column.
+fn put_bar(text: &mut String, sheet: &Sheet, column: usize, lane: Lane) -> Result<(), AllocError>
+    ensures { OnOk result (AddsSigns (wait lane ∷ []) (string_bytes text.old) (string_bytes text.new)) }
 {
-    write!(
-        text,
-        "<rect x=\"{x}\" y=\"{y}\" width=\"16\" height=\"6\" fill=\"#c9d9f0\"/>\n"
-    )?;
+    let left = sheet.left_of(column, lane);
+    let (x, y) = bar_at(sheet.goes, left, sheet.top_of(column, lane));
+    put_bar_place(text, x, y)?;
+    text.push_str(bar_look(sheet.goes))?;
     Ok(())
 }
 
-// Appends the bar of a lane in a column, where a wait goes on there.
+// Appends the same, if a wait goes on there.
 fn put_wait(
     text: &mut String,
     sheet: &Sheet,
@@ -92,14 +95,13 @@ fn put_wait(
     lane: Lane,
     goes_on: bool,
 ) -> Result<(), AllocError>
-    ensures { OnOk result (string_bytes text.new ≡ string_bytes text.old ++ wait_text (layout sheet.now) column (lane, goes_on)) }
+    ensures { OnOk result (AddsSigns (wait_signs (lane, goes_on)) (string_bytes text.old) (string_bytes text.new)) }
 {
-    if !goes_on {
-        return Ok(());
+    if goes_on {
+        put_bar(text, sheet, column, lane)
+    } else {
+        Ok(())
     }
-    let left = sheet.left_of(column, lane);
-    let top = sheet.top_of(column, lane);
-    put_bar(text, sheet.goes, left, top)
 }
 
 /// Appends the waits that go on in a column, lane by lane. `AllocError` where the text couldn't grow.
@@ -109,7 +111,7 @@ pub fn put_waits(
     column: usize,
     waits: &[(Lane, bool)],
 ) -> Result<(), AllocError>
-    ensures { OnOk result (string_bytes text.new ≡ string_bytes text.old ++ waits_text (layout sheet.now) column waits.now) }
+    ensures { OnOk result (AddsSigns (waits_signs waits.now) (string_bytes text.old) (string_bytes text.new)) }
 {
     for wait in waits {
         put_wait(text, sheet, column, wait.0, wait.1)?;

@@ -1,4 +1,4 @@
-//! What stands behind the answer in a caller's line: how a stax, a mutex's word or the core stands.
+//! What is after the answer in a caller's line: the state of a stax, of a mutex's word or of the core.
 ghost use Rattle.std.specs.Prelude.{◌≡◌, option_map};
 ghost use Rattle.lab_drawing.specs.Words as words;
 
@@ -7,7 +7,7 @@ use crate::moments::{Condition, Standing};
 use crate::texts::{around, number, up_to};
 use lab_traces::behind;
 
-// What stands between an answer and what is shown.
+// What is between an answer and what is shown.
 const BAR: &str = " | ";
 
 /// The answer alone.
@@ -40,7 +40,7 @@ fn lane_named(name: &str) -> Option<Lane>
     }
 }
 
-/// What is shown in a line or behind an answer: a lane, and in words how it stands.
+/// What is shown in a line or after an answer: a lane, and its state in words.
 pub fn shown(line: &str) -> Option<(Lane, &str)>
     ensures { option_map (λ told. (told.0, told.1.now)) result ≡ words.word_shown line.now }
 {
@@ -61,7 +61,7 @@ fn held_at(stage: &str) -> Option<Condition>
     }
 }
 
-// How a stax stands that is held, and by how many.
+// The state of a stax that is held, and by how many.
 fn stax_stands(how: &str) -> Option<(Condition, Option<u16>)>
     ensures { result ≡ words.stax_stands how.now }
 {
@@ -71,7 +71,7 @@ fn stax_stands(how: &str) -> Option<(Condition, Option<u16>)>
     Some((condition, number(count)))
 }
 
-// How a mutex stands that isn't free, and who owns it.
+// The state of a mutex that isn't free, and who owns it.
 fn mutex_stands(how: &str) -> Option<(Condition, Option<u16>)>
     ensures { result ≡ words.mutex_stands how.now }
 {
@@ -82,7 +82,7 @@ fn mutex_stands(how: &str) -> Option<(Condition, Option<u16>)>
     Some((Condition::Owned, Some(owner)))
 }
 
-// How the core stands that is taken, and who has it.
+// The state of the core that is taken, and who has it.
 fn core_stands(how: &str) -> Option<(Condition, Option<u16>)>
     ensures { result ≡ words.core_stands how.now }
 {
@@ -90,7 +90,7 @@ fn core_stands(how: &str) -> Option<(Condition, Option<u16>)>
     Some((Condition::Taken, Some(holder)))
 }
 
-// How a lane stands by these words, where it isn't free, and the number that is told with it.
+// The state of a lane by these words, where it isn't free, and the number that is printed with it.
 fn stands_by(lane: Lane, how: &str) -> Option<(Condition, Option<u16>)>
     ensures { result ≡ words.stands_by lane how.now }
 {
@@ -102,7 +102,7 @@ fn stands_by(lane: Lane, how: &str) -> Option<(Condition, Option<u16>)>
     }
 }
 
-/// How a lane stands by these words, where it isn't free.
+/// The state of a lane by these words, where it isn't free.
 pub fn standing_of(lane: Lane, how: &str) -> Option<Standing>
     ensures { result ≡ words.standing_by lane how.now }
 {

@@ -1,5 +1,5 @@
 -- What is drawn of a text, by what each call of the body draws.
-use Rattle.std.proofs.Common.{◌≡◌, ◌∙◌, ◌⊎◌, inl, inr, ℕ, ◌-◌, ◌++◌, List, Bool, true, false, codes, Option, Result, Ok, Err, IfOk, OnOk, decimal, length, map, refl, sym, ap, ap₂, append_assoc, string_bytes, subst}
+use Rattle.std.proofs.Common.{◌≡◌, ◌∙◌, ◌⊎◌, inl, inr, ℕ, ◌-◌, ◌++◌, List, Bool, true, false, codes, Option, Result, Ok, Err, IfOk, OnOk, decimal, map, refl, sym, ap, append_assoc, string_bytes, subst}
 use Rattle.std.specs.Prelude.{IsSomeAnd, None, Some, is_some}
 use Rattle.std.specs.List.{All}
 use Rattle.std.specs.Option.{option_map_or}
@@ -9,18 +9,15 @@ use Rattle.std.proofs.KnownBytes.{Appends-trans}
 use Rattle.evl_scenario.specs.declared.faults.Fault.{Fault}
 use Rattle.evl_scenario.specs.declared.faults.Fault.TheVariants.{Text, Board, Step, Memory, Write}
 use Rattle.evl_kernel.specs.state.States.{Handler}
-use Rattle.evl_plans.specs.Told.{handler_of}
 use Rattle.evl_plans.specs.Traces.{Refuses}
 use Rattle.lab_traces.specs.Says.{IsLine, IsMisread, read_of, says_some, text_of, whole_lines}
 use Rattle.lab_traces.specs.declared.traces.Misread.TheVariants as misread
 use Rattle.lab_traces.specs.declared.traces.TraceLine.{TraceLine}
-use Rattle.lab_drawing.specs.Pictures.{going_text, shown_with}
 use Rattle.lab_drawing.specs.declared.frames.Goes.{Goes}
-use Rattle.lab_drawing.specs.declared.frames.Shows.TheVariants as shows
 use Rattle.lab_drawing.specs.declared.marks.Mark.{Mark}
-use Rattle.lab_drawing.specs.declared.moments.Moment.{Moment}
 use Rattle.lab_reports.specs.Events.{events_text}
-use Rattle.lab_draws.specs.Draws.{AreLinesOf, AreMomentsOf, DrawsCallers, DrawsIf, DrawsKind, DrawsMade, DrawsPage, DrawsPlayed, DrawsRun, DrawsSome, IsPicture, Origin, SaysFirst, callers, events_of, fault_words, goes_for, moments_at, undrawn_text, origin_of, page_at, page_text, picture_text, scenario, threads, trace}
+use Rattle.lab_caller_pictures.specs.Drawings.{IsPicture, Origin, callers, threads}
+use Rattle.lab_draws.specs.Draws.{AreLinesOf, DrawsCallers, DrawsIf, DrawsKind, DrawsMade, DrawsPage, DrawsPlayed, DrawsRun, DrawsSome, SaysFirst, events_of, fault_words, goes_asked, undrawn_text, page_text}
 use Rattle.lab_caller_pictures.specs.declared.plays.CallersRun.{CallersRun}
 use Rattle.lab_caller_pictures.specs.declared.plays.Entered.{Entered}
 use Rattle.lab_kinds.specs.Kinds.{kind_of}
@@ -28,8 +25,6 @@ use Rattle.lab_kinds.specs.declared.kinds.TextKind.{TextKind}
 use Rattle.lab_kinds.specs.declared.kinds.TextKind.TheVariants as kinds
 use Rattle.lab_streams.specs.Endings.{kinded_words, line_about}
 use Rattle.lab_streams.specs.Outputs.{Output, Writes, refuses}
-use Rattle.lab_draws.specs.declared.draws.Source.{Source}
-use Rattle.lab_draws.specs.declared.draws.Source.TheVariants as source
 use Rattle.lab_streams.specs.declared.words.Drawing.{Drawing}
 use Rattle.lab_streams.proofs.OutputLemmas.{said, said_of, written_as}
 
@@ -37,52 +32,21 @@ pub events_is : (marks : List Mark) → events_text marks ≡ events_of marks
 unfolding events_of
 events_is marks = refl
 
-pub callers_is : (goes : Goes) (marks : List Mark) (moments : List Moment) → going_text goes shows.Words moments marks ≡ picture_text goes callers marks moments
-unfolding picture_text
-callers_is goes marks moments = refl
-
-pub threads_is : (goes : Goes) (bank : List Handler) (text counts : List ℕ) (marks : List Mark) (moments : List Moment)
-    → going_text goes shows.Callers moments marks ≡ picture_text goes (threads bank text counts) marks moments
-unfolding picture_text
-threads_is goes bank text counts marks moments = refl
-
-pub trace_is : (goes : Goes) (marks : List Mark) (moments : List Moment) → going_text goes (shown_with moments) moments marks ≡ picture_text goes trace marks moments
-unfolding picture_text
-trace_is goes marks moments = refl
-
-pub scenario_is : (goes : Goes) (bank : List Handler) (text : List ℕ) (marks : List Mark) (moments : List Moment)
-    → going_text goes (shown_with moments) moments marks ≡ picture_text goes (scenario bank text) marks moments
-unfolding picture_text
-scenario_is goes bank text marks moments = refl
-
 -- ---- a page
 
-same_picture : (goes : Goes) (origin : Origin) (marks page : List Mark) (number : ℕ) (known behind : List Moment) (text : List ℕ) → AreMomentsOf origin marks known → page ≡ page_at marks number
-    → behind ≡ moments_at marks known number → text ≡ picture_text goes origin page behind → IsPicture goes origin marks number text
-same_picture goes origin marks page number known behind text are page_is behind_is text_is =
-    (known, are, text_is ∙ ap₂ (λ (p : List Mark) (b : List Moment). picture_text goes origin p b) page_is behind_is)
-
--- by where marks come from
-pub picture_by : (goes : Goes) (o : Origin) (s : Source) (marks page : List Mark) (number : ℕ) (known behind : List Moment) (text : List ℕ) → origin_of s ≡ o → AreMomentsOf (origin_of s) marks known
-    → page ≡ page_at marks number → behind ≡ moments_at marks known number → text ≡ picture_text goes o page behind → IsPicture goes (origin_of s) marks number text
-picture_by goes o s marks page number known behind text is are page_is behind_is text_is =
-    same_picture goes (origin_of s) marks page number known behind text are page_is behind_is
-    (text_is ∙ ap (λ (from : Origin). picture_text goes from page behind) (sym is))
-
-pub is_page : (drawing : Drawing) (origin : Origin) (marks : List Mark) (goes : Goes) (before count all : ℕ) (text printed : List ℕ) → goes ≡ goes_for drawing.way count → count ≡ length marks
-    → before ≡ drawing.page - 1 → printed ≡ text → IsPicture goes origin marks before text
-    → DrawsPage drawing origin marks all (record { printed = printed; said = page_text drawing.page all; status = 0 })
-is_page drawing origin marks goes before count all text printed way many is same h = (
+pub is_page : (drawing : Drawing) (origin : Origin) (marks : List Mark) (asked : Option Goes) (before all : ℕ) (text printed : List ℕ) → asked ≡ goes_asked drawing.way → before ≡ drawing.page - 1
+    → printed ≡ text → IsPicture origin asked marks before text → DrawsPage drawing origin marks all (record { printed = printed; said = page_text drawing.page all; status = 0 })
+is_page drawing origin marks asked before all text printed way is same h = (
   printed,
-  subst (λ (t : List ℕ). IsPicture (goes_for drawing.way (length marks)) origin marks (drawing.page - 1) t) (sym same)
-      (subst (λ (n : ℕ). IsPicture (goes_for drawing.way (length marks)) origin marks n text) is
-      (subst (λ (g : Goes). IsPicture g origin marks before text) (way ∙ ap (goes_for drawing.way) many) h)),
+  subst (λ (t : List ℕ). IsPicture origin (goes_asked drawing.way) marks (drawing.page - 1) t) (sym same)
+      (subst (λ (n : ℕ). IsPicture origin (goes_asked drawing.way) marks n text) is
+      (subst (λ (g : Option Goes). IsPicture origin g marks before text) way h)),
   refl,
 )
 
 -- ---- a text
 
--- what is written behind what was said before it
+-- what is written after what was said before it
 pub says_first : (E : Type 0) (note : List ℕ) (Is : Output → Type 0) (old new quiet mid spoken : Option (List ℕ)) (r : Result ℕ E) → Appends quiet mid note
     → IfOk r (Writes Is old new mid spoken) → IfOk r (Writes (SaysFirst note Is) old new quiet spoken)
 says_first E note Is old new quiet mid spoken (Ok s) says w = record {

@@ -1,21 +1,19 @@
 -- What `lab draw` draws of a text.
-use Rattle.std.specs.Prelude.{string_bytes, ◌≡◌, ◌⊎◌, ◌<◌, ◌≤◌, ◌+◌, ◌*◌, ◌-◌, max, nat_le, nat_lt, ℕ, List, [], ◌++◌, map, take, drop, length, count_by, codes, decimal, Bool, true, false, MatchBool, ◌==◌, if◌then◌else◌, Option, Some, None, unwrap_or, IsSomeAnd, Result, Ok, Err}
+use Rattle.std.specs.Prelude.{string_bytes, ◌≡◌, ◌⊎◌, ◌<◌, ◌≤◌, ◌-◌, nat_lt, ℕ, List, [], ◌++◌, map, take, length, codes, decimal, Bool, true, false, MatchBool, ◌==◌, if◌then◌else◌, Option, Some, None, unwrap_or, IsSomeAnd, Result, Ok, Err}
 use Rattle.std.specs.List.{All}
 use Rattle.std.specs.Option.{option_map_or}
 use Rattle.std.specs.Str.{is_utf8}
 use Rattle.std.specs.Str.Pattern.{FindsText, SplitsAroundMatch}
 use Rattle.evl_scenario.specs.Lines.{line_feed}
-use Rattle.evl_scenario.specs.Scenarios.{scenario_of}
 use Rattle.evl_scenario.specs.declared.faults.Fault.{Fault}
 use Rattle.evl_scenario.specs.declared.faults.Fault.TheVariants as fault
 use Rattle.evl_shell.specs.Runs.{trace_of}
 use Rattle.evl_kernel.specs.state.States.{Handler}
-use Rattle.evl_plans.specs.Told.{handler_of}
 use Rattle.lab_kinds.specs.Kinds.{kind_of}
 use Rattle.lab_kinds.specs.declared.kinds.TextKind.{TextKind}
 use Rattle.lab_kinds.specs.declared.kinds.TextKind.TheVariants.{Scenario, Callers}
 use Rattle.lab_lines.specs.Kinds.{IsPlain}
-use Rattle.lab_caller_pictures.specs.Joins.{AreJoined}
+use Rattle.lab_caller_pictures.specs.Drawings.{IsPicture, Origin, callers, scenario, threads, trace}
 use Rattle.lab_caller_pictures.specs.Runs.{IsRunOf, IsWhyOf}
 use Rattle.lab_caller_pictures.specs.declared.plays.CallersRun.{CallersRun}
 use Rattle.lab_caller_pictures.specs.declared.plays.Unplayed.{Unplayed}
@@ -24,18 +22,12 @@ use Rattle.lab_callers.specs.Faults as faults
 use Rattle.lab_traces.specs.Says.{IsLine, IsMisread, read_of, says_some, text_of, whole_lines}
 use Rattle.lab_traces.specs.declared.traces.TraceLine.{TraceLine}
 use Rattle.lab_drawing.specs.Callbacks.{missing_callback}
-use Rattle.lab_drawing.specs.Lanes.{AreLanesOf}
-use Rattle.lab_drawing.specs.Marks.{all_marked, is_entry, told_of}
-use Rattle.lab_drawing.specs.Pictures.{going_text, shown_with}
-use Rattle.lab_drawing.specs.Standings.{all_told, told_at}
+use Rattle.lab_drawing.specs.Marks.{all_marked, told_of}
+use Rattle.lab_drawing.specs.Shapes.{HasPages}
 use Rattle.lab_drawing.specs.Words.{bar}
 use Rattle.lab_drawing.specs.declared.frames.Goes.{Goes}
 use Rattle.lab_drawing.specs.declared.frames.Goes.TheVariants as goes
-use Rattle.lab_drawing.specs.declared.frames.Shows.TheVariants as shows
-use Rattle.lab_drawing.specs.declared.lanes.Lane.{Lane}
 use Rattle.lab_drawing.specs.declared.marks.Mark.{Mark}
-use Rattle.lab_drawing.specs.declared.moments.Moment.{Moment}
-use Rattle.lab_moments.specs.Moments.{moment_shown, shown_of}
 use Rattle.lab_reports.specs.Events.{events_text}
 use Rattle.lab_streams.specs.Banks.{Refuses}
 use Rattle.lab_streams.specs.Endings.{kinded_words, line_about, words_by}
@@ -43,70 +35,19 @@ use Rattle.lab_streams.specs.Lines.{SaysUnread}
 use Rattle.lab_streams.specs.Outputs.{OfRead, Output, WritesOverBank, prints, refuses}
 use Rattle.lab_streams.specs.Readings.{Reading}
 use Rattle.lab_streams.specs.Texts.{text_in}
-use Rattle.lab_draws.specs.declared.draws.Source.{Source}
-use Rattle.lab_draws.specs.declared.draws.Source.TheVariants as source
 use Rattle.lab_streams.specs.declared.words.Drawing.{Drawing}
 use Rattle.lab_streams.specs.declared.words.Way.{Way}
 use Rattle.lab_streams.specs.declared.words.Way.TheVariants.{Down, Across, Fitting}
 use Rattle.lab_streams.specs.declared.words.Form.{Form}
 use Rattle.lab_streams.specs.declared.words.Form.TheVariants.{Svg, Events}
 
--- ---- where marks come from
-
--- from a trace alone, from that of a scenario's text over a bank, or from the lines of callers: alone, or with the scenario of their calls and how many were entered behind each line
-pub data Origin : Type 0 where
-  trace : Origin
-  scenario : List Handler → List ℕ → Origin
-  callers : Origin
-  threads : List Handler → List ℕ → List ℕ → Origin
-
-abbrev pub origin_of : Source → Origin
-origin_of source.Trace = trace
-origin_of (source.Scenario bank text) = scenario (map handler_of bank.now) text.now
-origin_of source.Callers = callers
-origin_of (source.Threads bank known) = threads (map handler_of bank.now) (string_bytes known.now.scenario) known.now.counts.items
-
--- How the lanes of marks stand after each of their entries, as far as that is known: of a scenario over its bank, of
--- callers by what their lines show, or with the threads too.
-abbrev pub AreMomentsOf : Origin → List Mark → List Moment → Type 0
-AreMomentsOf trace marks moments = moments ≡ []
-AreMomentsOf (scenario bank text) marks moments = (lanes : List Lane) × AreLanesOf marks lanes × (map moment_shown moments ≡ shown_of lanes bank (scenario_of None text))
-AreMomentsOf callers marks moments = map told_at moments ≡ all_told marks
-AreMomentsOf (threads bank text counts) marks moments = AreJoined bank text counts marks moments
-
--- ---- as SVG
-
--- a page of marks, from 0, and the moments of its entries
-abbrev pub page_at : List Mark → ℕ → List Mark
-page_at marks number = take 2000 (drop (2000 * number) marks)
-
-abbrev pub moments_at : List Mark → List Moment → ℕ → List Moment
-moments_at marks moments number = drop (count_by is_entry (take (2000 * number) marks)) moments
-
--- which way a picture of so many marks goes
-abbrev pub goes_for : Way → ℕ → Goes
-goes_for Down count = goes.Down
-goes_for Across count = goes.Across
-goes_for Fitting count = if nat_le count 60 then goes.Down else goes.Across
-
--- the picture of marks with the moments of their entries, that goes this way
-unfoldable pub picture_text : Goes → Origin → List Mark → List Moment → List ℕ
-picture_text way callers marks moments = going_text way shows.Words moments marks
-picture_text way (threads bank text counts) marks moments = going_text way shows.Callers moments marks
-picture_text way (scenario bank text) marks moments = going_text way (shown_with moments) moments marks
-picture_text way trace marks moments = going_text way (shown_with moments) moments marks
-
-abbrev pub IsPicture : Goes → Origin → List Mark → ℕ → List ℕ → Type 0
-IsPicture way origin marks number text =
-    (moments : List Moment) × AreMomentsOf origin marks moments × (text ≡ picture_text way origin (page_at marks number) (moments_at marks moments number))
-
 -- ---- in pages
 
--- marks take so many pages: one at least
-pub record HasPages (marks : List Mark) (pages : ℕ) : Type 0 where
-  pub enough : length marks ≤ 2000 * pages
-  pub needed : 2000 * (pages - 1) < max 1 (length marks)
-  pub one : 1 ≤ pages
+-- which way is asked for
+abbrev pub goes_asked : Way → Option Goes
+goes_asked Down = Some goes.Down
+goes_asked Across = Some goes.Across
+goes_asked Fitting = None
 
 abbrev pub no_page_text : ℕ → ℕ → List ℕ
 no_page_text number pages = codes "lab: the picture has no page " ++ (decimal number ++ (codes ": the last one is " ++ (decimal pages ++ line_feed)))
@@ -119,7 +60,7 @@ page_text number pages =
 -- the page that is asked for, from 1, of so many
 abbrev pub DrawsPage : Drawing → Origin → List Mark → ℕ → Output → Type 0
 DrawsPage drawing origin marks pages output =
-    (picture : List ℕ) × IsPicture (goes_for drawing.way (length marks)) origin marks (drawing.page - 1) picture
+    (picture : List ℕ) × IsPicture origin (goes_asked drawing.way) marks (drawing.page - 1) picture
     × (output ≡ record { printed = picture; said = page_text drawing.page pages; status = 0 })
 
 -- or that there is no such page
@@ -164,7 +105,7 @@ missing_text count None = []
 missing_text count (Some number) =
     codes "lab: a call names callback " ++ (decimal number ++ (codes ", and the bank has " ++ (decimal count ++ codes ": --bank BANK draws over another\n")))
 
--- an output behind what was said before it
+-- an output after what was said before it
 abbrev pub SaysFirst : List ℕ → (Output → Type 0) → Output → Type 0
 SaysFirst said Is output = (rest : Output) × Is rest × (output ≡ record { printed = rest.printed; said = said ++ rest.said; status = rest.status })
 
@@ -241,7 +182,7 @@ DrawsWhole bank drawing origin read text output =
 
 -- ---- a text
 
--- what stands between the lines of callers and what is told of their machine's end
+-- what is between the lines of callers and what is printed of their machine's end
 abbrev pub closing : List ℕ
 closing = codes "\nclose -> "
 
@@ -269,6 +210,18 @@ DrawsIf bank false drawing text output = output ≡ refuses 2 (codes "lab: the t
 abbrev pub DrawsRead : List Handler → Drawing → List ℕ → Reading → Output → Type 0
 DrawsRead bank drawing = OfRead (λ text. DrawsIf bank (is_utf8 text) drawing text)
 
+-- rule: `lab draw` prints the picture of the text that was read: of callers' lines up to their machine's close, or of
+--   all lines if one shows a word, of a trace, or over the bank of the trace of a scenario, as which an empty text is
+--   read, also that of a text of lines, or of a text of callers, with their threads if these are known. An SVG is the
+--   page asked for, with how the lanes stand if that is known; it goes down if asked to, or with at most 60 marks.
+--   Trace events have all marks. If a number of lines is asked for, only so many first marks are drawn. Standard error
+--   says which callback a call names that the bank has not, and which of several pages it is; or, with 2, why the bank
+--   is refused, that there is no such page, which line is no line of a trace and what is wrong with the scenario, what
+--   is wrong with a text of callers or with which step, or for which part the text is.
+--   also: Draws.{DrawsCallers, DrawsRead, DrawsSome, DrawsText, DrawsUnclosed, DrawsWhole, DrawsOver, DrawsSvg,
+--   DrawsMarks, DrawsGiven}; Drawings.{IsPicture, IsDrawn}; Banks.Refuses
+--   clauses: draw; draw_some; draw_text; draw_unclosed; draw_whole; draw_over; draw_svg; draw_unplayed; picture_of;
+--   draw_marks
 -- the bank's file is refused, or what a file or the input holds is drawn over its callbacks
 abbrev pub Draws : Drawing → Option (List ℕ) → Option (List ℕ) → Option (List ℕ) → Option (List ℕ) → Option (List ℕ) → Option (List ℕ) → Option (List ℕ) → ℕ → Type 0
 Draws drawing plans file known old new quiet spoken status =

@@ -1,20 +1,21 @@
 -- The picture of a machine that was asked for the steps of a scenario.
-use Rattle.std.specs.Prelude.{◌≡◌, ℕ, List, length, map, None, Ok}
+use Rattle.std.specs.Prelude.{◌≡◌, ℕ, List, map, None, Ok}
 use Rattle.evl_kernel.specs.state.States.{Handler}
 use Rattle.evl_shell.specs.Runs.{trace_of}
+use Rattle.lab_caller_pictures.specs.Drawings.{IsPicture, scenario}
 use Rattle.lab_traces.specs.declared.traces.TraceLine.{TraceLine}
 use Rattle.lab_drawing.specs.Marks.{all_marked, told_of}
+use Rattle.lab_drawing.specs.Shapes.{HasPages}
 use Rattle.lab_drawing.specs.declared.marks.Mark.{Mark}
-use Rattle.lab_draws.specs.Draws.{AreLinesOf, HasPages, IsPicture, goes_for, scenario}
+use Rattle.lab_draws.specs.Draws.{AreLinesOf}
 use Rattle.lab_draws.specs.declared.machines.Pictured.{Pictured}
 use Rattle.lab_streams.specs.Texts.{text_in}
-use Rattle.lab_streams.specs.declared.words.Way.TheVariants.{Fitting}
 
 -- the first page of the picture of these lines, which a scenario has over a bank, and how many pages they take
 abbrev pub IsPicturedOf : List Handler → List ℕ → List TraceLine → Pictured → Type 0
 IsPicturedOf bank text lines pictured =
     (marks : List Mark) × (map told_of marks ≡ all_marked lines) × HasPages marks pictured.pages
-    × IsPicture (goes_for Fitting (length marks)) (scenario bank text) marks 0 pictured.picture.items
+    × IsPicture (scenario bank text) None marks 0 pictured.picture.items
 
 -- of the lines of a trace
 abbrev pub IsPicturedTrace : List Handler → List ℕ → List ℕ → Pictured → Type 0

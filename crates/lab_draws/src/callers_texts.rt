@@ -1,8 +1,7 @@
-//! Texts of callers, drawn: played, with how the threads stood behind each line.
-ghost use Rattle.std.specs.Prelude.{◌≡◌, ◌++◌, codes, decimal, is_some, map, IfErr, IfOk, IsSomeAnd, OnOk, false, string_bytes};
+//! Texts of callers, drawn: played, with the threads' states after each line.
+ghost use Rattle.std.specs.Prelude.{◌≡◌, ◌++◌, codes, decimal, is_some, map, IfErr, IfOk, IsSomeAnd, OnOk, false};
 ghost use Rattle.std.specs.Io.KnownBytes.{Appends};
 ghost use Rattle.evl_plans.specs.Told.{handler_of};
-ghost use Rattle.lab_caller_pictures.specs.Joins.{AreJoined};
 ghost use Rattle.lab_kinds.specs.Kinds as kinds;
 ghost use Rattle.lab_draws.specs.Draws.{DrawsCallers, DrawsKind, DrawsRun, fault_words, unplayed_words};
 ghost use Rattle.lab_streams.specs.Endings.{line_about};
@@ -10,36 +9,16 @@ ghost use Rattle.lab_streams.specs.Outputs.{Writes};
 ghost use Rattle.lab_streams.specs.Streams.{EndsEarly};
 
 use crate::draw_faults::tell_neither;
-use crate::draws::{Source, View, draw_trace};
-use evl_plans::Planned;
+use crate::draws::{View, draw_trace};
 use evl_scenario::Fault;
-use lab_caller_pictures::{CallersRun, Entered, Unplayed, joined_moments, play_drawn};
+use lab_caller_pictures::{CallersRun, Source, Unplayed, play_drawn};
 use lab_callers::StepFault;
-use lab_drawing::{Mark, Moment};
 use lab_kinds::{TextKind, kind_of};
 use lab_streams::{AT_FAULT, Stream, tell_fault_by, tell_refused};
 use std::alloc::{AllocError, Global};
 use std::io;
 
-/// How the lanes of callers' marks stand behind each of their lines, by the calls that were entered then.
-pub fn threads_moments(
-    alloc: Global,
-    marks: &[Mark<'_>],
-    bank: &[Planned],
-    known: &Entered,
-) -> Result<Vec<Moment>, AllocError>
-    ensures { IfOk result (λ moments. AreJoined (map handler_of bank.now) (string_bytes known.now.scenario) known.now.counts.items marks.now moments.items) }
-{
-    joined_moments(
-        alloc,
-        marks,
-        bank,
-        known.scenario.as_str(),
-        known.counts.as_slice(),
-    )
-}
-
-// Tells which step of callers can't be made, and why.
+// Says which step of callers can't be made, and why.
 fn tell_step<E: Stream>(err: &mut E, number: usize, fault: StepFault) -> io::Result<bool>
     ensures line { OnOk result (IsSomeAnd (unplayed_words (Unplayed.Step number fault)) (λ words. Appends (E.contents err.old) (E.contents err.new) (line_about (codes "lab") words))) }
     ensures early { IfErr result (EndsEarly false false (E.has_failed err.new)) }
@@ -49,7 +28,7 @@ fn tell_step<E: Stream>(err: &mut E, number: usize, fault: StepFault) -> io::Res
     Ok(true)
 }
 
-// Tells why nothing is drawn of a text of callers. Want of memory isn't told: it is this function's own error.
+// Says why nothing is drawn of a text of callers, but not that memory is wanting: that is this function's own error.
 fn tell_why<E: Stream>(err: &mut E, why: Unplayed) -> io::Result<bool>
     ensures line { OnOk result (IsSomeAnd (unplayed_words why) (λ words. Appends (E.contents err.old) (E.contents err.new) (line_about (codes "lab") words))) }
     ensures early { IfErr result (EndsEarly false false (E.has_failed err.new)) }
@@ -121,7 +100,7 @@ fn has_words(fault: Fault) -> bool
     !matches!(fault, Fault::Memory | Fault::Write)
 }
 
-/// Writes the picture of a text that is no scenario for a fault, if it is one of callers; else tells for which part it
+/// Writes the picture of a text that is no scenario for a fault, if it is one of callers; else says for which part it
 /// is, or what is wrong with it. This line of it is none of a trace.
 pub fn draw_unplayed<O: Stream, E: Stream>(
     alloc: Global,

@@ -12,7 +12,7 @@ use lab_streams::{AT_FAULT, Stream, tell_fault_by};
 use std::alloc::AllocError;
 use std::io;
 
-/// Tells that there is no page of this number.
+/// Says that there is no page of this number.
 pub fn tell_no_page<E: Stream>(err: &mut E, number: u32, all: usize) -> io::Result<u8>
     ensures status { IfOk result (λ status. status ≡ 2) }
     ensures line { OnOk result (Appends (E.contents err.old) (E.contents err.new) (no_page_text number all)) }
@@ -25,7 +25,7 @@ pub fn tell_no_page<E: Stream>(err: &mut E, number: u32, all: usize) -> io::Resu
     Ok(AT_FAULT)
 }
 
-/// Tells which page is drawn, where there are several.
+/// Says which page is drawn, where there are several.
 pub fn tell_page<E: Stream>(err: &mut E, number: u32, all: usize) -> io::Result<()>
     ensures text { OnOk result (Appends (E.contents err.old) (E.contents err.new) (page_text number all)) }
     ensures early { IfErr result (EndsEarly false false (E.has_failed err.new)) }
@@ -36,7 +36,7 @@ pub fn tell_page<E: Stream>(err: &mut E, number: u32, all: usize) -> io::Result<
     writeln!(err, "lab: page {number} of {all}")
 }
 
-/// Tells of a callback that a call names and that a bank of so many hasn't, where there is one.
+/// Reports a callback that a call names and that a bank of so many hasn't, where there is one.
 pub fn tell_missing<E: Stream>(err: &mut E, missing: Option<u16>, count: usize) -> io::Result<()>
     ensures text { OnOk result (Appends (E.contents err.old) (E.contents err.new) (missing_text count missing)) }
     ensures early { IfErr result (EndsEarly false false (E.has_failed err.new)) }
@@ -50,7 +50,7 @@ pub fn tell_missing<E: Stream>(err: &mut E, missing: Option<u16>, count: usize) 
     )
 }
 
-// Tells which line of a text is none of a trace, and what is wrong with it as a scenario.
+// Says which line of a text is none of a trace, and what is wrong with the text as a scenario.
 fn tell_words<E: Stream>(err: &mut E, line: usize, words: &str) -> io::Result<u8>
     ensures status { IfOk result (λ status. status ≡ 2) }
     ensures line { OnOk result (Appends (E.contents err.old) (E.contents err.new) (neither_text line words.now)) }
@@ -63,7 +63,7 @@ fn tell_words<E: Stream>(err: &mut E, line: usize, words: &str) -> io::Result<u8
     Ok(AT_FAULT)
 }
 
-// The same of a step that is at fault.
+// Says which line of a text is none of a trace, and which step of the text as a scenario is at fault.
 fn tell_step<E: Stream>(err: &mut E, line: usize, number: u32) -> io::Result<u8>
     ensures status { IfOk result (λ status. status ≡ 2) }
     ensures line { OnOk result (Appends (E.contents err.old) (E.contents err.new) (neither_text line (codes "a bad step " ++ decimal number))) }
@@ -76,7 +76,7 @@ fn tell_step<E: Stream>(err: &mut E, line: usize, number: u32) -> io::Result<u8>
     Ok(AT_FAULT)
 }
 
-// Tells that a text is neither a trace nor a scenario.
+// Says that a text is neither a trace nor a scenario.
 fn tell_unplayed<E: Stream>(err: &mut E, line: usize, fault: Fault) -> io::Result<u8>
     ensures status { IfOk result (λ status. status ≡ 2) }
     ensures line { OnOk result (IsSomeAnd (fault_words fault) (λ words. Appends (E.contents err.old) (E.contents err.new) (neither_text line words))) }
@@ -90,7 +90,7 @@ fn tell_unplayed<E: Stream>(err: &mut E, line: usize, fault: Fault) -> io::Resul
     }
 }
 
-// Tells for which part a text of another kind is.
+// Says for which part a text of another kind is.
 fn tell_other<E: Stream>(err: &mut E, kind: TextKind, fault: Fault) -> io::Result<u8>
     ensures status { IfOk result (λ status. status ≡ 2) }
     ensures line { OnOk result (IsSomeAnd (kinded_words kind fault) (λ words. Appends (E.contents err.old) (E.contents err.new) (line_about (codes "lab") words))) }
@@ -100,8 +100,8 @@ fn tell_other<E: Stream>(err: &mut E, kind: TextKind, fault: Fault) -> io::Resul
     Ok(AT_FAULT)
 }
 
-/// Tells that a text of a kind is neither a trace nor a scenario; of another kind, for which part it is. Want of
-/// memory isn't told: it is this function's own error.
+/// Says that a text of a kind is neither a trace nor a scenario; of another kind, for which part it is. It doesn't say
+/// that memory is wanting: that is this function's own error.
 pub fn tell_neither<E: Stream>(
     err: &mut E,
     line: usize,
@@ -120,7 +120,7 @@ pub fn tell_neither<E: Stream>(
     }
 }
 
-/// Tells why nothing can be drawn.
+/// Says why nothing can be drawn.
 pub fn tell_undrawn<E: Stream>(err: &mut E, why: &str) -> io::Result<u8>
     ensures status { IfOk result (λ status. status ≡ 2) }
     ensures line { OnOk result (Appends (E.contents err.old) (E.contents err.new) (codes "lab: " ++ (why.now ++ line_feed))) }

@@ -1,28 +1,23 @@
-//! `lab draw`: the picture of a trace, of a scenario, which is played, or of what `lab callers` tells.
-ghost use Rattle.std.specs.Prelude.{◌≡◌, ◌≤◌, ◌++◌, codes, length, map, take, None, option_map, unwrap_or, IfErr, IfOk, false};
+//! `lab draw`: the picture of a trace, of a scenario, which is played, or of what `lab callers` prints.
+ghost use Rattle.std.specs.Prelude.{◌≡◌, ◌≤◌, ◌++◌, codes, length, map, None, option_map, unwrap_or, IfErr, IfOk, false};
 ghost use Rattle.std.specs.Str.{is_utf8};
 ghost use Rattle.evl_plans.specs.Told.{handler_of};
 ghost use Rattle.evl_scenario.specs.Lines.{line_feed};
 ghost use Rattle.evl_shell.specs.Runs as runs;
+ghost use Rattle.lab_caller_pictures.specs.Drawings.{callers, origin_of};
 ghost use Rattle.lab_draws.specs.Draws as draws;
-ghost use Rattle.lab_draws.specs.Draws.{AreMomentsOf, Draws, DrawsGiven, DrawsIf, DrawsLines, DrawsMade, DrawsMarks, DrawsOver, DrawsPage, DrawsPlayed, DrawsRead, DrawsSome, DrawsSvg, DrawsText, DrawsUnclosed, DrawsWhole, IsPicture, goes_for, origin_of};
-ghost use Rattle.lab_drawing.specs.Pictures.{going_text, shown_with};
-ghost use Rattle.lab_drawing.specs.declared.frames.Shows.TheVariants.{Words};
+ghost use Rattle.lab_draws.specs.Draws.{Draws, DrawsGiven, DrawsIf, DrawsLines, DrawsMade, DrawsMarks, DrawsOver, DrawsPage, DrawsPlayed, DrawsRead, DrawsSome, DrawsSvg, DrawsText, DrawsUnclosed, DrawsWhole};
 ghost use Rattle.lab_streams.specs.Outputs.{Writes, WritesOfText};
 ghost use Rattle.lab_streams.specs.Streams.{EndsEarly};
 
-use crate::callers_texts::{draw_unplayed, threads_moments};
+use crate::callers_texts::draw_unplayed;
 use crate::draw_faults::{tell_missing, tell_no_page, tell_page, tell_undrawn};
 use crate::draw_forms::draw_events;
 use crate::firsts::first_of;
 use evl_plans::{Planned, trace_plans};
-use lab_caller_pictures::Entered;
-use lab_drawing::{
-    Goes, Mark, Moment, lanes_of, marks_of, missing_callback, page, page_count, page_moments,
-    told_moments, write_callers, write_down, write_svg, write_told, write_told_down,
-};
+use lab_caller_pictures::{Source, picture_of};
+use lab_drawing::{Goes, Mark, marks_of, missing_callback, page_count};
 use lab_lines::plain_text;
-use lab_moments::moments_of;
 use lab_streams::{
     AT_FAULT, Drawing, Form, Stream, Way, called, put, read_plans, read_text, refused, tell_place,
     tell_unread, text_in, with_line_feed,
@@ -32,21 +27,11 @@ use std::alloc::{AllocError, Global};
 use std::io::{self, Read};
 use std::rt::Files;
 
-// What stands between the lines of callers and what is told of their machine's end.
+// What is between the lines of callers and what is printed of their machine's end.
 const CLOSING: &str = "\nclose -> ";
 
-// What stands before the word that a line of callers shows.
+// What is before the word that a line of callers shows.
 const BAR: &str = " | ";
-
-/// What marks come from: a trace alone, a scenario that was played over these callbacks, or the lines of callers, alone
-/// or with the calls that were entered then.
-#[derive(Clone, Copy)]
-pub(crate) enum Source<'a> {
-    Trace,
-    Scenario(&'a [Planned], &'a str),
-    Callers,
-    Threads(&'a [Planned], &'a Entered),
-}
 
 /// What is asked for, and the callbacks that a scenario is played over.
 #[derive(Clone, Copy, Drop)]
@@ -55,98 +40,14 @@ pub(crate) struct View<'a> {
     pub(crate) bank: &'a [Planned],
 }
 
-// How the lanes of marks stand after each step of a scenario over these callbacks.
-fn scenario_moments(
-    alloc: Global,
-    marks: &[Mark<'_>],
-    bank: &[Planned],
-    text: &str,
-) -> Result<Vec<Moment>, AllocError>
-    ensures { IfOk result (λ moments. AreMomentsOf (draws.scenario (map handler_of bank.now) text.now) marks.now moments.items) }
-{
-    let lanes = lanes_of(alloc, marks)?;
-    moments_of(alloc, bank, text.as_bytes(), lanes.as_slice())
-}
-
-// How the lanes of marks stand after each entry, as far as their source tells it.
-fn known_moments(
-    alloc: Global,
-    marks: &[Mark<'_>],
-    source: Source<'_>,
-) -> Result<Vec<Moment>, AllocError>
-    ensures { IfOk result (λ moments. AreMomentsOf (origin_of source.entry) marks.now moments.items) }
-{
-    match source {
-        Source::Trace => Ok(Vec::new(alloc)),
-        Source::Scenario(bank, text) => scenario_moments(alloc, marks, bank, text),
-        Source::Callers => told_moments(alloc, marks),
-        Source::Threads(bank, known) => threads_moments(alloc, marks, bank, known),
-    }
-}
-
-// The most lines of which a picture goes down where no way is asked for.
-const MOST_DOWN: usize = 60;
-
-/// Which way a picture of so many marks goes.
-pub(crate) fn goes_for(way: Way, count: usize) -> Goes
-    ensures { result ≡ goes_for way count }
+// Which way is asked for.
+fn goes_asked(way: Way) -> Option<Goes>
+    ensures { result ≡ draws.goes_asked way }
 {
     match way {
-        Way::Down => Goes::Down,
-        Way::Across => Goes::Across,
-        Way::Fitting if count <= MOST_DOWN => Goes::Down,
-        Way::Fitting => Goes::Across,
-    }
-}
-
-// The picture of callers' marks that goes this way.
-fn told_picture(
-    alloc: Global,
-    marks: &[Mark<'_>],
-    moments: &[Moment],
-    goes: Goes,
-) -> Result<Vec<u8>, AllocError>
-    ensures { IfOk result (λ picture. picture.items ≡ going_text goes Words moments.now marks.now) }
-{
-    match goes {
-        Goes::Across => write_told(alloc, marks, moments),
-        Goes::Down => write_told_down(alloc, marks, moments),
-    }
-}
-
-// The picture of other marks that goes this way.
-fn known_picture(
-    alloc: Global,
-    marks: &[Mark<'_>],
-    moments: &[Moment],
-    goes: Goes,
-) -> Result<Vec<u8>, AllocError>
-    ensures { IfOk result (λ picture. picture.items ≡ going_text goes (shown_with moments.now) moments.now marks.now) }
-{
-    match goes {
-        Goes::Across => write_svg(alloc, marks, moments),
-        Goes::Down => write_down(alloc, marks, moments),
-    }
-}
-
-/// The picture of a page of marks, from 0, that goes this way. `AllocError` where memory couldn't grow.
-pub(crate) fn picture_of(
-    alloc: Global,
-    marks: &[Mark<'_>],
-    source: Source<'_>,
-    goes: Goes,
-    number: usize,
-) -> Result<Vec<u8>, AllocError>
-    ensures { IfOk result (λ picture. IsPicture goes (origin_of source.entry) marks.now number picture.items) }
-{
-    let known = known_moments(alloc, marks, source)?;
-    let behind = page_moments(marks, known.as_slice(), number);
-    let shown = page(marks, number);
-    match source {
-        Source::Trace => known_picture(alloc, shown, behind, goes),
-        Source::Scenario(_, _) => known_picture(alloc, shown, behind, goes),
-        Source::Callers => told_picture(alloc, shown, behind, goes),
-        Source::Threads(_, _) => write_callers(alloc, shown, behind, goes),
+        Way::Down => Some(Goes::Down),
+        Way::Across => Some(Goes::Across),
+        Way::Fitting => None,
     }
 }
 
@@ -164,9 +65,9 @@ fn draw_page<O: Stream, E: Stream>(
     ensures early { IfErr result (EndsEarly false (O.has_failed out.new) (E.has_failed err.new)) }
 {
     tell_page(err, drawing.page, all)?;
-    let goes = goes_for(drawing.way, marks.len());
+    let asked = goes_asked(drawing.way);
     let number = (drawing.page as usize).saturating_sub(1);
-    match picture_of(alloc, marks, source, goes, number) {
+    match picture_of(alloc, marks, source, asked, number) {
         Ok(picture) => put(out, picture.as_slice()),
         Err(error) => Err(error.into()),
     }
@@ -210,7 +111,7 @@ fn draw_marks<O: Stream, E: Stream>(
     }
 }
 
-// Writes the picture of the lines of a trace, with how the lanes stand as far as their source tells it.
+// Writes the picture of the lines of a trace, with the lanes' states as far as the source of the lines gives them.
 fn draw_lines<O: Stream, E: Stream>(
     alloc: Global,
     lines: &[TraceLine<'_>],
@@ -231,7 +132,7 @@ fn draw_lines<O: Stream, E: Stream>(
     }
 }
 
-// Writes the picture of lines that were made over callbacks, behind what is told of those that they name.
+// Writes the picture of lines that were made over callbacks, after the report of a missing one that they name.
 fn draw_over<O: Stream, E: Stream>(
     alloc: Global,
     lines: &[TraceLine<'_>],
@@ -248,7 +149,7 @@ fn draw_over<O: Stream, E: Stream>(
     draw_lines(alloc, lines, source, view.drawing, out, err)
 }
 
-/// Writes the picture of a trace that was made of a scenario, or of the lines that callers were told by.
+/// Writes the picture of a trace that was made of a scenario, or of the lines that a run of callers printed.
 pub(crate) fn draw_trace<O: Stream, E: Stream>(
     alloc: Global,
     trace: &str,
@@ -289,7 +190,7 @@ fn draw_scenario<O: Stream, E: Stream>(
     }
 }
 
-// The same of what stands for a text.
+// Plays the scenario of a text, also of a text of lines, and writes the picture of its trace.
 fn draw_given<O: Stream, E: Stream>(
     alloc: Global,
     text: &str,
@@ -330,7 +231,7 @@ fn draw_whole<O: Stream, E: Stream>(
     }
 }
 
-// Writes the picture of the lines of callers, which stand at the front of a text.
+// Writes the picture of the lines of callers, which are at the front of a text.
 fn draw_callers<O: Stream, E: Stream>(
     alloc: Global,
     front: &str,
@@ -340,7 +241,7 @@ fn draw_callers<O: Stream, E: Stream>(
     err: &mut E,
 ) -> io::Result<u8>
     requires few { length view.now.bank.now ≤ 64 }
-    ensures writes { IfOk result (Writes (DrawsWhole (map handler_of view.now.bank.now) view.now.drawing draws.callers (front.now ++ line_feed) text.now) (O.contents out.old) (O.contents out.new) (E.contents err.old) (E.contents err.new)) }
+    ensures writes { IfOk result (Writes (DrawsWhole (map handler_of view.now.bank.now) view.now.drawing callers (front.now ++ line_feed) text.now) (O.contents out.old) (O.contents out.new) (E.contents err.old) (E.contents err.new)) }
     ensures early { IfErr result (EndsEarly false (O.has_failed out.new) (E.has_failed err.new)) }
 {
     match with_line_feed(alloc, front) {
@@ -442,9 +343,9 @@ fn draw_file<R: Files + AllocGlobal, I: Read, O: Stream, E: Stream>(
     }
 }
 
-/// Draws the trace that a file holds, or that of its scenario over a bank, or what is told of callers there or of its
-/// text of callers over a bank, or of the input where none is named. The status is 2 where it holds none of these, a
-/// step of callers can't be made, or the bank is at fault.
+/// Draws the trace that a file holds, or that of its scenario over a bank, or the lines of callers there, or those of
+/// its text of callers over a bank, or of the input where none is named. The status is 2 where it holds none of these,
+/// a step of callers can't be made, or the bank is at fault.
 pub fn draw<R: Files + AllocGlobal, I: Read, O: Stream, E: Stream>(
     rt: &R,
     drawing: Drawing,

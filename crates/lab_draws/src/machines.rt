@@ -4,10 +4,10 @@ ghost use Rattle.evl_plans.specs.Told.{handler_of};
 ghost use Rattle.lab_draws.specs.Machines.{IsPictured, IsPicturedOf, IsPicturedTrace};
 ghost use Rattle.lab_streams.specs.Texts as texts;
 
-use crate::draws::{Source, goes_for, picture_of};
 use evl_plans::{Planned, trace_plans};
+use lab_caller_pictures::{Source, picture_of};
 use lab_drawing::{marks_of, page_count};
-use lab_streams::{Way, text_in};
+use lab_streams::text_in;
 use lab_traces::{TraceLine, read_lines};
 use std::alloc::{AllocError, Global};
 
@@ -32,8 +32,7 @@ fn pictured_lines(
 {
     let marks = marks_of(alloc, lines)?;
     let marks = marks.as_slice();
-    let goes = goes_for(Way::Fitting, marks.len());
-    let picture = picture_of(alloc, marks, Source::Scenario(bank, text), goes, 0)?;
+    let picture = picture_of(alloc, marks, Source::Scenario(bank, text), None, 0)?;
     Ok(Pictured {
         picture,
         pages: page_count(marks),

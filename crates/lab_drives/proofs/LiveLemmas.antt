@@ -42,7 +42,7 @@ pub on_ok : {T E : Type 0} (r : Result T E) (P Q : Type 0) → (P → Q) → OnO
 on_ok (Ok x) P Q f p = f p
 on_ok (Err e) P Q f p = tt
 
--- ---- what is told behind a text, by itself
+-- ---- what is printed after a text, by itself
 
 entry_behind : (old new : History) (step : Step) (before after answer : List ℕ) → after ≡ before ++ answer → TellsEntry old new step before after → TellsEntry old new step [] answer
 entry_behind old new step before after answer is t = record {
@@ -78,7 +78,7 @@ undoes_behind old new before after answer is (inl (back, told)) = inl (back, app
 undoes_behind old new before after answer is (inr (same, inl (none, told))) = inr (same, inl (none, append_cancel_left before answer _ (sym is ∙ told)))
 undoes_behind old new before after answer is (inr (same, inr why)) = inr (same, inr (unwritten_behind (script_of_history old.board old.limit (all_but_last old.history.entries)) before after answer is why))
 
--- a line that was answered behind other answers
+-- a line that was answered after other answers
 pub line_answered : (line : List ℕ) (old new : Driven) (before after : List ℕ) (a : Answers old new before after)
     → (may_call (trimmed line) ≡ true → Does old new (step_of_line (trimmed line)) before after) → (may_change (trimmed line) ≡ false → new ≡ old)
     → (trimmed line ≡ codes "undo" → Undoes old new before after)
@@ -145,7 +145,7 @@ each_one line old new answer h = (new, answer, [], h, (refl, refl), sym (append-
 
 -- ---- bytes
 
--- a line feed behind the line that waits, which is answered
+-- a line feed after the line that waits, which is answered
 pub heard_line : (line : List ℕ) (byte : ℕ) (old new : Driven) (answer : List ℕ) → Lacks 10 line → byte ≡ 10 → AnswersLine line old new answer → Hears (byte ∷ []) line [] old new answer
 heard_line line byte old new answer lacks is h = record {
   lines = line ∷ [];
@@ -154,7 +154,7 @@ heard_line line byte old new answer lacks is h = record {
   answered = each_one line old new answer h;
 }
 
--- no bytes, and bytes behind others
+-- no bytes, and bytes after others
 pub heard_none : (line : List ℕ) (s : Driven) → Hears [] line line s s []
 heard_none line s = record { lines = []; whole = sym (append-nil line); alone = All-nil (Lacks 10); answered = (refl, refl) }
 
@@ -183,7 +183,7 @@ all_answered bytes waiting old mid new x y h lacks line = record {
   answered = each_append h.lines (waiting ∷ []) old mid new x y h.answered (each_one waiting mid new y line);
 }
 
--- the last line behind the others
+-- the last line after the others
 pub input_answered : (known : Option (List ℕ)) (bytes waiting line : List ℕ) (old mid new : Driven) (x : List ℕ) (start between end : Option (List ℕ)) → line ≡ waiting
     → IsAllOf known bytes → Hears bytes [] waiting old mid x → Lacks 10 waiting → Appends start between x
     → ((answer : List ℕ) × AnswersLine line mid new answer × Appends between end answer) → (answers : List ℕ) × AnswersInput known old new answers × Appends start end answers
@@ -194,7 +194,7 @@ input_answered known bytes waiting line old mid new x start between end same all
       Appends-trans start between end x last.0 first last.2,
     )
 
--- the answers behind the trace
+-- the answers after the trace
 pub machine_driven : (known : Option (List ℕ)) (start end : Driven) (old mid new : Option (List ℕ))
     → Appends old mid (history_trace start.board start.limit start.history.entries start.history.plays)
     → ((answers : List ℕ) × AnswersInput known start end answers × Appends mid new answers) → (output : Output) × Drives known start output × Appends old new output.printed
@@ -215,7 +215,7 @@ undriven E bank limit known text kind fault old quiet spoken was r same is says 
     by (inl is) output h = absurd (subst (λ (f : Fault). IsSomeAnd (kinded_words (kind_of text) f) (λ words. output ≡ refuses 2 (line_about (codes "lab") words))) is h)
     by (inr is) output h = inr (fault, is, h)
 
--- ---- what stands for a text
+-- ---- what is given for a text
 
 pub given_read : (E : Type 0) (driving : Driving) (given plain : List ℕ) (known old new quiet spoken : Option (List ℕ)) (r : Result ℕ E) → IsPlain given plain
     → IfOk r (DrivesUnlessRefused driving plain known old new quiet spoken) → IfOk r (DrivesGiven driving given known old new quiet spoken)

@@ -1,4 +1,4 @@
--- What `lab callers` tells of a text of callers.
+-- What `lab callers` says of a text of callers.
 use Rattle.std.specs.Prelude.{◌≡◌, ◌⊎◌, ℕ, List, ◌++◌, codes, decimal, false, length, map, string_bytes, Option, IsSomeAnd, unwrap_or}
 use Rattle.evl_kernel.specs.state.Openings.{can_open}
 use Rattle.evl_kernel.specs.state.States.{Handler}
@@ -56,7 +56,7 @@ TellsText bank limit name text output =
 abbrev pub TellsRead : List Handler → Option ℕ → List ℕ → Reading → Output → Type 0
 TellsRead bank limit name = OfRead (TellsText bank limit name) name
 
--- the bank's file is refused, or what the callers of a file or of the input do is told over its callbacks
+-- the bank's file is refused, or what the callers of a file or of the input do is reported over its callbacks
 abbrev pub TellsCallers : Option (List ℕ) → Option ℕ → Option (List ℕ) → Option (List ℕ) → Option (List ℕ) → Option (List ℕ) → Option (List ℕ) → Option (List ℕ) → ℕ → Type 0
 TellsCallers plans limit file known old new quiet spoken status =
     Refuses plans old new quiet spoken status

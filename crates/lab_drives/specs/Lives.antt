@@ -30,7 +30,7 @@ AnswersEach (line ∷ lines) old new answers =
 
 -- ---- bytes
 
--- bytes behind those of a line that wait: the whole lines among them are answered, and these wait then
+-- bytes after those of a line that wait: the whole lines among them are answered, and these wait then
 pub record Hears (bytes before after : List ℕ) (old new : Driven) (answers : List ℕ) : Type 0 where
   pub lines : List (List ℕ)
   pub whole : whole_lines lines ++ after ≡ before ++ bytes
@@ -72,7 +72,7 @@ default_text =
     codes "limit = 1000000\n[board]\nthreads = 8\nsems = [0, 0, 0, 0]\nflags = [0, 0]\nxbufs = [[64, 64]]\n"
     ++ codes "mutexes = [\"normal\", \"normal\", \"recursive\", \"ceiling 50\"]\ngroups = [50]\n"
 
--- the text that stands for that of a file, of which nobody knows, or that one
+-- the text in place of that of a file, of which nobody knows, or that one
 abbrev pub IsTextOf : Option (List ℕ) → List ℕ → Type 0
 IsTextOf None text = text ≡ default_text
 IsTextOf (Some file) text = (given : List ℕ) × (length given ≤ most_bytes) × IsPlain given text
@@ -97,12 +97,21 @@ DrivesUnlessRefused driving text known old new quiet spoken status =
     Refuses (option_map (λ file. file.now) driving.bank) old new quiet spoken status
     ⊎ DrivesOver (option_map (λ file. file.now) driving.bank) driving.limit text known old new quiet spoken status
 
--- of a text, by what stands for it; of a text of lines that can't be read its first fault is said
+-- of a text, by what is in its place; of a text of lines that can't be read its first fault is said
 abbrev pub DrivesGiven : Driving → List ℕ → Option (List ℕ) → Option (List ℕ) → Option (List ℕ) → Option (List ℕ) → Option (List ℕ) → ℕ → Type 0
 DrivesGiven driving given known old new quiet spoken status =
     ((plain : List ℕ) × IsPlain given plain × DrivesUnlessRefused driving plain known old new quiet spoken status)
     ⊎ Writes (SaysUndriven given) old new quiet spoken status
 
+-- rule: `lab live` prints the trace of its scenario, also that of a text of lines, then the answer to each input line
+--   in order, as `answer_line` promises at the machine that the lines before left; `save FILE` and `draw FILE` leave
+--   the machine, and print that FILE was written, that it cannot be, or why there is no scenario. The picture is the
+--   first page of what `draw` prints of the scenario over the machine's callbacks. It answers 2 exactly if there is no
+--   machine.
+--   also: Lives.{DrivesText, AnswersInput, Hears}; Writings.{AnswersLine, WritesPicture, WritesScenario};
+--   Machines.IsPictured
+--   clauses: live; drive_plans; drive; take_bytes; answer; path_behind; machine_picture
+--   rows: a_path_stands_behind_its_word
 -- the bank is refused; or its machine is driven; or a file that is named isn't read, or its lines can't be read
 abbrev pub Lives : Option (List ℕ) → Option (List ℕ) → Option ℕ → Option (List ℕ) → Option (List ℕ) → Option (List ℕ) → Option (List ℕ) → Option (List ℕ) → ℕ → Type 0
 Lives plans file limit known old new quiet spoken status =

@@ -16,9 +16,9 @@ use Rattle.lab_live.specs.Wholes.{whole_text}
 
 -- ---- lines that write no file
 
--- What a line is answered, by what stands there but for blanks at its end: the machine stays, or has one entry more, of which
+-- What a line is answered, by what is there but for blanks at its end: the machine stays, or has one entry more, of which
 -- these are the lines, or its last call was taken back; a line that may ask for a call does what it asks for, and `undo` takes the
--- last call back; and of nothing, of a comment, of the scenario so far, of how the machine stands and of help just that is told.
+-- last call back; and of nothing, of a comment, of the scenario so far, of how the machine is and of help just that is reported.
 pub record AnswersOther (line : List ℕ) (old new : Driven) (answer : List ℕ) : Type 0 where
   pub goes_on : GoesOn old new [] answer
   pub asked : may_call (trimmed line) ≡ true → Does old new (step_of_line (trimmed line)) [] answer
@@ -44,11 +44,11 @@ written_text path pages =
 abbrev pub unwritten_text : List ℕ → List ℕ
 unwritten_text path = codes "! 6: " ++ (path ++ codes " can't be written\n")
 
--- One of both was told behind the text before.
+-- One of both was written after the text before.
 abbrev pub WritesFile : List ℕ → ℕ → List ℕ → List ℕ → Type 0
 WritesFile path pages before after = (after ≡ before ++ written_text path pages) ⊎ (after ≡ before ++ unwritten_text path)
 
--- The scenario was written, or it was told why there is none.
+-- The scenario was written, or it was said why there is none.
 abbrev pub WritesScenario : Script → List ℕ → List ℕ → List ℕ → Type 0
 WritesScenario script path before after = WritesFile path 1 before after ⊎ TellsUnwritten script before after
 
@@ -59,12 +59,12 @@ WritesPicture bank script path before after =
 
 -- ---- any line
 
--- by the path behind `save `, if the line has one
+-- by the path after `save `, if the line has one
 abbrev pub SavesOr : Option (List ℕ) → List ℕ → Driven → Driven → List ℕ → Type 0
 SavesOr None line old new answer = AnswersOther line old new answer
 SavesOr (Some path) line old new answer = (new ≡ old) × WritesScenario (script_of old) path [] answer
 
--- by the path behind `draw `
+-- by the path after `draw `
 abbrev pub DrawsOr : Option (List ℕ) → List ℕ → Driven → Driven → List ℕ → Type 0
 DrawsOr None line old new answer = SavesOr (path_behind (codes "save ") (trimmed line)) line old new answer
 DrawsOr (Some path) line old new answer = (new ≡ old) × WritesPicture old.history.bank (script_of old) path [] answer

@@ -19,7 +19,7 @@ use std::alloc::{AllocError, Global};
 use std::io::{self, Read};
 use std::rt::Files;
 
-// Tells which step can't be made, and why.
+// Says which step can't be made, and why.
 fn tell_step<E: Stream>(err: &mut E, name: &str, number: usize, fault: StepFault) -> io::Result<u8>
     ensures status { IfOk result (λ status. status ≡ 2) }
     ensures line { OnOk result (Appends (E.contents err.old) (E.contents err.new) (ending_text name.now (Ending.Fault number fault))) }
@@ -30,7 +30,7 @@ fn tell_step<E: Stream>(err: &mut E, name: &str, number: usize, fault: StepFault
     Ok(AT_FAULT)
 }
 
-// Tells how the steps ended, where one can't be made, and answers the status.
+// Says how the steps ended, where one can't be made, and answers the status.
 fn tell_ending<E: Stream>(err: &mut E, name: &str, ending: Ending) -> io::Result<u8>
     ensures status { IfOk result (λ status. status ≡ ending_status ending) }
     ensures line { OnOk result (Appends (E.contents err.old) (E.contents err.new) (ending_text name.now ending)) }
@@ -42,7 +42,7 @@ fn tell_ending<E: Stream>(err: &mut E, name: &str, ending: Ending) -> io::Result
     }
 }
 
-// Prints what is told of the steps, and answers the status.
+// Prints what is reported of the steps, and answers the status.
 fn tell_played<O: Stream, E: Stream>(
     name: &str,
     played: &Played,
@@ -118,7 +118,7 @@ fn play_file<R: Files + AllocGlobal, I: Read, O: Stream, E: Stream>(
     }
 }
 
-/// Plays a text of callers over a bank, prints what each step was answered and what stands in the word that it went
+/// Plays a text of callers over a bank, prints what each step was answered and what is in the word that it went
 /// to, and answers the status: 2 where the text is refused or can't be read, a step can't be made, or the bank is at
 /// fault.
 pub fn drive_callers<R: Files + AllocGlobal, I: Read, O: Stream, E: Stream>(

@@ -250,7 +250,7 @@ fn drive_text<R: Files + AllocGlobal, I: Source, O: Stream, E: Stream>(
     }
 }
 
-// Drives a machine of what stands for a text.
+// Drives a machine of what is in the place of a text.
 fn drive_given<R: Files + AllocGlobal, I: Source, O: Stream, E: Stream>(
     rt: &R,
     driving: Driving<'_>,

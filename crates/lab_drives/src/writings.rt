@@ -18,7 +18,7 @@ fn write_file<R: Files>(rt: &R, path: &str, bytes: &[u8]) -> io::Result<()> {
     file.write_all(bytes)
 }
 
-// Tells that a file was written, of a picture of several pages that it has the first.
+// Says that a file was written, of a picture of several pages that it has the first.
 fn tell_written(told: &mut String, path: &str, pages: usize) -> Result<(), AllocError>
     ensures { OnOk result (string_bytes told.new ≡ string_bytes told.old ++ written_text path.now pages) }
 {
@@ -29,7 +29,7 @@ fn tell_written(told: &mut String, path: &str, pages: usize) -> Result<(), Alloc
     }
 }
 
-// Writes a file, and tells how that went.
+// Writes a file, and says how that went.
 fn write_to<R: Files>(
     rt: &R,
     path: &str,

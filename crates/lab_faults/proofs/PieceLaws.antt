@@ -91,7 +91,7 @@ comment_on at byte rest e =
     let one : 1 + prefix_len is_in_line rest ≡ suc (prefix_len is_in_line rest) = omega arith in
     ap (λ (n : ℕ). pieces_from at n (byte ∷ rest)) (yes (is_in_line byte) (1 + prefix_len is_in_line rest) 0 e ∙ one) ∙ one_passed at byte (prefix_len is_in_line rest) rest
 
--- ---- behind those that were noted
+-- ---- after those that were noted
 
 -- some were noted, and these are to come
 pub noted : (old new some left right : List Token) → new ≡ old ++ some → left ≡ some ++ right → old ++ left ≡ new ++ right

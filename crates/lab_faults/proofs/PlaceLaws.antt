@@ -1,4 +1,4 @@
--- The place behind one more byte.
+-- The place after one more byte.
 use Rattle.std.proofs.Common.{◌≡◌, ◌∙◌, ℕ, ◌+◌, ◌<◌, ◌==◌, true, false, List, [], ◌∷◌, drop, get_or, length, refl, sym, ap, add-one, drop-cons, arith}
 use Rattle.std.specs.List.{onto_first, slice_split, count_by}
 use Rattle.std.proofs.lemmas.List.Splits.{length-slice_split, slice_split-cons_no, slice_split-cons_yes}

@@ -7,11 +7,11 @@ use Rattle.lab_faults.specs.Steps.{all_step_faults, is_beside, number_of, onto_r
 use Rattle.lab_faults.specs.Told.{Told}
 use Rattle.lab_faults.specs.declared.items.Item.{Item}
 
--- who stands beside one of two that stand in one step stands beside the other
+-- an item beside one of two in the same step is beside the other
 beside_both : (x y : Item) (rest : List Item) → is_beside x y ≡ true → prefix_len (is_beside y) rest ≡ prefix_len (is_beside x) rest
 beside_both x y rest e = ap (λ (n : ℕ). prefix_len (λ (item : Item). number_of item.section == n) rest) (eqb-true (number_of y.section) (number_of x.section) e)
 
--- an item before the first run of those behind it, or by itself
+-- an item before the first run of those after it, or by itself
 cut_by : (x y : Item) (rest : List Item) (n m : ℕ) (b : Bool) → (b ≡ true → m ≡ n) → (y ∷ take m rest) ∷ runs (drop m rest) ≡ runs (y ∷ rest)
     → (if b then (x ∷ y ∷ take m rest) ∷ runs (drop m rest) else (x ∷ []) ∷ (y ∷ take m rest) ∷ runs (drop m rest))
     ≡ (x ∷ take (cond b (1 + n) 0) (y ∷ rest)) ∷ runs (drop (cond b (1 + n) 0) (y ∷ rest))
@@ -27,7 +27,7 @@ cut_first x (y ∷ rest) =
     ap (onto_run x) (cut_first y rest)
     ∙ cut_by x y rest (prefix_len (is_beside x) rest) (prefix_len (is_beside y) rest) (is_beside x y) (beside_both x y rest) (sym (cut_first y rest))
 
--- the first run, and those behind it
+-- the first run, and those after it
 pub runs_cut : (items : List Item) → 0 < length items → runs items ≡ take (run_length items) items ∷ runs (drop (run_length items) items)
 runs_cut [] h = absurd (omega (arith, h))
 runs_cut (x ∷ rest) h =

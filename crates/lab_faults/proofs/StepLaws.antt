@@ -7,7 +7,7 @@ use Rattle.lab_faults.specs.declared.found.Finding.{Finding}
 use Rattle.lab_faults.specs.declared.found.Found.{Found}
 use Rattle.lab_faults.specs.declared.items.Item.{Item}
 
--- as many more as were told
+-- as many more as were reported
 longer : (old new : List Found) (faults : List Told) → map fault_told new ≡ map fault_told old ++ faults → length new ≡ length old + length faults
 longer old new faults e =
     sym (length-map new fault_told) ∙ ap length e ∙ length-append (map fault_told old) faults ∙ ap (λ (n : ℕ). n + length faults) (length-map old fault_told)

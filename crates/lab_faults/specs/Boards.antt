@@ -1,4 +1,4 @@
--- The faults of a board, and of what stands beside it, in the order in which they are told.
+-- The faults of a board, and of what is beside it, in the order in which they are reported.
 use Rattle.std.specs.Prelude.{ℕ, nat_eq, Bool, true, false, not, ◌&&◌, ◌||◌, List, [], ◌∷◌, ◌++◌, codes, flat_map, if◌then◌else◌}
 use Rattle.std.specs.List.{list_any, starts_with}
 use Rattle.std.specs.Str.{bytes_eq}
@@ -25,7 +25,7 @@ heading_text name =
     else if bytes_eq name (codes "ask") then codes "what is asked is headed [ask], on a line of its own"
     else no_table_text name
 
--- of a key that stands above the board it is said so, of any other one that a key of the board is near
+-- of a key that is above the board it is said so, of any other one that a key of the board is near
 abbrev pub aside_text : List ℕ → List ℕ
 aside_text key = if bytes_eq key (codes "limit") || bytes_eq key (codes "step") then codes "; it stands above [board]" else hint_text key board_keys
 
@@ -34,7 +34,7 @@ unfoldable pub no_board_key_text : List ℕ → List ℕ
 no_board_key_text key =
     codes "the board has no key \"" ++ (key ++ (codes "\"" ++ (aside_text key ++ codes " (keys: threads, sems, flags, xbufs, mutexes, groups)")))
 
--- a key of no table that may stand beside the board
+-- a key of no table that may be beside the board
 unfoldable pub unknown_key_text : List ℕ → List ℕ
 unknown_key_text key = codes "there is no key \"" ++ (key ++ (codes "\"" ++ (hint_text key opening_keys ++ codes " (keys: limit, board, step)")))
 
@@ -42,11 +42,11 @@ unknown_key_text key = codes "there is no key \"" ++ (key ++ (codes "\"" ++ (hin
 abbrev pub is_of_orders : List ℕ → Bool
 is_of_orders key = bytes_eq key (codes "setup") || (bytes_eq key (codes "setups") || bytes_eq key (codes "ask"))
 
--- a key that doesn't stand beside the board
+-- a key that isn't beside the board
 unfoldable pub no_key_text : List ℕ → List ℕ
 no_key_text key = if is_of_orders key then heading_text key else unknown_key_text key
 
--- a value that can't stand at its key
+-- a value that can't be at its key
 unfoldable pub value_text : List ℕ → List ℕ → List ℕ
 value_text key value = key ++ (codes " = " ++ (value ++ (codes ": " ++ (board_wanted_text key ++ codes " is wanted"))))
 
@@ -68,7 +68,7 @@ abbrev pub first_heading : List Heading → ℕ
 first_heading [] = 0
 first_heading (heading ∷ rest) = heading.name.0
 
--- a key that may stand beside the board: it may name one in it
+-- a key that may be beside the board: it may name one in it
 abbrev pub may_open : List ℕ → Bool
 may_open key = is_among opening_keys key || starts_with nat_eq key (codes "board.")
 

@@ -1,4 +1,4 @@
--- What is told of a text that can't be played. Where it is no TOML, the place is the one that TOML's reader tells.
+-- What is reported of a text that can't be played. Where it is no TOML, the place is the one that TOML's reader gives.
 use Rattle.std.specs.Prelude.{◌≡◌, ◌≢◌, ◌<◌, ◌≤◌, ◌⊎◌, ℕ, List, [], ◌∷◌, ◌++◌, codes, decimal, length, map, Option, None, Some, is_some, true, IsUtf8}
 use Rattle.toml.specs.Errors.{IsMemory, IsWithin, span_start}
 use Rattle.toml.specs.Parse.{parse_document}
@@ -19,6 +19,18 @@ use Rattle.lab_faults.specs.declared.items.Item.{Item}
 abbrev pub not_toml_text : List ℕ → List ℕ
 not_toml_text why = codes "no TOML in UTF-8: " ++ why
 
+-- rule: Faults, their order, places and words are the definition's: of the board unknown headings and keys, unfit
+--   values, missing `threads`; of a step that cannot be read a missing or unknown word, unknown keys, else missing keys
+--   and unfit values, else only that. A value fits if its small scenario can be read. A text too long, or no TOML in
+--   UTF-8, has only that fault, at the place and with some reason that the reader gives; if a key's value begins there
+--   and is words without quotes, that is said instead (nothing is reported if it stopped for want of memory). The fault
+--   that refuses the text goes first, at line 1 if it was not found first. A key is a word before an equals sign, of
+--   the heading above or the braces around it; blanks and comments are no pieces of a text.
+--   also: Checks.TellsWhy; Quotes.unquoted_at
+--   clauses: check; check_board; check_steps; tokens_of; items_of
+--   rows: a_text_that_is_no_toml_is_told; each_fault_is_told; faults_of_a_list_of_steps_are_told;
+--   names_in_quotes_are_no_faults; keys_below; listed_steps; number_at; quoted_and_comment; single_quotes;
+--   two_headings; words_at
 -- the reader of TOML stopped at a place in a text that is no document
 pub record StopsAt (text : List ℕ) (stop : Error) (at : ℕ) : Type 0 where
   pub no_document : IsUtf8 text → parse_document text ≡ None
@@ -26,7 +38,7 @@ pub record StopsAt (text : List ℕ) (stop : Error) (at : ℕ) : Type 0 where
   pub within : IsWithin text stop
   pub there : at ≡ span_start stop
 
--- some reason is told; at a value without quotes just that
+-- some reason is reported; at a value without quotes just that
 abbrev pub SaysWhy : List ℕ → Option Item → List ℕ → Type 0
 SaysWhy text (Some item) words = words ≡ unquoted_text text item
 SaysWhy text None words = (why : List ℕ) × (why ≢ []) × (words ≡ not_toml_text why)
@@ -57,7 +69,7 @@ pub record FindsText (text : List ℕ) (faults : List Told) : Type 0 where
 abbrev pub faults_in_steps : List ℕ → List Told
 faults_in_steps text = all_step_faults text (text_keys text)
 
--- of the board, of what stands beside it, and of the steps
+-- of the board, of what is beside it, and of the steps
 abbrev pub faults_in_all : List ℕ → List Told
 faults_in_all text = board_faults text (text_headings text) (text_keys text) ++ faults_in_steps text
 
@@ -87,12 +99,16 @@ abbrev pub IsLed : Fault → List Told → List Told → Type 0
 IsLed fault found faults =
     ((first_told found ≡ Some fault) × (faults ≡ found)) ⊎ ((first_told found ≢ Some fault) × (faults ≡ plain_told fault ∷ found))
 
--- what is told of a text that is refused for this fault
+-- what is reported of a text that is refused for this fault
 pub record Tells (text : List ℕ) (fault : Fault) (faults : List Told) : Type 0 where
   pub found : List Told
   pub finds : Finds text fault found
   pub led : IsLed fault found faults
 
+-- rule: A report gains the faults' lines `FILE:LINE:COLUMN: words`, in order, and answers whether the text cannot be
+--   played. After want of memory its content is not known.
+--   also: Faults.TellsFaults
+--   clauses: report
 -- its lines were added
 pub record TellsLines (name text : List ℕ) (fault : Fault) (old new : List ℕ) : Type 0 where
   pub found : List Found

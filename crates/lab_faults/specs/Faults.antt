@@ -1,4 +1,4 @@
--- The faults that are found in a text, and the lines that tell them.
+-- The faults that are found in a text, and the lines that report them.
 use Rattle.std.specs.Prelude.{◌≡◌, ℕ, Bool, true, false, ◌||◌, List, [], ◌∷◌, ◌++◌, codes, decimal, string_bytes, Option, None, Some, Result, Ok, Err}
 use Rattle.std.specs.List.{list_all}
 use Rattle.std.specs.Str.{bytes_eq}
@@ -27,7 +27,7 @@ is_of_step _ = false
 abbrev pub are_of_steps : List Found → Bool
 are_of_steps found = list_all (λ one. is_of_step one.fault) found
 
--- a place as a line tells it
+-- a place as a line gives it
 abbrev pub place_text : Place → List ℕ
 place_text place = decimal place.line ++ (codes ":" ++ decimal place.column)
 
@@ -43,6 +43,10 @@ found_lines name (found ∷ rest) = found_line name found ++ found_lines name re
 -- the lines of some faults were added, of which the first is this one: none, where there is no refusal
 pub record TellsFaults (name : List ℕ) (refusal : Option Fault) (old new : List ℕ) : Type 0 where
   pub found : List Found
+  -- rule: A fault is reported exactly if the text cannot be played; the first is the one for which it is refused. If
+  --   that is a step's, none of the text or the board is reported.
+  --   clauses: check: steps
+  --   rows: nothing_is_told_of_a_scenario
   pub first : first_fault found ≡ refusal
   pub told : new ≡ old ++ found_lines name found
 

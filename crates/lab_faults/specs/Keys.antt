@@ -1,4 +1,4 @@
--- The headings and the keys of a text, each key with its value, as the pieces of the text tell them.
+-- The headings and the keys of a text, each key with its value, as the pieces of the text give them.
 use Rattle.std.specs.Prelude.{ℕ, ◌≤◌, ◌+◌, ◌-◌, ◌==◌, nat_lt, Bool, true, false, not, ◌&&◌, List, [], ◌∷◌, codes, if◌then◌else◌, Option, None, Some}
 use Rattle.std.specs.Str.{bytes_eq}
 use Rattle.lab_faults.specs.Pieces.{pieces}
@@ -39,7 +39,7 @@ abbrev pub begun_steps : ℕ → Section → ℕ
 begun_steps steps (Step number) = number
 begun_steps steps _ = steps
 
--- ---- where the next piece stands
+-- ---- where the next piece is
 
 abbrev pub is_equals : Kind → Bool
 is_equals Equals = true
@@ -92,11 +92,11 @@ module _ (text : List ℕ) where
   behind_in s piece next (Some brackets) = behind_head s brackets (piece.from, piece.to) piece.kind
   behind_in s piece next None = behind_other s (piece.from, piece.to) next piece.kind
 
-  -- behind a piece before one of the next kind
+  -- after a piece before one of the next kind
   unfoldable pub behind : Standing → Token → Kind → Standing
   behind s piece next = behind_in s piece next s.heading
 
--- ---- what a piece tells
+-- ---- what a piece says
 
 abbrev pub key_section : Standing → Section
 key_section s = if s.depth == 0 then s.section else s.within
@@ -127,7 +127,7 @@ module _ (text : List ℕ) where
   unfoldable pub entry : Standing → Token → Kind → Entry
   entry s piece next = entry_in s piece next s.heading
 
--- ---- what all pieces tell
+-- ---- what all pieces say
 
 abbrev pub first_kind : List Token → Kind
 first_kind [] = EndLine
@@ -146,7 +146,7 @@ headings_in (_ ∷ rest) = headings_in rest
 abbrev pub up_to : ℕ × ℕ → ℕ × ℕ → ℕ × ℕ
 up_to value piece = if value.0 == value.1 then piece else (value.0, piece.1)
 
--- a value that these entries stand behind, up to the next key
+-- a value after which these entries come, up to the next key
 abbrev pub value_before : ℕ × ℕ → List Entry → ℕ × ℕ
 value_before value [] = value
 value_before value (Goes piece ∷ rest) = value_before (up_to value piece) rest
@@ -160,6 +160,10 @@ keys_in (_ ∷ rest) = keys_in rest
 
 -- ---- of a text
 
+-- rule: A line of a board and limit, of a step with any call and answer, or of a play is read as what it says; what a
+--   text is read as has exactly that text. Call and answer stay texts.
+--   clauses: read_line: back, called, fire, whole
+--   rows: each_form_is_read
 abbrev pub opening : Standing
 opening =
     record {
@@ -186,7 +190,7 @@ text_keys text = keys_in (text_entries text)
 
 -- ---- a part of a text
 
--- the keys that are to come behind one whose value may go on
+-- the keys that are to come after one whose value may go on
 abbrev pub keys_to_come : Option Item → List Entry → List Item
 keys_to_come None rest = keys_in rest
 keys_to_come (Some item) rest = record item { value = value_before item.value rest } ∷ keys_in rest

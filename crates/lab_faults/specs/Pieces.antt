@@ -9,7 +9,7 @@ use Rattle.lab_faults.specs.declared.tokens.Token.{Token}
 
 -- ---- bytes
 
--- what a byte that stands alone is: one of = , [ ] { } and the line feed
+-- what a byte by itself is: one of = , [ ] { } and the line feed
 abbrev pub mark : ℕ → Option Kind
 mark byte =
     if byte == 61 then Some Equals
@@ -50,7 +50,7 @@ escapes quote escaped byte = not escaped && (quote == 34 && byte == 92)
 abbrev pub word : ℕ → ℕ → Token
 word from to = record { kind = Word; from = from; to = to }
 
--- a word from a byte on, as far as plain bytes follow, and what stands behind so many bytes
+-- a word from a byte on, as far as plain bytes follow, and what comes after so many bytes
 abbrev pub word_from : ℕ → ℕ → ℕ → (ℕ → List Token) → List Token
 word_from from at more behind = word from (at + more) ∷ behind more
 
@@ -60,7 +60,7 @@ closing quote escaped [] = None
 closing quote escaped (byte ∷ rest) =
     if closes quote escaped byte then Some 1 else option_map suc (closing quote (escapes quote escaped byte) rest)
 
--- a text from its first quote on, and what stands behind it; nothing where no quote closes it
+-- a text from its first quote on, and what comes after it; nothing where no quote closes it
 abbrev pub quoted_from : ℕ → ℕ → Option ℕ → (ℕ → List Token) → List Token
 quoted_from from at (Some more) behind = word_from from at more behind
 quoted_from from at None behind = []
@@ -69,7 +69,7 @@ abbrev pub token_marked : ℕ → Option Kind → List Token
 token_marked at (Some kind) = record { kind = kind; from = at; to = at + 1 } ∷ []
 token_marked at None = []
 
--- the pieces of what stands at a place, behind so many bytes, which are of a piece that began before
+-- the pieces of what is at a place, after so many bytes, which are of a piece that began before
 unfoldable pub pieces_from : ℕ → ℕ → List ℕ → List Token
 pieces_from at passed [] = []
 pieces_from at (suc passed) (byte ∷ rest) = pieces_from (at + 1) passed rest
@@ -89,7 +89,7 @@ abbrev pub token_ended : Option ℕ → ℕ → List Token
 token_ended None to = []
 token_ended (Some from) to = word from to ∷ []
 
--- a word that may have begun, and what stands behind it
+-- a word that may have begun, and what comes after it
 abbrev pub begun_word : Option ℕ → ℕ → List ℕ → List Token
 begun_word None at rest = pieces_from at 0 rest
 begun_word (Some from) at rest = word_from from at (prefix_len is_plain rest) (λ passed. pieces_from at passed rest)

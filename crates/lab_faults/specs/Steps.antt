@@ -1,4 +1,4 @@
--- The faults of steps, in the order in which they are told.
+-- The faults of steps, in the order in which they are reported.
 use Rattle.std.specs.Prelude.{ℕ, ◌+◌, ◌-◌, ◌==◌, nat_le, Bool, not, ◌&&◌, ◌||◌, List, [], ◌∷◌, ◌++◌, codes, decimal, drop, find, flat_map, is_some, length, map, min, option_map, slice_index, slice_range, if◌then◌else◌, Option, None, Some, is_ok}
 use Rattle.std.specs.List.{list_any, prefix_len}
 use Rattle.std.specs.Str.{bytes_eq, is_utf8}
@@ -15,7 +15,7 @@ use Rattle.lab_faults.specs.declared.items.Item.{Item}
 use Rattle.lab_faults.specs.declared.items.Section.{Section}
 use Rattle.lab_faults.specs.declared.items.Section.TheVariants.{Step as InStep}
 
--- ---- what stands in a text
+-- ---- what is in a text
 
 -- the bytes between two places; none where the text has no such places
 abbrev pub bytes_between : List ℕ → ℕ × ℕ → List ℕ
@@ -53,19 +53,19 @@ pair_line key value = key ++ (codes " = " ++ (value ++ line_feed))
 abbrev pub pair_beside : List ℕ → List ℕ → List ℕ → List ℕ
 pair_beside key other value = if bytes_eq key other then [] else pair_line other value
 
--- whether a value can stand at a key of a board
+-- whether a value can be at a key of a board
 unfoldable pub fits_board : List ℕ → List ℕ → Bool
 fits_board key value =
     is_scenario (codes "[board]\n" ++ (pair_beside key (codes "threads") (codes "1") ++ pair_line key value))
 
--- whether a value can stand at the limit
+-- whether a value can be at the limit
 unfoldable pub fits_limit : List ℕ → Bool
 fits_limit value = is_scenario (pair_line (codes "limit") value ++ codes "[board]\nthreads = 1\n")
 
 abbrev pub step_head : List ℕ
 step_head = codes "[board]\nthreads = 1\n[[step]]\n"
 
--- a key with its value as they stand in a text
+-- a key with its value as they are in a text
 abbrev pub item_line : List ℕ → Item → List ℕ
 item_line text item = pair_line (bytes_between text item.key) (bytes_between text item.value)
 
@@ -77,7 +77,7 @@ is_step text items = is_scenario (step_head ++ flat_map (item_line text) items)
 abbrev pub own_keys : List ℕ → Option (List (List ℕ))
 own_keys word = option_map (drop 2) (option_map keys_of (word_of word))
 
--- a value that can stand at a key, unless it is this one, or may be left out
+-- a value that can be at a key, unless it is this one, or may be left out
 abbrev pub other_line : List ℕ → List ℕ → List ℕ
 other_line key other = if bytes_eq other key || may_lack other then [] else pair_line other (sample_text other)
 
@@ -89,7 +89,7 @@ other_lines key (Some keys) = flat_map (other_line key) keys
 unfoldable pub word_head : List ℕ → List ℕ
 word_head word = step_head ++ (codes "do = \"" ++ (word ++ codes "\"\n"))
 
--- whether a value can stand at a key of a step with this word, whatever stands at the others
+-- whether a value can be at a key of a step with this word, whatever is at the others
 unfoldable pub fits_step : List ℕ → List ℕ → List ℕ → Bool
 fits_step word key value =
     is_scenario (word_head word ++ (pair_line key value ++ (pair_beside key (codes "who") (codes "0") ++ other_lines key (own_keys word))))
@@ -106,7 +106,7 @@ is_among keys key = list_any (bytes_eq key) keys
 abbrev pub fault_of : ℕ → Fault
 fault_of number = Step (min number 4294967295)
 
--- where a step's first key stands
+-- where a step's first key is
 abbrev pub first_byte : List Item → ℕ
 first_byte [] = 0
 first_byte (item ∷ rest) = item.key.0
@@ -123,7 +123,7 @@ is_own keys key = bytes_eq key (codes "who") || is_among keys key
 abbrev pub is_unknown : List ℕ → List (List ℕ) → Item → Bool
 is_unknown text keys item = let key = name_between text item.key in not (bytes_eq key (codes "do") || is_own keys key)
 
--- a value that can't stand at its key
+-- a value that can't be at its key
 abbrev pub is_misfit : List ℕ → List ℕ → List (List ℕ) → Item → Bool
 is_misfit text word keys item = let key = name_between text item.key in is_own keys key && not (fits_step word key (text_between text item.value))
 
@@ -142,7 +142,7 @@ unfoldable pub missing_text : ℕ → List ℕ → List ℕ → List ℕ
 missing_text number word key =
     in_step number (codes ": " ++ (word ++ (codes " needs a key \"" ++ (key ++ (codes "\": " ++ (wanted_text key ++ codes " is wanted there"))))))
 
--- a value that can't stand at its key
+-- a value that can't be at its key
 unfoldable pub misfit_text : ℕ → List ℕ → List ℕ → List ℕ
 misfit_text number key value = in_step number (codes ": " ++ (key ++ (codes " = " ++ (value ++ (codes ": " ++ (wanted_text key ++ codes " is wanted"))))))
 
@@ -176,14 +176,14 @@ module _ (text : List ℕ) (number : ℕ) where
   missing_faults items at word key =
       if may_lack key || is_some (item_at text items key) then [] else step_told at (missing_text number word key) ∷ []
 
-  -- a value that can't stand at its key
+  -- a value that can't be at its key
   unfoldable pub misfit_faults : List ℕ → List (List ℕ) → Item → List Told
   misfit_faults word keys item =
       if is_misfit text word keys item
       then step_told item.value.0 (misfit_text number (name_between text item.key) (text_between text item.value)) ∷ []
       else []
 
-  -- of missing keys it is told where no key is unknown
+  -- missing keys are reported where no key is unknown
   abbrev pub lacking_faults : List Item → ℕ → List ℕ → List (List ℕ) → List Told
   lacking_faults items at word keys = if list_any (is_unknown text keys) items then [] else flat_map (missing_faults items at word) (codes "who" ∷ keys)
 
@@ -215,7 +215,7 @@ module _ (text : List ℕ) (number : ℕ) where
 
 -- ---- the faults of all steps
 
--- the step in which an item stands, from 1; 0 where it stands in none
+-- the step in which an item is, from 1; 0 where it is in none
 abbrev pub number_of : Section → ℕ
 number_of (InStep number) = number
 number_of _ = 0
@@ -223,7 +223,7 @@ number_of _ = 0
 abbrev pub is_beside : Item → Item → Bool
 is_beside first item = number_of item.section == number_of first.section
 
--- how many items in front stand in one step
+-- how many items in front are in one step
 abbrev pub run_length : List Item → ℕ
 run_length [] = 0
 run_length (first ∷ rest) = 1 + prefix_len (is_beside first) rest
@@ -234,7 +234,7 @@ onto_run item [] = (item ∷ []) ∷ []
 onto_run item ([] ∷ runs) = (item ∷ []) ∷ runs
 onto_run item ((next ∷ run) ∷ runs) = if is_beside item next then (item ∷ next ∷ run) ∷ runs else (item ∷ []) ∷ (next ∷ run) ∷ runs
 
--- items cut where the next one stands in another step
+-- items cut where the next one is in another step
 abbrev pub runs : List Item → List (List Item)
 runs [] = []
 runs (item ∷ rest) = onto_run item (runs rest)
@@ -243,7 +243,7 @@ abbrev pub first_number : List Item → ℕ
 first_number [] = 0
 first_number (item ∷ rest) = number_of item.section
 
--- of items that stand in one step, or in none
+-- of items that are in one step, or in none
 unfoldable pub run_faults : List ℕ → List Item → List Told
 run_faults text items = if first_number items == 0 then [] else step_faults text (first_number items) items
 

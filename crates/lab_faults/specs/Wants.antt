@@ -38,7 +38,7 @@ fits_kind kind.Bytes = codes "\"00\""
 fits_kind kind.Truth = codes "true"
 fits_kind _ = codes "0"
 
--- a value that can stand at a key of a step
+-- a value that can be at a key of a step
 abbrev pub sample_text : List ℕ → List ℕ
 sample_text key = fits_kind (kind_named key)
 
@@ -127,6 +127,9 @@ meant_text word =
     else if means_tick word then Some (codes "; did you mean \"tick\", or a timer?")
     else None
 
+-- rule: Near a word is the first known word with the fewest edits (Levenshtein), if at most two and fewer than the
+--   word's bytes. For some words (`lock`, `wait`, ..) it is the call that a beginner means.
+--   clauses: near; near_text; meant_or_near
 -- what is meant, or else the nearest of these words, or nothing
 unfoldable pub meant_or_near_text : List ℕ → List (List ℕ) → List ℕ
 meant_or_near_text word words = unwrap_or (meant_text word) (hint_text word words)

@@ -1,4 +1,4 @@
-//! The faults of a board, and of what stands beside it.
+//! The faults of a board, and of what is beside it.
 ghost use Rattle.std.specs.Prelude.{◌≡◌, flat_map, string_bytes, IfOk, OnOk};
 ghost use Rattle.std.specs.List.{list_any};
 ghost use Rattle.lab_faults.specs.Boards as boards;
@@ -23,7 +23,7 @@ fn opening_hint(alloc: Global, name: &str) -> Result<String, AllocError>
     near_text(alloc, name, opening_keys())
 }
 
-// What is said of a key that stands above the board, or of a near key of the board.
+// What is said of a key that is above the board, or of a near key of the board.
 fn aside(alloc: Global, key: &str) -> Result<String, AllocError>
     ensures { IfOk result (λ hint. string_bytes hint ≡ boards.aside_text key.now) }
 {
@@ -67,7 +67,7 @@ fn no_board_key(alloc: Global, key: &str) -> Result<String, AllocError>
     )
 }
 
-// What is said of a key of no table that may stand beside the board.
+// What is said of a key of no table that may be beside the board.
 fn unknown_key(alloc: Global, key: &str) -> Result<String, AllocError>
     ensures { IfOk result (λ text. string_bytes text ≡ boards.unknown_key_text key.now) }
 {
@@ -82,7 +82,7 @@ fn is_of_orders(key: &str) -> bool
     matches!(key, "setup" | "setups" | "ask")
 }
 
-// What is said of a key that doesn't stand beside the board.
+// What is said of a key that isn't beside the board.
 #[tactic(auto, unfolding(crate::specs::Boards::no_key_text))]
 fn no_key(alloc: Global, key: &str) -> Result<String, AllocError>
     ensures { IfOk result (λ text. string_bytes text ≡ no_key_text key.now) }
@@ -94,7 +94,7 @@ fn no_key(alloc: Global, key: &str) -> Result<String, AllocError>
     }
 }
 
-// What is said of a value that can't stand at its key.
+// What is said of a value that can't be at its key.
 fn value_words(alloc: Global, key: &str, value: &str) -> Result<String, AllocError>
     ensures { IfOk result (λ text. string_bytes text ≡ value_text key.now value.now) }
 {
@@ -128,7 +128,7 @@ fn check_heading(
     }
 }
 
-/// Notes a value of a board that can't stand at its key.
+/// Notes a value of a board that can't be at its key.
 #[tactic(auto, unfolding(crate::specs::Boards::value_faults))]
 pub fn check_value(
     alloc: Global,
@@ -153,7 +153,7 @@ fn is_board_key(key: &str) -> bool
     is_among(board_keys(), key)
 }
 
-// Notes a key that doesn't stand in the board, or a value that can't.
+// Notes a key that isn't in the board, or a value that can't.
 #[tactic(auto, unfolding(crate::specs::Boards::board_item_faults))]
 fn check_board_item(alloc: Global, finding: &mut Finding<'_>, item: Item) -> Result<(), AllocError>
     ensures { OnOk result (Adds finding.old finding.new (board_item_faults finding.old.text.now item)) }
@@ -168,14 +168,14 @@ fn check_board_item(alloc: Global, finding: &mut Finding<'_>, item: Item) -> Res
     check_value(alloc, finding, item, fits)
 }
 
-// Whether a key may stand beside the board.
+// Whether a key may be beside the board.
 fn is_opening_key(key: &str) -> bool
     ensures { result ≡ boards.may_open key.now }
 {
     is_among(opening_keys(), key) || key.as_bytes().starts_with(b"board.")
 }
 
-// Whether a value can stand at a key beside the board.
+// Whether a value can be at a key beside the board.
 fn fits_opening(alloc: Global, key: &str, value: &str) -> Result<bool, AllocError>
     ensures { IfOk result (λ fits. fits ≡ boards.fits_opening key.now value.now) }
 {
@@ -185,7 +185,7 @@ fn fits_opening(alloc: Global, key: &str, value: &str) -> Result<bool, AllocErro
     fits_limit(alloc, value.as_bytes())
 }
 
-// Notes a key that doesn't stand beside the board, or a limit that can't.
+// Notes a key that isn't beside the board, or a limit that can't.
 #[tactic(auto, unfolding(crate::specs::Boards::opening_item_faults))]
 fn check_opening_item(
     alloc: Global,
@@ -203,7 +203,7 @@ fn check_opening_item(
     check_value(alloc, finding, item, fits)
 }
 
-/// Notes the faults of a key with its value that stands in no step.
+/// Notes the faults of a key with its value that is in no step.
 pub fn check_item(alloc: Global, finding: &mut Finding<'_>, item: Item) -> Result<(), AllocError>
     ensures { OnOk result (Adds finding.old finding.new (item_faults finding.old.text.now item)) }
 {
@@ -290,7 +290,7 @@ fn check_items(alloc: Global, finding: &mut Finding<'_>, items: &[Item]) -> Resu
     Ok(())
 }
 
-/// Notes the faults of the board and of what stands beside it. `AllocError` where memory couldn't grow.
+/// Notes the faults of the board and of what is beside it. `AllocError` where memory couldn't grow.
 #[tactic(auto, unfolding(crate::specs::Boards::board_faults))]
 pub fn check_board(
     alloc: Global,

@@ -1,4 +1,4 @@
-//! The faults of a text: told exactly where it can't be played.
+//! The faults of a text: reported exactly where it can't be played.
 ghost use Rattle.std.specs.Prelude.{◌≡◌, ◌≢◌, [], ◌∷◌, true, false, map, string_bytes, Err, None, Some, IfOk};
 ghost use Rattle.toml.specs.Errors.{IsMemory, span_start};
 ghost use Rattle.evl_scenario.specs.Scenarios.{scenario_of};
@@ -122,7 +122,7 @@ pub fn found_in_text(alloc: Global, text: &[u8]) -> Result<Vec<Found>, AllocErro
     Ok(found)
 }
 
-// The faults of the board, of what stands beside it, and of the steps.
+// The faults of the board, of what is beside it, and of the steps.
 fn found_in_board(alloc: Global, text: &[u8]) -> Result<Vec<Found>, AllocError>
     ensures { IfOk result (λ found. map fault_told found.items ≡ faults_in_all text.now) }
 {

@@ -25,7 +25,7 @@ impl fmt::Display for Place {
     }
 }
 
-/// A fault of a scenario's text: of which kind it is, where it stands, and what is said of it.
+/// A fault of a scenario's text: of which kind it is, where it is, and what is said of it.
 #[derive(Drop)]
 pub struct Found {
     pub fault: Fault,
@@ -33,6 +33,7 @@ pub struct Found {
     pub words: String,
 }
 
+// rule: A byte's place is its line, one more than the line feeds before it, and its byte in that line.
 /// The place of a byte of a text.
 #[tactic(auto, unfolding(crate::specs::Told::place_at))]
 pub fn place_of(text: &[u8], at: usize) -> Place

@@ -1,8 +1,8 @@
-//! The headings and the keys of a scenario's text, and where they stand.
+//! The headings and the keys of a scenario's text, and where they are.
 ghost use Rattle.std.specs.Prelude.{◌≡◌};
 ghost use Rattle.lab_faults.specs.Steps.{bytes_between, unquoted};
 
-/// What a key or a heading stands in.
+/// What a key or a heading is in.
 #[derive(Clone, Copy, PartialEq, Eq)]
 pub enum Section {
     /// Beside the board and the steps.
@@ -36,7 +36,7 @@ pub struct Items {
     pub items: Vec<Item>,
 }
 
-/// What a piece of a text tells.
+/// What a piece of a text says.
 #[derive(Clone, Copy)]
 pub enum Entry {
     Heads(Heading),

@@ -40,7 +40,7 @@ fn put_beside(text: &mut Vec<u8>, key: &[u8], other: &[u8], value: &[u8]) -> Res
     put_pair(text, other, value)
 }
 
-/// Whether a value can stand at a key of a board.
+/// Whether a value can be at a key of a board.
 #[tactic(auto, unfolding(crate::specs::Steps::fits_board))]
 pub fn fits_board(alloc: Global, key: &[u8], value: &[u8]) -> Result<bool, AllocError>
     ensures { IfOk result (λ fits. fits ≡ steps.fits_board key.now value.now) }
@@ -52,7 +52,7 @@ pub fn fits_board(alloc: Global, key: &[u8], value: &[u8]) -> Result<bool, Alloc
     is_read(alloc, text.as_slice())
 }
 
-/// Whether a value can stand at `limit`.
+/// Whether a value can be at `limit`.
 #[tactic(auto, unfolding(crate::specs::Steps::fits_limit))]
 pub fn fits_limit(alloc: Global, value: &[u8]) -> Result<bool, AllocError>
     ensures { IfOk result (λ fits. fits ≡ steps.fits_limit value.now) }
@@ -119,7 +119,7 @@ fn word_text(alloc: Global, word: &str) -> Result<Vec<u8>, AllocError>
     Ok(text)
 }
 
-/// Whether a value can stand at a key of a step with this word, whatever stands at the others.
+/// Whether a value can be at a key of a step with this word, whatever is at the others.
 #[tactic(auto, unfolding(crate::specs::Steps::fits_step))]
 pub fn fits_step(alloc: Global, word: &str, key: &str, value: &[u8]) -> Result<bool, AllocError>
     ensures { IfOk result (λ fits. fits ≡ steps.fits_step word.now key.now value.now) }

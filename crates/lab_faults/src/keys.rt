@@ -1,4 +1,4 @@
-//! The headings and the keys of a text, put together from what its pieces tell.
+//! The headings and the keys of a text, put together from what its pieces say.
 ghost use Rattle.std.specs.Prelude.{◌≡◌, ◌∷◌, ◌++◌, List, drop, option_map, IfOk, OnOk};
 ghost use Rattle.std.specs.Option.{option_to_list};
 ghost use Rattle.lab_faults.specs.Keys as keys;
@@ -56,7 +56,7 @@ fn note_key(found: &mut Items, last: Option<Item>) -> Result<(), AllocError>
     Ok(())
 }
 
-// Notes what a piece tells. The last key is noted once its value ends.
+// Notes what a piece says. The last key is noted once its value ends.
 fn note(found: &mut Items, last: Option<Item>, entry: Entry) -> Result<Option<Item>, AllocError>
     ensures headings { IfOk result (λ next. (rest : List Entry) → found.old.headings.items ++ headings_in (entry ∷ rest) ≡ found.new.headings.items ++ headings_in rest) }
     ensures keys { IfOk result (λ next. (rest : List Entry) → found.old.items.items ++ keys_to_come last (entry ∷ rest) ≡ found.new.items.items ++ keys_to_come next rest) }
@@ -75,7 +75,7 @@ fn note(found: &mut Items, last: Option<Item>, entry: Entry) -> Result<Option<It
     }
 }
 
-// The headings and the keys that pieces of a text tell.
+// The headings and the keys that pieces of a text give.
 fn gathered(alloc: Global, text: &[u8], pieces: &[Token]) -> Result<Items, AllocError>
     ensures headings { IfOk result (λ found. found.headings.items ≡ headings_in (entries text.now keys.opening pieces.now)) }
     ensures keys { IfOk result (λ found. found.items.items ≡ keys_in (entries text.now keys.opening pieces.now)) }

@@ -1,4 +1,4 @@
-//! A word that stands without quotes where a value is wanted.
+//! A word without quotes where a value is wanted.
 ghost use Rattle.std.specs.Prelude.{◌≡◌, string_bytes, IfOk};
 ghost use Rattle.std.specs.List.{list_all};
 ghost use Rattle.lab_faults.specs.Quotes as quotes;
@@ -30,7 +30,7 @@ fn is_worded_text(value: &[u8]) -> bool
     }
 }
 
-/// The key whose value begins at a byte, if words without quotes stand there.
+/// The key whose value begins at a byte, if words without quotes are there.
 pub fn unquoted_at(text: &[u8], items: &[Item], at: usize) -> Option<Item>
     ensures { result ≡ quotes.unquoted_at text.now items.now at }
 {

@@ -1,4 +1,4 @@
-//! What is told of the faults of a file.
+//! What is reported of the faults of a file.
 ghost use Rattle.std.specs.Prelude.{◌≡◌, ◌++◌, Err, None, is_err, string_bytes, IfOk, OnOk};
 ghost use Rattle.evl_scenario.specs.Scenarios.{scenario_of};
 ghost use Rattle.evl_scenario.specs.declared.faults.Fault.{Fault};
@@ -21,7 +21,7 @@ pub fn write_found(report: &mut String, name: &str, found: &[Found]) -> Result<(
     Ok(())
 }
 
-/// Writes a line for each fault of the scenario's text that a file of this name holds, behind a report, and answers
+/// Writes a line for each fault of the scenario's text that a file of this name holds, after a report, and answers
 /// whether there is one: just where the text can't be played. The first is the one that it is refused for.
 /// `AllocError` where memory couldn't grow; what the report holds then isn't known.
 pub fn report(

@@ -1,4 +1,4 @@
-//! The steps that keys stand in.
+//! The steps that keys are in.
 ghost use Rattle.std.specs.Prelude.{◌≡◌, ◌<◌, ◌≤◌, ◌==◌, true, length, OnOk};
 ghost use Rattle.std.specs.List.{prefix_len};
 ghost use Rattle.lab_faults.specs.Faults.{are_of_steps};
@@ -11,7 +11,7 @@ use crate::items::{Item, Section};
 use crate::steps::check_step;
 use std::alloc::{AllocError, Global};
 
-/// The step in which a key stands, from 1; 0 where it stands in none.
+/// The step in which a key is, from 1; 0 where it is in none.
 pub fn number_of(section: Section) -> usize
     ensures { result ≡ steps.number_of section }
 {
@@ -21,7 +21,7 @@ pub fn number_of(section: Section) -> usize
     }
 }
 
-// How many items in front stand in this step.
+// How many items in front are in this step.
 fn in_front(items: &[Item], number: usize) -> usize
     ensures count { result ≡ prefix_len (λ item. steps.number_of item.section == number) items.now }
     ensures within { result ≤ length items.now }
@@ -34,7 +34,7 @@ fn in_front(items: &[Item], number: usize) -> usize
     items.len()
 }
 
-/// How many items in front stand in one step.
+/// How many items in front are in one step.
 pub fn run_length(items: &[Item]) -> usize
     ensures count { result ≡ steps.run_length items.now }
     ensures within { result ≤ length items.now }
@@ -46,7 +46,7 @@ pub fn run_length(items: &[Item]) -> usize
     }
 }
 
-/// The step in which the first item stands.
+/// The step in which the first item is.
 pub fn first_number(items: &[Item]) -> usize
     ensures { result ≡ steps.first_number items.now }
 {
@@ -56,7 +56,7 @@ pub fn first_number(items: &[Item]) -> usize
     }
 }
 
-// Notes the faults of items that stand in one step, or in none.
+// Notes the faults of items that are in one step, or in none.
 #[tactic(auto, unfolding(crate::specs::Steps::run_faults))]
 fn check_run(alloc: Global, finding: &mut Finding<'_>, items: &[Item]) -> Result<(), AllocError>
     ensures told { OnOk result (Adds finding.old finding.new (run_faults finding.old.text.now items.now)) }

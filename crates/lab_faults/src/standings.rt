@@ -1,4 +1,4 @@
-//! Where the pieces of a text stand, and what each of them tells.
+//! Where the pieces of a text are, and what each of them says.
 ghost use Rattle.std.specs.Prelude.{◌≡◌, ◌<◌, if◌then◌else◌, Some};
 ghost use Rattle.lab_faults.specs.Keys as keys;
 ghost use Rattle.lab_faults.specs.Keys.{CountsUpTo, bare_between};
@@ -6,7 +6,7 @@ ghost use Rattle.lab_faults.specs.Keys.{CountsUpTo, bare_between};
 use crate::items::{Entry, Heading, Item, Section, bare, slice};
 use crate::tokens::{Kind, Token};
 
-/// Where a piece stands.
+/// Where a piece is.
 #[derive(Clone, Copy)]
 pub struct Standing {
     /// What the last heading begins.
@@ -19,15 +19,15 @@ pub struct Standing {
     pub depth: usize,
     /// By how many brackets the heading begins that is being read.
     pub heading: Option<usize>,
-    /// The last key that stands in no brackets.
+    /// The last key that is in no brackets.
     pub top: (usize, usize),
-    /// How many were open where the last key stands.
+    /// How many were open where the last key is.
     pub key_depth: usize,
     /// Whether its value is being read.
     pub is_value: bool,
 }
 
-/// Where the first piece stands.
+/// Where the first piece is.
 pub fn opening() -> Standing
     ensures { result ≡ keys.opening }
 {
@@ -88,7 +88,7 @@ fn begun_steps(steps: usize, section: Section) -> usize
     }
 }
 
-// Behind the name of a heading.
+// After the name of a heading.
 fn behind_name(standing: Standing, section: Section) -> Standing
     ensures { result ≡ record standing { section = section; steps = keys.begun_steps standing.steps section } }
 {
@@ -100,7 +100,7 @@ fn behind_name(standing: Standing, section: Section) -> Standing
     }
 }
 
-// Behind a piece of a heading.
+// After a piece of a heading.
 fn behind_head(text: &[u8], standing: Standing, brackets: usize, token: Token) -> Standing
     requires steps { standing.steps < 9223372036854775808 }
     requires brackets { brackets < 9223372036854775808 }
@@ -123,7 +123,7 @@ fn behind_head(text: &[u8], standing: Standing, brackets: usize, token: Token) -
     }
 }
 
-// Behind a brace that is the value of a key outside brackets.
+// After a brace that is the value of a key outside brackets.
 fn behind_top(text: &[u8], standing: Standing) -> Standing
     requires { standing.steps < 9223372036854775808 }
     ensures { result ≡ keys.in_braces text.now standing Section.Opening }
@@ -137,7 +137,7 @@ fn behind_top(text: &[u8], standing: Standing) -> Standing
     }
 }
 
-// Behind a brace.
+// After a brace.
 fn in_braces(text: &[u8], standing: Standing) -> Standing
     requires { standing.steps < 9223372036854775808 }
     ensures { result ≡ keys.in_braces text.now standing standing.section }
@@ -155,7 +155,7 @@ fn in_braces(text: &[u8], standing: Standing) -> Standing
     }
 }
 
-// Behind a key.
+// After a key.
 fn behind_key(standing: Standing, key: (usize, usize)) -> Standing
     ensures { result ≡ keys.behind_key standing key }
 {
@@ -172,7 +172,7 @@ fn behind_key(standing: Standing, key: (usize, usize)) -> Standing
     }
 }
 
-// Behind what opens.
+// After what opens.
 fn opened(standing: Standing) -> Standing
     requires { standing.depth < 9223372036854775808 }
     ensures { result ≡ keys.bracket_opened standing }
@@ -183,7 +183,7 @@ fn opened(standing: Standing) -> Standing
     }
 }
 
-// Behind what closes.
+// After what closes.
 fn closed(standing: Standing) -> Standing
     ensures { result ≡ keys.bracket_closed standing }
 {
@@ -194,7 +194,7 @@ fn closed(standing: Standing) -> Standing
     }
 }
 
-// Behind the end of a line.
+// After the end of a line.
 fn behind_line(standing: Standing) -> Standing
     ensures { result ≡ keys.behind_line standing }
 {
@@ -204,7 +204,7 @@ fn behind_line(standing: Standing) -> Standing
     }
 }
 
-// Behind a bracket outside headings.
+// After a bracket outside headings.
 fn behind_bracket(standing: Standing) -> Standing
     requires { standing.depth < 9223372036854775808 }
     ensures { result ≡ (if keys.begins_heading standing then record standing { heading = Some 1 } else keys.bracket_opened standing) }
@@ -224,7 +224,7 @@ fn is_equals(kind: Kind) -> bool
     matches!(kind, Kind::Equals)
 }
 
-// Behind a word outside headings.
+// After a word outside headings.
 fn behind_word(standing: Standing, word: (usize, usize), next: Kind) -> Standing
     ensures { result ≡ (if keys.is_equals next then keys.behind_key standing word else standing) }
 {
@@ -234,7 +234,7 @@ fn behind_word(standing: Standing, word: (usize, usize), next: Kind) -> Standing
     standing
 }
 
-// Behind a piece outside headings.
+// After a piece outside headings.
 fn behind_other(text: &[u8], standing: Standing, token: Token, next: Kind) -> Standing
     requires steps { standing.steps < 9223372036854775808 }
     requires depth { standing.depth < 9223372036854775808 }
@@ -250,7 +250,7 @@ fn behind_other(text: &[u8], standing: Standing, token: Token, next: Kind) -> St
     }
 }
 
-/// Where the piece behind one stands, before one of the next kind.
+/// Where the piece after one is, before one of the next kind.
 #[tactic(auto, unfolding(crate::specs::Keys::behind))]
 pub fn behind(text: &[u8], standing: Standing, token: Token, next: Kind) -> Standing
     requires { CountsUpTo standing 9223372036854775807 }
@@ -273,7 +273,7 @@ fn key_section(standing: Standing) -> Section
     }
 }
 
-// What a piece of a heading tells.
+// What a piece of a heading says.
 fn head_entry(text: &[u8], standing: Standing, brackets: usize, token: Token) -> Entry
     requires { standing.steps < 9223372036854775808 }
     ensures { result ≡ keys.head_entry text.now standing brackets (token.from, token.to) token.kind }
@@ -288,7 +288,7 @@ fn head_entry(text: &[u8], standing: Standing, brackets: usize, token: Token) ->
     }
 }
 
-// What a word outside headings tells.
+// What a word outside headings says.
 fn word_entry(standing: Standing, word: (usize, usize), next: Kind) -> Entry
     ensures { result ≡ keys.other_entry standing word next Kind.Word }
 {
@@ -303,7 +303,7 @@ fn word_entry(standing: Standing, word: (usize, usize), next: Kind) -> Entry
     Entry::Goes(word)
 }
 
-// What a piece tells that may be of a value.
+// What a piece says that may be of a value.
 fn goes_if(is_value: bool, range: (usize, usize)) -> Entry
     ensures { result ≡ keys.goes_if is_value range }
 {
@@ -314,7 +314,7 @@ fn goes_if(is_value: bool, range: (usize, usize)) -> Entry
     }
 }
 
-// What a piece outside headings tells.
+// What a piece outside headings says.
 fn other_entry(standing: Standing, token: Token, next: Kind) -> Entry
     ensures { result ≡ keys.other_entry standing (token.from, token.to) next token.kind }
 {
@@ -327,7 +327,7 @@ fn other_entry(standing: Standing, token: Token, next: Kind) -> Entry
     }
 }
 
-/// What a piece tells, before one of the next kind.
+/// What a piece says, before one of the next kind.
 #[tactic(auto, unfolding(crate::specs::Keys::entry))]
 pub fn entry(text: &[u8], standing: Standing, token: Token, next: Kind) -> Entry
     requires { CountsUpTo standing 9223372036854775807 }

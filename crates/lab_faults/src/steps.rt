@@ -48,7 +48,7 @@ pub fn fault_of(number: usize) -> Fault
     Fault::Step(u32::try_from(number).unwrap_or(u32::MAX))
 }
 
-/// The first of some items that stands at a key.
+/// The first of some items that is at a key.
 pub fn item_at(text: &[u8], items: &[Item], key: &str) -> Option<Item>
     ensures { result ≡ steps.item_at text.now items.now key.now }
 {
@@ -219,7 +219,7 @@ fn note_all_missing(
     Ok(())
 }
 
-// Whether a value can't stand at its key.
+// Whether a value can't be at its key.
 fn is_misfit(
     alloc: Global,
     text: &[u8],
@@ -236,7 +236,7 @@ fn is_misfit(
     Ok(!fits_step(alloc, word, key, shown(text, item.value).as_bytes())?)
 }
 
-// What is said of a value that can't stand at its key.
+// What is said of a value that can't be at its key.
 #[tactic(auto, unfolding(crate::specs::Steps::misfit_text))]
 fn misfit_words(alloc: Global, number: usize, key: &str, value: &str) -> Result<String, AllocError>
     ensures { IfOk result (λ words. string_bytes words ≡ misfit_text number key.now value.now) }
@@ -245,7 +245,7 @@ fn misfit_words(alloc: Global, number: usize, key: &str, value: &str) -> Result<
     format!(in alloc; "step {number}: {key} = {value}: {want} is wanted")
 }
 
-// Notes a value that can't stand at its key.
+// Notes a value that can't be at its key.
 #[tactic(auto, unfolding(crate::specs::Steps::misfit_faults))]
 fn note_misfit(
     alloc: Global,
@@ -420,7 +420,7 @@ fn note_unread(
     finding.note(fault_of(number), at, words)
 }
 
-/// Where a step's first key stands.
+/// Where a step's first key is.
 pub fn first_byte(items: &[Item]) -> usize
     ensures { result ≡ steps.first_byte items.now }
 {

@@ -40,7 +40,7 @@ enum Reading {
     Comment,
 }
 
-// What a byte that stands alone is.
+// What a byte by itself is.
 fn mark(byte: u8) -> Option<Kind>
     ensures { result ≡ pieces.mark byte }
 {
@@ -89,7 +89,7 @@ fn end_word(tokens: &mut Vec<Token>, begun: Option<usize>, to: usize) -> Result<
     Ok(())
 }
 
-// Notes a byte that stands alone, where it is one.
+// Notes a byte that is by itself, where it is one.
 fn note_mark(tokens: &mut Vec<Token>, at: usize, byte: u8) -> Result<(), AllocError>
     requires { at < 9223372036854775808 }
     ensures { OnOk result (tokens.new.items ≡ tokens.old.items ++ token_marked at (pieces.mark byte)) }
@@ -124,7 +124,7 @@ fn read_mark(tokens: &mut Vec<Token>, at: usize, byte: u8) -> Result<Reading, Al
     Ok(Reading::Plain(None))
 }
 
-// Reads a byte that stands outside quotes and comments.
+// Reads a byte that is outside quotes and comments.
 fn read_plain(
     tokens: &mut Vec<Token>,
     begun: Option<usize>,

@@ -28,13 +28,16 @@ pub fn opening_keys() -> &'static [&'static str]
     &OPENING_KEYS
 }
 
-// The keys behind the first two.
+// The keys after the first two.
 fn behind_two(keys: &'static [&'static str]) -> &'static [&'static str]
     ensures { result.now ≡ drop 2 keys.now }
 {
     keys.get(2..).unwrap_or(&[])
 }
 
+// rule: The keys listed for a step's word are those that the reader accepts, without `do` and `who`; `tag`, `until` and
+//   `keep` are listed as optional (no clause says that they may be left out).
+//   clauses: keys_of; is_optional
 /// The keys of a step with this word, but for `do` and `who`; none where there is no such word.
 pub fn keys_of(word: &str) -> Option<&'static [&'static str]>
     ensures { option_map (λ keys. map (λ key. key.now) keys.now) result ≡ option_map (drop 2) (option_map keys_of (word_of word.now)) }
@@ -70,7 +73,7 @@ pub fn wanted(key: &str) -> &'static str
     }
 }
 
-/// A value that can stand at a key of a step.
+/// A value that can be at a key of a step.
 pub fn sample(key: &str) -> &'static [u8]
     ensures { result.now ≡ sample_text key.now }
 {

@@ -1,1 +1,3 @@
+mod NumberLaws
+mod RunLaws
 mod TextLaws

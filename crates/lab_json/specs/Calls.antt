@@ -17,7 +17,7 @@ use Rattle.lab_json.specs.declared.calls.Key.{Key}
 
 -- ---- keys
 
--- a name, a kind, and what stands for a key that is left out
+-- a name, a kind, and the value of a key that is left out
 abbrev pub KeyParts : Type 0
 KeyParts = List ℕ × (Kind × List ℕ)
 
@@ -96,6 +96,12 @@ refusals_json = codes "{\"refusals\": [" ++ (json_list true (map refusal_json to
 
 -- ---- all
 
+-- rule: The list of the calls has a line for each, in the list's order: its word, its keys with their defaults and
+--   kinds, and the forms of its answers; then the refusals. With a word it gives that call's line, and answers whether
+--   there is one.
+--   also: Calls.call_json
+--   clauses: write_calls; write_call_of: told, none, answers
+--   rows: a_call_has_its_keys_and_answers; each_call_has_a_line
 -- a line for each call, in the order of the list, and one for how each can be refused
 unfoldable pub calls_json : List ℕ
 calls_json = flat_map call_json words ++ refusals_json

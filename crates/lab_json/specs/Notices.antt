@@ -40,6 +40,11 @@ where_json said = named_json (codes "line") said.line ++ (named_json (codes "byt
 abbrev pub says_json : List ℕ → List ℕ
 says_json says = name_json (codes "says") ++ (json_text says ++ codes "}\n")
 
+-- rule: What is found in a file is a line: its kind, line, byte and step, each a number or null, and what is said.
+--   Faults are reported so in order; warnings, and what is judged of a step, by their lines without a file's name.
+--   also: Warned.{in_the_end, judged_said}
+--   clauses: write_notice; write_faults; write_warnings; write_judged
+--   rows: what_is_found_has_a_line
 -- the line of what is found in a file of this name
 abbrev pub notice_json : List ℕ → Said → List ℕ
 notice_json file said = head_json file said.kind ++ (where_json said ++ says_json said.says)

@@ -1,4 +1,4 @@
--- Texts and numbers of JSON, and what stands between values.
+-- Texts and numbers of JSON, and what is between values.
 use Rattle.std.specs.Prelude.{ℕ, Bool, false, List, [], ◌∷◌, ◌++◌, codes, decimal, if◌then◌else◌, Option, Some, None}
 use Rattle.serde_json.specs.Data.{string}
 use Rattle.serde_json.specs.Written.{compact_text}
@@ -7,11 +7,11 @@ use Rattle.serde_json.specs.Written.{compact_text}
 abbrev pub json_text : List ℕ → List ℕ
 json_text text = compact_text (string text)
 
--- what stands before each of several values but the first
+-- what is before each of several values but the first
 abbrev pub comma : Bool → List ℕ
 comma is_first = if is_first then [] else codes ", "
 
--- values one behind the other, with a comma and a space between
+-- values one after the other, with a comma and a space between
 abbrev pub json_list : Bool → List (List ℕ) → List ℕ
 json_list is_first [] = []
 json_list is_first (value ∷ values) = comma is_first ++ (value ++ json_list false values)

@@ -1,4 +1,4 @@
--- The warnings of a dry run, and what is judged of a step, as lines of JSON: by the lines that tell them of a text without a name.
+-- The warnings of a dry run, and what is judged of a step, as lines of JSON: by the lines that say them of a text without a name.
 use Rattle.std.specs.Prelude.{ℕ, Bool, List, codes, if◌then◌else◌, Option, None, option_and_then, unwrap_or}
 use Rattle.std.specs.Option.{option_map_or}
 use Rattle.evl_scenario.specs.Values.{around_space, past_front, text_number}
@@ -18,7 +18,7 @@ step_numbered text = option_and_then text_number (before_end (codes ":") text)
 abbrev pub without : List ℕ → List ℕ → List ℕ
 without front text = unwrap_or (past_front front text) text
 
--- by what stands behind `step`: its number, a colon and a blank, and then the warning
+-- by what comes after `step`: its number, a colon and a blank, and then the warning
 abbrev pub warned_said : List ℕ → Said
 warned_said text =
     option_map_or (λ parts. warning_said (step_numbered parts.0) (without (codes "warning: ") parts.1)) (around_space text) (warning_said None text)
@@ -36,7 +36,7 @@ warned_json file line = notice_json file (in_the_end line)
 abbrev pub without_end : List ℕ → List ℕ → List ℕ
 without_end end text = unwrap_or (before_end end text) text
 
--- the number behind `step` at the front, before a colon
+-- the number after `step` at the front, before a colon
 abbrev pub step_front : List ℕ → Option ℕ
 step_front text =
     option_and_then (λ rest. option_and_then (λ parts. step_numbered parts.0) (around_space rest)) (past_front (codes "step ") text)

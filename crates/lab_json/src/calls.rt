@@ -11,7 +11,7 @@ use crate::texts::put_comma;
 use evl_base::{Kind, Refusal, ReplyKind, StepWord, each_call, reply_kind};
 use std::alloc::AllocError;
 
-/// A key of a call: its name, its kind, and what stands for it where it is left out, as JSON.
+/// A key of a call: its name, its kind, and its value where it is left out, as JSON.
 #[derive(Clone, Copy)]
 pub(crate) struct Key {
     pub name: &'static str,
@@ -19,7 +19,7 @@ pub(crate) struct Key {
     pub default: &'static str,
 }
 
-/// What stands for a key that is left out.
+/// The value of a key that is left out.
 macro_rules! default {
     ($kind:ident) => { "null" };
     (Until $value:expr) => { "\"none\"" };

@@ -70,7 +70,7 @@ fn put_kind(json: &mut String, kind: Noticed) -> Result<(), AllocError>
     write!(json, ", \"kind\": \"{kind}\"")
 }
 
-// Writes a number behind its name.
+// Writes a number after its name.
 fn put_named(json: &mut String, name: &str, number: Option<u64>) -> Result<(), AllocError>
     ensures { OnOk result (string_bytes json.new ≡ string_bytes json.old ++ told.named_json name.now number) }
 {

@@ -1,4 +1,4 @@
-//! Texts and numbers of JSON, and what stands between values.
+//! Texts and numbers of JSON, and what is between values.
 ghost use Rattle.std.specs.Prelude.{◌≡◌, ◌++◌, OnOk, string_bytes};
 ghost use Rattle.lab_json.specs.Texts as told;
 ghost use Rattle.lab_json.specs.Texts.{json_text, name_json, number_json};
@@ -15,7 +15,7 @@ pub fn put_text(alloc: Global, json: &mut String, text: &str) -> Result<(), Allo
     json.push_str(quoted.as_str())
 }
 
-/// Writes what stands before the next of several values. `AllocError` where memory couldn't grow.
+/// Writes what is before the next of several values. `AllocError` where memory couldn't grow.
 pub fn put_comma(json: &mut String, is_first: bool) -> Result<(), AllocError>
     ensures { OnOk result (string_bytes json.new ≡ string_bytes json.old ++ told.comma is_first) }
 {

@@ -10,7 +10,7 @@ use evl_scenario::number_of_text;
 use lab_traces::{before, behind};
 use std::alloc::{AllocError, Global};
 
-// What stands before the first space, and what behind it.
+// What comes before the first space, and what after it.
 fn around_blank(text: &str) -> Option<(&str, &str)>
     ensures { option_map (λ parts. (parts.0.now, parts.1.now)) result ≡ around_space text.now }
 {
@@ -50,7 +50,7 @@ fn warning(step: Option<u64>, says: &str) -> Notice<'_>
     }
 }
 
-// A warning by what stands behind `step`.
+// A warning by what comes after `step`.
 fn warned_step(text: &str) -> Notice<'_>
     ensures { notice_said result ≡ warned_said text.now }
 {
@@ -120,7 +120,7 @@ fn without_end<'a>(end: &str, text: &'a str) -> &'a str
     }
 }
 
-// The number behind `step` at the front of a text, before a colon.
+// The number after `step` at the front of a text, before a colon.
 fn step_front(text: &str) -> Option<u64>
     ensures { result ≡ step_front text.now }
 {
@@ -163,7 +163,7 @@ fn judged(is_fault: bool, line: &str) -> Notice<'_>
     }
 }
 
-/// Writes a line of JSON for what is judged of a file's steps, by the line that tells it of a text without a name: its
+/// Writes a line of JSON for what is judged of a file's steps, by the line that says it of a text without a name: its
 /// line, its step, and what is said of it. `AllocError` where memory couldn't grow.
 pub fn write_judged(
     alloc: Global,

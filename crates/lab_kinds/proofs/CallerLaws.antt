@@ -7,7 +7,7 @@ use Rattle.lab_faults.specs.declared.items.Item.{Item}
 use Rattle.lab_faults.proofs.RunLaws.{runs_cut}
 use Rattle.lab_kinds.specs.Callers.{all_callers_step_faults, callers_step_faults}
 
--- those of the first run, and those behind it
+-- those of the first run, and those after it
 faults_on : (text : List ℕ) (items : List Item) → 0 < length items
     → all_callers_step_faults text items ≡ callers_step_faults text (take (run_length items) items) ++ all_callers_step_faults text (drop (run_length items) items)
 unfolding all_callers_step_faults

@@ -44,7 +44,7 @@ row_on s EndBrace next n h = omega (arith, h)
 row_on s Word next n h = row_word (is_equals next) (s.depth == 0) s n h
 row_on s _ next n h = omega (arith, h)
 
--- behind a piece both are one more at most
+-- after a piece both are one more at most
 pub counts_on : (s next : Braces) (kind after : Kind) (n : ℕ) → next ≡ behind_piece s kind after → s.depth ≤ n → s.row ≤ n
     → (next.depth ≤ n + 1) × (next.row ≤ n + 1)
 counts_on s next kind after n is depth row = rw is (depth_on s kind after n depth, row_on s kind after n row)

@@ -79,7 +79,7 @@ abbrev pub ends_wait : List ℕ → Bool
 ends_wait answer =
     ((bytes_eq answer (codes "done") || bytes_eq answer (codes "timed out")) || begins (codes "bits ") answer) || begins (codes "bytes ") answer
 
--- whoever asks for that may lack a step that ends its wait
+-- a user who asks for that may lack a step that ends its wait
 abbrev pub finish_text : List ℕ → List ℕ
 finish_text answer = if ends_wait answer then codes "; how a wait ends is the answer of its finish" else []
 
@@ -104,7 +104,7 @@ refusal_words text.Limit = Some (codes "more steps than the limit")
 
 -- ---- the fault
 
--- it is told at a line, or at the first one
+-- it is reported at a line, or at the first one
 abbrev pub told_on : Option ℕ → List ℕ → Told
 told_on line words = record { fault = scenario.Board; place = record { line = unwrap_or line 1; column = 1 }; words = words }
 

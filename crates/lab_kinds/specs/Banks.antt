@@ -24,19 +24,19 @@ use Rattle.lab_kinds.specs.declared.rows.Braces.{Braces}
 
 -- ---- the rows that keys stand in
 
--- the row of what stands within braces; 0 outside them
+-- the row of what is within braces; 0 outside them
 abbrev pub row_within : Braces → ℕ
 row_within s = if s.depth == 0 then 0 else s.row
 
--- the row behind a brace, which begins one outside all others
+-- the row after a brace, which begins one outside all others
 abbrev pub row_begun : Braces → ℕ
 row_begun s = if s.depth == 0 then s.row + 1 else s.row
 
--- behind a word: behind a key outside braces no row was begun
+-- after a word: after a key outside braces no row was begun
 abbrev pub behind_word : Braces → Kind → Braces
 behind_word s next = if is_equals next then record s { row = row_within s } else s
 
--- behind a piece before one of the next kind
+-- after a piece before one of the next kind
 abbrev pub behind_piece : Braces → Kind → Kind → Braces
 behind_piece s kind.Brace next = record { depth = s.depth + 1; row = row_begun s }
 behind_piece s kind.EndBrace next = record s { depth = s.depth - 1 }
@@ -147,6 +147,12 @@ abbrev pub BankFinds : List ℕ → BankFault → List Told → Type 0
 BankFinds text bank.Text faults = FindsText text faults
 BankFinds text fault faults = faults ≡ or_whole text fault (bank_faults text)
 
+-- rule: A bank has a fault exactly if it cannot be read: only that it is no TOML, else those of its headings and keys
+--   in order, or else of the first callback or row that cannot be read, at the heading or the row's first key. Braces
+--   since the last key outside them count a key's row.
+--   also: Banks.{bank_faults, fault_place, rows_of}
+--   clauses: check_bank
+--   rows: faults_of_a_bank_are_told
 -- a bank has none
 pub record BankTells (text : List ℕ) (faults : List Told) : Type 0 where
   pub read : is_ok (bank_of text) ≡ true → faults ≡ []

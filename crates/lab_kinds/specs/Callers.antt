@@ -32,7 +32,7 @@ module _ (text : List ℕ) where
   staxes_faults item =
       let value = text_between text item.value in if fits_staxes value then [] else told_at text Board item.value.0 (staxes_text value) ∷ []
 
-  -- of a key that stands in no step: those of a scenario, but for the limits of staxes
+  -- of a key that is in no step: those of a scenario, but for the limits of staxes
   unfoldable pub callers_item_faults : Item → List Told
   callers_item_faults item = if is_staxes item then staxes_faults item else item_faults text item
 
@@ -78,7 +78,7 @@ module _ (text : List ℕ) where
   callers_board_faults headings items =
       flat_map (heading_faults text) headings ++ (flat_map callers_item_faults items ++ threads_faults text headings items)
 
--- of the steps, and of the board and of what stands beside it too
+-- of the steps, and of the board and of what is beside it too
 abbrev pub faults_in_steps : List ℕ → List Told
 faults_in_steps text = all_callers_step_faults text (text_keys text)
 
@@ -102,5 +102,10 @@ pub record CallersTell (text : List ℕ) (fault : Fault) (faults : List Told) : 
 abbrev pub TellsRefused : List ℕ → List Told → Type 0
 TellsRefused text faults = (fault : Fault) × IsRefused None text fault × CallersTell text fault faults
 
+-- rule: A text of callers without fault is read as one. Its faults are those of the board with staxes and of the steps,
+--   of only the steps if it is refused for one, or the text's; the one for which it is refused comes first. A step of
+--   the kernel has its faults of a scenario.
+--   also: Callers.{CallersTell, callers_step_faults}
+--   clauses: check_callers
 abbrev pub TellsCallers : List ℕ → List Told → Type 0
 TellsCallers text faults = ((read : CallersText) × IsRead None text read × (faults ≡ [])) ⊎ TellsRefused text faults

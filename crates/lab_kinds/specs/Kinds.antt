@@ -68,6 +68,12 @@ module _ (text : List ℕ) where
   abbrev pub checked_in : List Heading → List Item → TextKind
   checked_in headings items = checked_as (kind_in headings items) (has_steps headings items)
 
+-- rule: Headings and keys give a text's kind: a callback makes a bank; set-up steps or what is asked a text for orders;
+--   staxes, or a word that only callers have, a text of callers; else it is a scenario. A text of callers with `lasts`
+--   or `[what_if]` is checked as one for orders.
+--   also: Kinds.checked_kind
+--   clauses: kind_of; checked_kind
+--   rows: nothing_is_told_of_texts_without_fault; texts_of_steps_are_checked_as_such
 -- of which kind a text is
 unfoldable pub kind_of : List ℕ → TextKind
 kind_of text = kind_in text (text_headings text) (text_keys text)

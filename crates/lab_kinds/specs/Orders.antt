@@ -86,7 +86,7 @@ caller_of text setup item =
 unfoldable pub callers_of : List ℕ → ℕ → List (List ℕ)
 callers_of text setup = flat_map (caller_of text setup) (text_keys text)
 
--- the answer behind an arrow, without the white space around either
+-- the answer after an arrow, without the white space around either
 abbrev pub behind_arrow : List ℕ → Option (List ℕ)
 behind_arrow text = option_map trim (past_front (codes "->") (trim_start text))
 
@@ -151,7 +151,7 @@ answer_faults text is_of_steps piece name (Some answer) =
 abbrev pub is_listed : ℕ × ℕ → Token → Bool
 is_listed value piece = is_word piece.kind && (nat_le value.0 piece.from && nat_le piece.to value.1)
 
--- a key that asks of moments stands without quotes
+-- a key that asks of moments is without quotes
 unfoldable pub quoted_text : List ℕ → List ℕ
 quoted_text key = codes "[ask]: " ++ (key ++ codes " is written without quotes")
 
@@ -238,6 +238,14 @@ pub record PartedTells (text scenario plain : List ℕ) (setup : ℕ) (asked own
 abbrev pub LinesTell : List ℕ → List Told → Type 0
 LinesTell text faults = PartedTells text (scenario_within text) (plain_within text) (setup_count text) (asked_within text) (unquestioned_within text) faults
 
+-- rule: A text for orders has the faults of the scenario (or of the text of callers) in it, each in its place, or else
+--   of steps set up below others and of what is asked (of callers' steps: the first facts that are no list on their
+--   line, or else what is asked but at moments), or that this is no TOML; where it has none, a text of whole calls can
+--   be asked for: `lab orders` reads its callers and what is asked of them, and each answer at `never` is one that a
+--   step of its caller can have; or that is its fault, at the line of its key, with a word on `finish` if waits end so.
+--   also: Orders.{LinesTell, scenario_within, asked_within, faults_of}; Plains.{unquestioned_within, open_question};
+--   Asking.AskedLast
+--   clauses: check_orders
 -- of bytes that may be no text
 pub record OrdersTell (text : List ℕ) (faults : List Told) : Type 0 where
   pub refused : is_utf8 text ≡ false → FindsText text faults

@@ -1,4 +1,4 @@
--- What is told of the faults of a text, by its kind.
+-- What is reported of the faults of a text, by its kind.
 use Rattle.std.specs.Prelude.{◌≡◌, ℕ, Bool, true, false, List, [], ◌∷◌, ◌++◌, map, None, Err, is_err, is_ok}
 use Rattle.evl_scenario.specs.Scenarios.{scenario_of}
 use Rattle.evl_scenario.specs.declared.faults.Fault.{Fault}
@@ -33,6 +33,9 @@ abbrev pub JudgesScenario : TextKind → List ℕ → Bool → Type 0
 JudgesScenario Scenario text answer = answer ≡ is_err (scenario_of None text)
 JudgesScenario _ text answer = Unit {0}
 
+-- rule: A report gains the lines of a text's faults by its kind, in order, and answers whether there is one.
+--   also: Reports.TellsKind
+--   clauses: report_kind
 -- their lines were added, and whether there is one is answered
 pub record Reports (kind : TextKind) (name text old new : List ℕ) (answer : Bool) : Type 0 where
   pub found : List Found

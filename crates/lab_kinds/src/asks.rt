@@ -88,7 +88,7 @@ fn caller_name(alloc: Global, who: &str) -> Result<String, AllocError>
     format!(in alloc; "T{who}")
 }
 
-// The answer behind an arrow.
+// The answer after an arrow.
 fn behind_arrow(text: &str) -> Option<&str>
     ensures { option_map (λ answer. answer.now) result ≡ orders.behind_arrow text.now }
 {
@@ -320,7 +320,7 @@ fn check_nevers(
     Ok(())
 }
 
-// What is said of a key that asks of moments and stands in quotes.
+// What is said of a key that asks of moments and is in quotes.
 #[tactic(auto, unfolding(crate::specs::Orders::quoted_text))]
 fn quoted_words(alloc: Global, key: &str) -> Result<String, AllocError>
     ensures { IfOk result (λ words. string_bytes words ≡ quoted_text key.now) }
@@ -351,7 +351,7 @@ fn check_step_key(alloc: Global, finding: &mut Finding<'_>, item: Item) -> Resul
     finding.note(Fault::Board, item.key.0, words)
 }
 
-// The same of callers' steps, or of whole calls.
+// As `check_step_key`, of callers' steps, or of whole calls.
 fn check_key(
     alloc: Global,
     finding: &mut Finding<'_>,

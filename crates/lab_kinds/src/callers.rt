@@ -42,7 +42,7 @@ fn check_staxes(alloc: Global, finding: &mut Finding<'_>, item: Item) -> Result<
     finding.note(Fault::Board, item.value.0, words)
 }
 
-// Notes the faults of a key that stands in no step.
+// Notes the faults of a key that is in no step.
 #[tactic(auto, unfolding(crate::specs::Callers::callers_item_faults))]
 fn check_own_item(alloc: Global, finding: &mut Finding<'_>, item: Item) -> Result<(), AllocError>
     ensures { OnOk result (Adds finding.old finding.new (callers_item_faults finding.old.text.now item)) }
@@ -66,7 +66,7 @@ fn check_own_items(
     Ok(())
 }
 
-// Notes the faults of the board and of what stands beside it.
+// Notes the faults of the board and of what is beside it.
 #[tactic(auto, unfolding(crate::specs::Callers::callers_board_faults))]
 fn check_own_board(
     alloc: Global,
@@ -224,7 +224,7 @@ fn check_own_steps(
     Ok(())
 }
 
-// The faults of the board, of what stands beside it, and of the steps.
+// The faults of the board, of what is beside it, and of the steps.
 fn found_in_board(alloc: Global, text: &[u8]) -> Result<Vec<Found>, AllocError>
     ensures { IfOk result (λ found. map fault_told found.items ≡ callers.faults_in_all text.now) }
 {

@@ -34,7 +34,7 @@ fn is_opening(section: Section) -> bool
     matches!(section, Section::Opening)
 }
 
-/// Whether a key stands above all headings, and has this name.
+/// Whether a key is above all headings, and has this name.
 pub fn is_top(text: &[u8], name: &str, item: Item) -> bool
     ensures { result ≡ kinds.is_top text.now name.now item }
 {

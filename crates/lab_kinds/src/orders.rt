@@ -70,7 +70,7 @@ fn found_mixed(alloc: Global, text: &[u8]) -> Result<Vec<Found>, AllocError>
     Ok(found)
 }
 
-// Behind faults that were found those of what is asked of these callers.
+// After faults that were found those of what is asked of these callers.
 fn found_asked(
     alloc: Global,
     asked: &[u8],

@@ -125,7 +125,7 @@ fn ends_wait(answer: &str) -> bool
         || begins(b"bytes ", answer.as_bytes())
 }
 
-// What is said to whoever may lack a step that ends its wait.
+// What is said to a user who may lack a step that ends its wait.
 fn finish_text(answer: &str) -> &'static str
     ensures { result.now ≡ asking.finish_text answer.now }
 {

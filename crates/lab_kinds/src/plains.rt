@@ -11,7 +11,7 @@ use crate::parts::{begins, lines_of};
 use lab_scenario_orders::{is_asked, is_setup, past};
 use std::alloc::{AllocError, Global};
 
-/// A line without the comment behind it and the spaces around it.
+/// A line without the comment after it and the spaces around it.
 pub fn bare(line: &str) -> &str
     ensures { result.now ≡ splits.bare line.now }
 {
@@ -59,7 +59,7 @@ pub fn is_what_if(was: bool, line: &str) -> bool
     }
 }
 
-// What stands behind an equals sign.
+// What comes after an equals sign.
 fn behind_equals(text: &str) -> Option<&str>
     ensures { option_map (λ value. value.now) result ≡ option_map trim (past_front (codes "=") (trim text.now)) }
 {
@@ -132,7 +132,7 @@ pub fn plain_in(alloc: Global, lines: &[&str]) -> Result<String, AllocError>
     Ok(text)
 }
 
-// What stands before the first `=`, and what behind it.
+// What comes before the first `=`, and what after it.
 fn around_equals(text: &str) -> Option<(&str, &str)>
     ensures { option_map (λ parts. (parts.0.now, parts.1.now)) result ≡ keys.around_equals text.now }
 {

@@ -1,4 +1,4 @@
-//! What is told of the faults of a text, by its kind.
+//! What is reported of the faults of a text, by its kind.
 ghost use Rattle.std.specs.Prelude.{◌≡◌, IfOk, None, is_err, map, string_bytes};
 ghost use Rattle.lab_kinds.specs.Reports.{JudgesScenario, Reports, ScenarioTells, TellsKind, is_some_found};
 ghost use Rattle.evl_scenario.specs.Scenarios.{scenario_of};
@@ -39,7 +39,7 @@ fn is_some_found(found: &[Found]) -> bool
     !matches!(found, [])
 }
 
-/// Writes a line for each fault of a text of this kind that a file of this name holds, behind a report, and answers
+/// Writes a line for each fault of a text of this kind that a file of this name holds, after a report, and answers
 /// whether there is one. `AllocError` where memory couldn't grow; what the report holds then isn't known.
 pub fn report_kind(
     alloc: Global,

@@ -25,14 +25,14 @@ fn kind_at(pieces: &[Token], index: usize) -> Kind
     }
 }
 
-// The row of what stands within braces; 0 outside them.
+// The row of what is within braces; 0 outside them.
 fn row_within(braces: Braces) -> usize
     ensures { result ≡ banks.row_within braces }
 {
     if braces.depth == 0 { 0 } else { braces.row }
 }
 
-// The row behind a brace, which begins one outside all others.
+// The row after a brace, which begins one outside all others.
 fn row_begun(braces: Braces) -> usize
     requires { braces.row < 9223372036854775808 }
     ensures { result ≡ banks.row_begun braces }
@@ -50,7 +50,7 @@ fn is_equals(kind: Kind) -> bool
     matches!(kind, Kind::Equals)
 }
 
-// Behind a word before a piece of the next kind.
+// After a word before a piece of the next kind.
 fn behind_word(braces: Braces, next: Kind) -> Braces
     ensures { result ≡ banks.behind_word braces next }
 {
@@ -63,7 +63,7 @@ fn behind_word(braces: Braces, next: Kind) -> Braces
     braces
 }
 
-// Behind a piece before one of the next kind.
+// After a piece before one of the next kind.
 fn behind_piece(braces: Braces, kind: Kind, next: Kind) -> Braces
     requires depth { braces.depth < 9223372036854775808 }
     requires row { braces.row < 9223372036854775808 }
@@ -117,7 +117,7 @@ fn rows_in(alloc: Global, pieces: &[Token]) -> Result<Vec<usize>, AllocError>
     Ok(rows)
 }
 
-/// The row that each key of a text stands in, from 1; 0 outside braces. `AllocError` where the list couldn't grow.
+/// The row that each key of a text is in, from 1; 0 outside braces. `AllocError` where the list couldn't grow.
 #[tactic(auto, unfolding(crate::specs::Banks::rows_of))]
 pub fn rows_of(alloc: Global, text: &[u8]) -> Result<Vec<usize>, AllocError>
     ensures { IfOk result (λ rows. rows.items ≡ rows_of text.now) }

@@ -222,7 +222,7 @@ fn is_name(text: &[u8]) -> bool
     1 <= text.len() && text.len() <= 32 && are_letters(text)
 }
 
-// Whether a value stands in quotes.
+// Whether a value is in quotes.
 fn is_quoted(value: &[u8]) -> bool
     ensures { result ≡ (is_within 34 value.now || is_within 39 value.now) }
 {

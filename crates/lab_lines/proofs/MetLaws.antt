@@ -1,4 +1,4 @@
--- What is told of the first step that is not answered as expected.
+-- What is said of the first step that is not answered as expected.
 use Rattle.std.proofs.Common.{◌≡◌, List, Option, Some, None, Result, IfOk, find, refl, subst}
 use Rattle.evl_scenario.specs.declared.steps.Step.{Step}
 use Rattle.lab_traces.specs.Entries.{EntryParts}

@@ -11,7 +11,7 @@ last_lengthened to [] last = refl
 last_lengthened to (pair ∷ []) last = refl
 last_lengthened to (pair ∷ next ∷ others) last = ap (λ (ps : List Pair). pair ∷ ps) (last_lengthened to (next ∷ others) last)
 
--- a word that is a key: its pair comes behind the others
+-- a word that is a key: its pair comes after the others
 module _ (line : List ℕ) (word : Part) (at : ℕ) (is : equals_in line word ≡ Some at) (rest : List Part) where
   -- the value before it goes no further
   ends : (end : ℕ) → value_end line end (word ∷ rest) ≡ end
@@ -41,7 +41,7 @@ module _ (line : List ℕ) (word : Part) (none : equals_in line word ≡ None) (
   value_more (pair ∷ next ∷ []) = ap (λ (ps : List Pair). pair ∷ ps) (value_more (next ∷ []))
   value_more (pair ∷ next ∷ another ∷ others) = ap (λ (ps : List Pair). pair ∷ ps) (value_more (next ∷ another ∷ others))
 
--- with no words behind them they are as they are
+-- with no words after them they are as they are
 all_pairs : (line : List ℕ) (pairs : List Pair) → with_rest line pairs [] ≡ pairs
 all_pairs line [] = refl
 all_pairs line (pair ∷ []) = refl

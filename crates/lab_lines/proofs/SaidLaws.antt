@@ -5,7 +5,7 @@ use Rattle.lab_lines.specs.Texts.{said_in, said_of_plain, said_of_words}
 use Rattle.lab_lines.specs.declared.places.Part.{Part}
 use Rattle.lab_lines.specs.declared.says.Says.{Says}
 
--- three parts behind nothing
+-- three parts after nothing
 pub three_parts : (text first second all a b c : List ℕ) → text ≡ [] → first ≡ text ++ a → second ≡ first ++ b → all ≡ second ++ c → all ≡ a ++ (b ++ c)
 three_parts text first second all a b c none one two three =
     three ∙ ap (λ (l : List ℕ). l ++ c) (two ∙ ap (λ (l : List ℕ). l ++ b) (one ∙ ap (λ (l : List ℕ). l ++ a) none)) ∙ append_assoc a b c

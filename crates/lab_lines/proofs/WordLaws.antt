@@ -21,7 +21,7 @@ empty at = not_true (nat_lt at (at + 0)) (λ yes. omega (arith, ltb-true at (at 
 some : (at more : ℕ) → nat_lt at (at + suc more) ≡ true
 some at more = lt-ltb at (at + suc more) (omega arith)
 
--- what a byte makes of the words that are left, by the pieces behind it
+-- what a byte makes of the words that are left, by the pieces after it
 step_pieces : (begun : Option ℕ) (at c : ℕ) (space : Bool) (first : List ℕ) (more : List (List ℕ))
     → ended_word begun at space ++ left_pieces (begun_then begun at space) (at + 1) (first ∷ more)
     ≡ left_pieces begun at (cond space ([] ∷ first ∷ more) (onto_first c (first ∷ more)))
@@ -62,7 +62,7 @@ words_on line at begun now old new less before more goes =
     ∙ ap (λ (ws : List Part). old ++ ws) (step_cut c begun at (c == 32) rest (slice_split (λ c. c == 32) rest) refl)
     ∙ ap (λ (bytes : List ℕ). old ++ left_words begun at bytes) (sym (drop_more line at 0 less)) ∙ before
 
--- behind the last byte the word ends that has begun
+-- after the last byte, the word that has begun ends
 pub words_end : (begun : Option ℕ) (at : ℕ) → left_words begun at [] ≡ ended_word begun at true
 words_end None at = ap (λ (b : Bool). cond b (part at (at + 0) ∷ []) []) (empty at)
 words_end (Some from) at = let zero : at + 0 ≡ at = omega arith in ap (λ (n : ℕ). part from n ∷ []) zero

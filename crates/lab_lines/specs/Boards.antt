@@ -1,4 +1,4 @@
--- The line of a board and the line of a limit as the small scenarios that they stand for.
+-- The line of a board and the line of a limit as the small scenarios that they mean.
 use Rattle.std.specs.Prelude.{ℕ, zero, suc, ◌==◌, nat_le, Bool, ◌||◌, List, [], ◌++◌, codes, flat_map, length, if◌then◌else◌, Option, Some, None, option_and_then}
 use Rattle.std.specs.List.{slice_split}
 use Rattle.std.specs.Str.{bytes_eq, is_utf8, trim}

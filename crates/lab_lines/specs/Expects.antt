@@ -9,12 +9,12 @@ use Rattle.lab_lines.specs.Tables.{Expects, expects_of_tables}
 use Rattle.lab_lines.specs.Texts.{is_play, is_word}
 use Rattle.lab_lines.specs.declared.places.Part.{Part}
 
--- ---- a text of lines: behind a call an arrow and an answer
+-- ---- a text of lines: after a call an arrow and an answer
 
 abbrev pub is_comment : List ℕ → Part → Bool
 is_comment line word = slice_index_or (bytes_at line word) 0 0 == 35
 
--- the words behind an arrow, if these begin with one
+-- the words after an arrow, if these begin with one
 abbrev pub behind_arrow : List ℕ → List Part → List Part
 behind_arrow line [] = []
 behind_arrow line (first ∷ rest) = if bytes_eq (bytes_at line first) (codes "->") then rest else []
@@ -24,14 +24,14 @@ abbrev pub from_word : List Part → Option ℕ → List Part
 from_word words None = []
 from_word words (Some at) = drop at words
 
--- the words of the answer: those behind the arrow, up to a comment
+-- the words of the answer: those after the arrow, up to a comment
 abbrev pub before_comment : List ℕ → List Part → List Part
 before_comment line words = up_to_word words (position (is_comment line) words)
 
 abbrev pub answer_words : List ℕ → List Part → List Part
 answer_words line words = before_comment line (behind_arrow line (from_word words (position (ends_said line) words)))
 
--- what stands from the first of some words to the end of the last
+-- what is from the first of some words to the end of the last
 abbrev pub spanned_by : List ℕ → Option Part → Option Part → List ℕ
 spanned_by line (Some first) (Some last) = bytes_at line (record { from = first.from; to = last.to })
 spanned_by line _ _ = []
@@ -71,7 +71,7 @@ abbrev pub line_expects : Bool → ℕ → ℕ → List ℕ → List Expects
 line_expects setup step number line =
     if is_of setup (asks (unquoted line)) then expected_at number step (answer_of (unquoted line)) else []
 
--- the number of the next step behind a line
+-- the number of the next step after a line
 abbrev pub next_step : Bool → ℕ → List ℕ → ℕ
 next_step setup step line = if is_of setup (asks (unquoted line)) then step + 1 else step
 
@@ -91,6 +91,12 @@ expects_of_lines all = lines_expect true 1 1 all ++ lines_expect false (step_beh
 
 -- ---- a text
 
+-- rule: A text's expected answers are a function of its bytes: for each step at most an answer per key `expect`, or the
+--   text from the arrow up to a comment, with its line; first of the steps that are set up. It is refused only for the
+--   first `expect` whose value is no answer in quotes, with its line and step, or for want of memory.
+--   also: Tables.IsFaultOf
+--   clauses: read_expected: read, refused
+--   rows: an_answer_stands_in_quotes; answers_are_expected
 -- what a text expects; or the line and the step of the first `expect` that has no answer
 abbrev pub expects_of : List ℕ → Result (List Expects) (ℕ × ℕ)
 expects_of text = if is_lines text then Ok (expects_of_lines (lines text)) else expects_of_tables text

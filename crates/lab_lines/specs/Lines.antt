@@ -1,4 +1,4 @@
--- The line of a call as the small scenario that it stands for.
+-- The line of a call as the small scenario that it means.
 use Rattle.std.specs.Prelude.{ℕ, ◌+◌, ◌-◌, ◌==◌, nat_le, nat_lt, Bool, false, not, ◌&&◌, ◌||◌, List, [], ◌∷◌, ◌++◌, codes, decimal, drop, length, filter, find, flat_map, position, slice_get, slice_index_or, slice_range, string_bytes, take, if◌then◌else◌, Option, Some, None, is_some, option_map, Result, Ok, Err}
 use Rattle.std.specs.Char.{is_ascii_alphanumeric}
 use Rattle.std.specs.List.{list_all, list_any, slice_split}
@@ -20,11 +20,11 @@ use Rattle.lab_lines.specs.declared.places.Part.{Part}
 abbrev pub without : ℕ → ℕ → List ℕ → List ℕ
 without first second bytes = filter (λ c. not (c == first || c == second)) bytes
 
--- quotes may stand in a line, around a value, and say nothing
+-- quotes may be in a line, around a value, and say nothing
 abbrev pub unquoted : List ℕ → List ℕ
 unquoted line = without 34 34 line
 
--- a byte that can't stand in a line: a control, one above ASCII, or a backslash
+-- a byte that can't be in a line: a control, one above ASCII, or a backslash
 abbrev pub is_odd : ℕ → Bool
 is_odd c = not (nat_le 32 c && nat_le c 126) || c == 92
 
@@ -34,7 +34,7 @@ bytes_at line part = if nat_le part.from part.to && nat_le part.to (length line)
 
 -- ---- its words
 
--- pieces one behind the other, with a byte between, each as the part from its first byte on
+-- pieces one after the other, with a byte between, each as the part from its first byte on
 abbrev pub pieces_from : ℕ → List (List ℕ) → List Part
 pieces_from at [] = []
 pieces_from at (piece ∷ rest) = record { from = at; to = at + length piece } ∷ pieces_from (at + length piece + 1) rest
@@ -42,7 +42,7 @@ pieces_from at (piece ∷ rest) = record { from = at; to = at + length piece } �
 abbrev pub has_bytes : Part → Bool
 has_bytes part = nat_lt part.from part.to
 
--- what stands between spaces, from a byte on
+-- what is between spaces, from a byte on
 abbrev pub words_from : ℕ → List ℕ → List Part
 words_from at line = filter has_bytes (pieces_from at (slice_split (λ c. c == 32) line))
 
@@ -64,7 +64,7 @@ up_to_word words (Some at) = take at words
 abbrev pub said_words : List ℕ → List Part
 said_words line = up_to_word (words_of line) (position (ends_said line) (words_of line))
 
--- in one of these words stands a byte that can't
+-- one of these words has a byte that can't be in a line
 abbrev pub has_odd : List ℕ → List Part → Bool
 has_odd line words = list_any (λ word. is_some (position is_odd (bytes_at line word))) words
 
@@ -79,7 +79,7 @@ abbrev pub is_numbered : List ℕ → List Part → Bool
 is_numbered line [] = false
 is_numbered line (first ∷ rest) = is_number (bytes_at line first)
 
--- the words behind the number of an entry, if they begin with one
+-- the words after the number of an entry, if they begin with one
 abbrev pub past_number : List ℕ → List Part → List Part
 past_number line words = if is_numbered line words then drop 1 words else words
 
@@ -89,7 +89,7 @@ past_number line words = if is_numbered line words then drop 1 words else words
 abbrev pub equals_in : List ℕ → Part → Option ℕ
 equals_in line word = option_map (λ at. word.from + at) (position (λ c. c == 61) (bytes_at line word))
 
--- the end of a value that these words stand behind: it goes up to the next key
+-- the end of a value after which these words come: it goes up to the next key
 abbrev pub value_end : List ℕ → ℕ → List Part → ℕ
 value_end line end [] = end
 value_end line end (word ∷ rest) = if is_some (equals_in line word) then end else value_end line word.to rest
@@ -97,7 +97,7 @@ value_end line end (word ∷ rest) = if is_some (equals_in line word) then end e
 abbrev pub pair_around : ℕ → ℕ → ℕ → Pair
 pair_around from equals end = record { key = record { from = from; to = equals }; value = record { from = equals + 1; to = end } }
 
--- a pair, if the word is a key, before those of the words behind it
+-- a pair, if the word is a key, before those of the words after it
 abbrev pub pair_before : Part → ℕ → List Pair → Option ℕ → List Pair
 pair_before word end pairs None = pairs
 pair_before word end pairs (Some equals) = pair_around word.from equals end ∷ pairs
@@ -120,7 +120,7 @@ is_key_byte c = is_ascii_alphanumeric c || c == 95
 abbrev pub is_plain_key : List ℕ → Bool
 is_plain_key key = not (length key == 0) && list_all is_key_byte key
 
--- where the first key stands that isn't plain
+-- where the first key is that isn't plain
 abbrev pub odd_key : List ℕ → List Pair → Option Part
 odd_key line pairs = option_map (λ pair. pair.key) (find (λ pair. not (is_plain_key (bytes_at line pair.key))) pairs)
 
@@ -136,14 +136,14 @@ quoted_line key value = key ++ (codes " = \"" ++ (value ++ codes "\"\n"))
 abbrev pub is_truth : List ℕ → Bool
 is_truth value = bytes_eq value (codes "true") || bytes_eq value (codes "false")
 
--- a truth value stands without quotes, and where the line has a dash for bytes there are none
+-- a truth value is without quotes, and where the line has a dash for bytes there are none
 abbrev pub pair_line : List ℕ → List ℕ → List ℕ
 pair_line key value =
     if bytes_eq key (codes "keep") && is_truth value then bare_line key value
     else if bytes_eq key (codes "bytes") && bytes_eq value (codes "-") then quoted_line key []
     else quoted_line key value
 
--- the line of a key with its value that stand in a line
+-- the line of a key with its value, which are in a line
 abbrev pub pair_line_of : List ℕ → Pair → List ℕ
 pair_line_of line pair = pair_line (bytes_at line pair.key) (bytes_at line pair.value)
 
@@ -197,6 +197,10 @@ step_of_said line words = if has_odd line words then None else step_of_words lin
 unfoldable pub step_of_plain : List ℕ → Option Step
 step_of_plain line = step_of_said line (said_words line)
 
+-- rule: A line's step, if any, is a function of its bytes: the last step of the small scenario that its words make up
+--   to a comment or an arrow. A number before the thread, and quotes, say nothing.
+--   clauses: read_step_line
+--   rows: lines_are_answered; lines_mean_scenarios
 -- the step that a line asks for, if it can be read
 abbrev pub step_of_line : List ℕ → Option Step
 step_of_line line = step_of_plain (unquoted line)
@@ -206,7 +210,7 @@ abbrev pub heard_step : Heard → Option Step
 heard_step (Asked step) = Some step
 heard_step (NotRead unread) = None
 
--- why a line can't be read, as it is told
+-- why a line can't be read, as it is reported
 abbrev pub unread_text : Unread → List ℕ
 unread_text unread = codes "! " ++ (decimal unread.column ++ (codes ": " ++ (string_bytes unread.words ++ line_feed)))
 
@@ -244,7 +248,7 @@ lengthened to [] = []
 lengthened to (pair ∷ []) = up_to to pair ∷ []
 lengthened to (pair ∷ next ∷ others) = pair ∷ lengthened to (next ∷ others)
 
--- pairs with those of the words behind them, up to the first key of which the value of the last one goes
+-- pairs with those of the words after them, up to the first key of which the value of the last one goes
 abbrev pub with_rest : List ℕ → List Pair → List Part → List Pair
 with_rest line [] rest = pairs_of line rest
 with_rest line (pair ∷ []) rest = up_to (value_end line pair.value.to rest) pair ∷ pairs_of line rest

@@ -36,7 +36,7 @@ fronts kind.Chosen = codes "thread" ∷ []
 fronts kind.Handed = codes "next" ∷ []
 fronts kind.Outcome = codes "done" ∷ codes "timed" ∷ codes "bits" ∷ codes "bytes" ∷ []
 
--- the refusals that stand in a trace
+-- the refusals that are in a trace
 abbrev pub told_refusals : List Refusal
 told_refusals = HistoryFull ∷ Unknown ∷ Invalid ∷ Again ∷ Busy ∷ NotOwner ∷ Deadlock ∷ Limit ∷ Range ∷ TooBig ∷ WrongStage ∷ []
 
@@ -83,7 +83,7 @@ answer_at entries e = option_map (λ parts. parts.answer) (slice_get entries (e.
 abbrev pub is_unmet : List EntryParts → Expected → Bool
 is_unmet entries e = not (option_map_or (λ answer. bytes_eq answer (string_bytes e.answer)) (answer_at entries e) false)
 
--- ---- what is told
+-- ---- what is reported
 
 -- the words that may be meant by an answer that can't be
 abbrev pub plain_answers : List (List ℕ)
@@ -113,7 +113,7 @@ abbrev pub unmet_words : Expected → List ℕ → List ℕ
 unmet_words e answer =
     codes "step " ++ (decimal e.step ++ (codes ": " ++ (string_bytes e.answer ++ (codes " is expected, " ++ (answer ++ codes " is answered")))))
 
--- what is told of something that can never be answered
+-- what is reported of something that can never be answered
 pub record TellsNever (steps : List Step) (e : Expected) (told : Unexpected) : Type 0 where
   pub fault : told.is_fault ≡ true
   pub line : told.line ≡ e.line
@@ -125,7 +125,7 @@ pub record TellsUnmet (entries : List EntryParts) (e : Expected) (told : Unexpec
   pub line : told.line ≡ e.line
   pub words : string_bytes told.words ≡ unmet_words e (unwrap_or (answer_at entries e) (codes "nothing"))
 
--- The first step of which something impossible is expected is told; if there is none, the first that is answered otherwise.
+-- The first step of which something impossible is expected is reported; else the first that is answered otherwise.
 abbrev pub JudgesMet : List EntryParts → Option Expected → Option Unexpected → Type 0
 JudgesMet entries None told = told ≡ None
 JudgesMet entries (Some e) told = IsSomeAnd told (TellsUnmet entries e)
@@ -134,5 +134,9 @@ abbrev pub JudgesBy : List Step → List EntryParts → List Expected → Option
 JudgesBy steps entries expected None told = JudgesMet entries (find (is_unmet entries) expected) told
 JudgesBy steps entries expected (Some e) told = IsSomeAnd told (TellsNever steps e)
 
+-- rule: The reported step is the first one with an expected answer that is no refusal and begins as none of its call's
+--   kind; else the first whose entry has another answer; else none.
+--   clauses: first_unexpected
+--   rows: the_first_unexpected_answer_is_told
 abbrev pub Judges : List Step → List EntryParts → List Expected → Option Unexpected → Type 0
 Judges steps entries expected told = JudgesBy steps entries expected (find (is_impossible steps) expected) told

@@ -25,16 +25,16 @@ expects_in e = record { line = e.line; step = e.step; answer = string_bytes e.an
 abbrev pub keys_of : List ℕ → List Item
 keys_of text = if nat_le (length text) 1048576 then text_keys text else []
 
--- the step in which a key stands, 0 of none
+-- the step in which a key is, 0 of none
 abbrev pub number_in : Item → ℕ
 number_in item = number_of item.section
 
--- a key `expect` that stands in a step
+-- a key `expect` that is in a step
 abbrev pub is_expect : List ℕ → Item → Bool
 is_expect text item =
     bytes_eq (unquoted (bytes_between text item.key)) (codes "expect") && not (number_in item == 0)
 
--- a byte that can stand in an answer: none of the quotes, and none that can't stand in a line
+-- a byte that can be in an answer: none of the quotes, and none that can't be in a line
 abbrev pub is_answer_byte : ℕ → Bool
 is_answer_byte byte = not (is_odd byte || (byte == 34 || byte == 39))
 
@@ -88,7 +88,7 @@ is_white byte = byte == 32 || (byte == 9 || (byte == 13 || byte == 10))
 abbrev pub rest_of : List ℕ → ℕ → List ℕ
 rest_of text at = drop at text
 
--- the end of what stands from a byte on up to a comma, with it, where only white bytes stand before that; or else that byte
+-- the end of what is from a byte on up to a comma, with it, where only white bytes are before that; or else that byte
 abbrev pub comma_end : ℕ → List ℕ → ℕ → ℕ
 comma_end at rest white = if slice_index_or rest white 0 == 44 then at + white + 1 else at
 
@@ -99,7 +99,7 @@ past_comma text at = comma_end at (rest_of text at) (prefix_len is_white (rest_o
 abbrev pub blanks : List ℕ → ℕ → ℕ → List ℕ
 blanks text from to = map blank_byte (bytes_between text (from, to))
 
--- a text from a byte on, with blanks in place of each key `expect`, its value, and the comma behind it
+-- a text from a byte on, with blanks in place of each key `expect`, its value, and the comma after it
 abbrev pub blanked_from : List ℕ → ℕ → List Item → List ℕ
 blanked_from text at [] = drop at text
 blanked_from text at (item ∷ rest) =

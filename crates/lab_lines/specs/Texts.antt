@@ -52,11 +52,11 @@ opened_limit (Err e) = unread
 abbrev pub board_of_pairs : List ℕ → List Pair → Said
 board_of_pairs line pairs = if is_some (odd_key line pairs) then unread else opened_board (scenario_of None (board_text line pairs))
 
--- the words behind `board` are keys with values
+-- the words after `board` are keys with values
 abbrev pub board_said : List ℕ → List Part → Said
 board_said line rest = if is_some (odd_word line rest) then unread else board_of_pairs line (pairs_of line rest)
 
--- behind `limit` is one word
+-- after `limit` is one word
 abbrev pub limit_said : List ℕ → List Part → Said
 limit_said line (value ∷ []) = opened_limit (scenario_of None (limit_text (bytes_at line value)))
 limit_said line _ = unread
@@ -78,7 +78,7 @@ said_by line (first ∷ rest) =
     else if is_word line first (codes "setup") then said_as setup (step_of_words line rest)
     else said_as step (step_of_words line (past_number line (first ∷ rest)))
 
--- a play of a trace: behind two blanks one of these words
+-- a play of a trace: after two blanks one of these words
 abbrev pub is_play : List ℕ → List Part → Bool
 is_play line [] = false
 is_play line (first ∷ rest) =
@@ -121,7 +121,7 @@ abbrev pub and_then : {A B : Type 0} → ℕ → (A → Result B ℕ) → Option
 and_then number go None = Err number
 and_then number go (Some x) = go x
 
--- what lines say, of which the first has this number, behind what was said; or the number of the first that can't be added
+-- what lines say, of which the first has this number, after what was said; or the number of the first that can't be added
 abbrev pub gathered : ℕ → Gathered → List (List ℕ) → Result Gathered ℕ
 gathered number g [] = Ok g
 gathered number g (line ∷ rest) = and_then number (λ next. gathered (number + 1) next rest) (with_said g (said_of line))
@@ -150,6 +150,12 @@ pub record MeansLines (all : List (List ℕ)) (meant : Meant) : Type 0 where
   pub gathers : gathered 1 nothing_said all ≡ Ok said
   pub means : MeansSaid said meant
 
+-- rule: A text of lines means the board of one line, the limit of a line `limit`, else of the board's line, and its
+--   steps, those set up first. The scenario written of it is read as exactly this. A number for a list means so many
+--   plain elements.
+--   also: Texts.said_of; Boards.board_text
+--   clauses: read_lines: means
+--   rows: lines_mean_scenarios; steps_that_are_set_up_have_their_heading
 -- of a text of lines: each of them can be read
 pub record Means (text : List ℕ) (meant : Meant) : Type 0 where
   pub is_text : is_utf8 text ≡ true
@@ -182,6 +188,11 @@ IsRefusedLines all e =
     ⊎ (((number : ℕ) × IsAt number e × (gathered 1 nothing_said all ≡ Err number))
     ⊎ ((said : Gathered) × (gathered 1 nothing_said all ≡ Ok said) × IsUnsaid said e))
 
+-- rule: A text of lines is refused only if it is not UTF-8, for its first line that cannot be read or says board or
+--   limit again (with its number), if no line says a board that a scenario can have, if the scenario would be too long,
+--   or for want of memory.
+--   clauses: read_lines: refused
+--   rows: lines_are_refused_at_their_places; lines_need_a_board
 -- or the bytes are no UTF-8
 abbrev pub IsRefused : List ℕ → LinesFault → Type 0
 IsRefused text e = ((e ≡ fault.Text) × (is_utf8 text ≡ false)) ⊎ ((is_utf8 text ≡ true) × IsRefusedLines (lines text) e)

@@ -41,6 +41,12 @@ lines_text script = board_line script ++ flat_map step_line script.steps
 abbrev pub MeansScript : List ℕ → Script → Type 0
 MeansScript text script = (meant : Meant) × Means text meant × (scenario_of None (string_bytes meant.scenario) ≡ Ok script)
 
+-- rule: A scenario is written as the board with the limit and a line for each step, or with a table for each step;
+--   either means exactly its board, limit and steps when read again. None is written if the text is no scenario, if
+--   with tables it would be too long, or if the lines would mean something else.
+--   also: Writings.{lines_text, IsTables, IsUnlined}
+--   clauses: write_lines: refused, written; write_tables: written
+--   rows: scenarios_are_written_as_lines
 -- a text was written of this scenario, and means just this
 pub record IsWritten (scenario : Script) (text : List ℕ) : Type 0 where
   pub is_text : text ≡ lines_text scenario

@@ -162,7 +162,7 @@ fn read_pairs(alloc: Global, line: &[u8], pairs: &[Pair]) -> Result<Says, AllocE
     }
 }
 
-/// What the words behind `board` say. `AllocError` where memory couldn't grow.
+/// What the words after `board` say. `AllocError` where memory couldn't grow.
 pub fn read_board(alloc: Global, line: &[u8], rest: &[Part]) -> Result<Says, AllocError>
     ensures { IfOk result (λ says. said_in says ≡ board_said line.now rest.now) }
 {
@@ -200,7 +200,7 @@ fn no_limit(alloc: Global, at: usize) -> Result<Says, AllocError>
     )?))
 }
 
-// What the small scenario of a limit says, whose value stands at a byte.
+// What the small scenario of a limit says, whose value is at a byte.
 fn read_limit_text(alloc: Global, text: &[u8], at: usize) -> Result<Says, AllocError>
     ensures { IfOk result (λ says. said_in says ≡ opened_limit (scenario_of None text.now)) }
 {
@@ -214,7 +214,7 @@ fn read_limit_text(alloc: Global, text: &[u8], at: usize) -> Result<Says, AllocE
     }
 }
 
-/// What the words behind `limit` say. `AllocError` where memory couldn't grow.
+/// What the words after `limit` say. `AllocError` where memory couldn't grow.
 pub fn read_limit(alloc: Global, line: &[u8], rest: &[Part]) -> Result<Says, AllocError>
     ensures { IfOk result (λ says. said_in says ≡ limit_said line.now rest.now) }
 {

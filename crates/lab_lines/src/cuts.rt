@@ -1,4 +1,4 @@
-//! What of a line is said: without quotes, before a comment and an answer, and behind the number of an entry.
+//! What of a line is said: without quotes, before a comment and an answer, and after the number of an entry.
 ghost use Rattle.std.specs.Prelude.{◌≡◌, IfOk, drop, is_some, position};
 ghost use Rattle.std.specs.List.{list_all};
 ghost use Rattle.lab_lines.specs.Lines as lines;
@@ -27,7 +27,7 @@ pub fn unquoted(alloc: Global, line: &[u8]) -> Result<Vec<u8>, AllocError>
     without(alloc, line, b'"', b'"')
 }
 
-/// The byte of a line at which a byte of the line without quotes stands; both count from 1.
+/// The byte of a line at which a byte of the line without quotes is; both count from 1.
 pub fn column_in(line: &[u8], column: usize) -> usize {
     let mut left = column;
     for (at, byte) in line.iter().enumerate() {
@@ -56,7 +56,7 @@ pub fn end_of(line: &[u8], words: &[Part]) -> Option<usize>
     words.iter().position(|word| is_end(line, *word))
 }
 
-/// Those of a line's words that stand before a comment and an answer.
+/// Those of a line's words that are before a comment and an answer.
 pub fn said_of<'a>(line: &[u8], words: &'a [Part]) -> &'a [Part]
     ensures { result.now ≡ up_to_word words.now (position (ends_said line.now) words.now) }
 {
@@ -66,21 +66,21 @@ pub fn said_of<'a>(line: &[u8], words: &'a [Part]) -> &'a [Part]
     }
 }
 
-// Whether a byte can't stand in a line.
+// Whether a byte can't be in a line.
 fn is_odd(byte: u8) -> bool
     ensures { result ≡ lines.is_odd byte }
 {
     !(32 <= byte && byte <= 126) || byte == b'\\'
 }
 
-// The first byte that can't stand in a line.
+// The first byte that can't be in a line.
 fn odd_in(bytes: &[u8]) -> Option<usize>
     ensures { result ≡ position lines.is_odd bytes.now }
 {
     bytes.iter().position(|byte| is_odd(*byte))
 }
 
-/// The first byte of these words that can't stand in a line.
+/// The first byte of these words that can't be in a line.
 pub fn odd_byte(line: &[u8], words: &[Part]) -> Option<usize>
     ensures { is_some result ≡ has_odd line.now words.now }
 {
@@ -123,14 +123,14 @@ fn is_numbered(line: &[u8], words: &[Part]) -> bool
     }
 }
 
-/// The words behind the first.
+/// The words after the first.
 pub fn behind_first(words: &[Part]) -> &[Part]
     ensures { result.now ≡ drop 1 words.now }
 {
     words.get(1..).unwrap_or(&[])
 }
 
-/// The words behind the number of an entry, if they begin with one.
+/// The words after the number of an entry, if they begin with one.
 pub fn past_number<'a>(line: &[u8], words: &'a [Part]) -> &'a [Part]
     ensures { result.now ≡ lines.past_number line.now words.now }
 {

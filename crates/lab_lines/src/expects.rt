@@ -24,7 +24,7 @@ fn is_comment(line: &[u8], word: Part) -> bool
     bytes_at(line, word).first().copied().unwrap_or(0) == b'#'
 }
 
-// The words behind an arrow, if these begin with one.
+// The words after an arrow, if these begin with one.
 fn behind_arrow<'a>(line: &[u8], words: &'a [Part]) -> &'a [Part]
     ensures { result.now ≡ behind_arrow line.now words.now }
 {
@@ -65,7 +65,7 @@ fn before_comment<'a>(line: &[u8], words: &'a [Part]) -> &'a [Part]
     }
 }
 
-// What stands from the first of some words to the end of the last.
+// What is from the first of some words to the end of the last.
 fn spanned<'a>(line: &'a [u8], words: &[Part]) -> &'a [u8]
     ensures { result.now ≡ spanned line.now words.now }
 {
@@ -135,7 +135,7 @@ fn is_of(setup: bool, asks: Option<bool>) -> bool
     }
 }
 
-// Puts what is expected of a step behind others.
+// Puts what is expected of a step after others.
 fn put_expected(
     alloc: Global,
     all: &mut Vec<Expected>,
@@ -157,7 +157,7 @@ fn put_expected(
     Ok(())
 }
 
-// Puts what a line expects behind others, and answers the number of the next step.
+// Puts what a line expects after others, and answers the number of the next step.
 fn put_line(
     alloc: Global,
     all: &mut Vec<Expected>,
@@ -181,7 +181,7 @@ fn put_line(
     Ok(step + 1)
 }
 
-// Puts what lines expect behind others, and answers the number of the next step.
+// Puts what lines expect after others, and answers the number of the next step.
 fn put_lines(
     alloc: Global,
     all: &mut Vec<Expected>,
@@ -234,7 +234,7 @@ fn expected_in_bytes(alloc: Global, text: &[u8]) -> Result<Vec<Expected>, Expect
     }
 }
 
-/// What a text expects its steps to be answered, by step: in a text of lines what stands behind ` -> ` and a call, in
+/// What a text expects its steps to be answered, by step: in a text of lines what comes after ` -> ` and a call, in
 /// one of tables the keys `expect` of steps. `NoAnswer` where such a key has no answer in quotes.
 pub fn read_expected(alloc: Global, text: &[u8]) -> Result<Vec<Expected>, ExpectFault>
     ensures read { IfOk result (λ all. expects_of text.now ≡ Ok (map expects_in all.items)) }

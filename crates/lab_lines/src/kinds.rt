@@ -1,4 +1,4 @@
-//! Which texts are texts of lines, and what stands for one in a program that reads scenarios.
+//! Which texts are texts of lines, and what takes the place of one in a program that reads scenarios.
 ghost use Rattle.std.specs.Prelude.{◌≡◌, ◌++◌, IfErr, IfOk, OnOk, drop, map, string_bytes, true};
 ghost use Rattle.std.specs.Str.Lines.{lines};
 ghost use Rattle.evl_scenario.specs.Lines.{line_feed};
@@ -13,7 +13,7 @@ use crate::tables::unexpecting;
 use crate::texts::{LinesFault, Meant, lines_of, read_lines, text_of};
 use std::alloc::{AllocError, Global};
 
-// The bytes behind the first.
+// The bytes after the first.
 fn past_letter(word: &[u8]) -> &[u8]
     ensures { result.now ≡ drop 1 word.now }
 {

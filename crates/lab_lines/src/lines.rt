@@ -37,14 +37,14 @@ pub fn unread_at(alloc: Global, at: usize, words: &str) -> Result<Unread, AllocE
     })
 }
 
-// Whether a byte can stand in a key.
+// Whether a byte can be in a key.
 fn is_key_byte(byte: u8) -> bool
     ensures { result ≡ lines.is_key_byte byte }
 {
     byte.is_ascii_alphanumeric() || byte == b'_'
 }
 
-// Whether all bytes can stand in a key.
+// Whether all bytes can be in a key.
 fn has_key_bytes(key: &[u8]) -> bool
     ensures { result ≡ list_all lines.is_key_byte key.now }
 {
@@ -85,7 +85,7 @@ fn place_of(small_line: usize, word: Part, thread: Part, pairs: &[Pair]) -> usiz
     }
 }
 
-/// What is told of a step that can't be read, without the step's number, which is that of the small scenario.
+/// What is reported of a step that can't be read, without the step's number, which is that of the small scenario.
 pub fn told_of(words: &str) -> &str {
     words.strip_prefix("step 1: ").unwrap_or(words)
 }
@@ -207,7 +207,7 @@ fn read_thread(
     }
 }
 
-// The words behind the first two.
+// The words after the first two.
 fn behind_two(words: &[Part]) -> &[Part]
     ensures { result.now ≡ drop 2 words.now }
 {

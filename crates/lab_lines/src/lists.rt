@@ -26,7 +26,7 @@ fn few(count: u64) -> Option<u64>
     if count <= 64 { Some(count) } else { None }
 }
 
-// How many elements there are, where a number stands in place of a list.
+// How many elements there are, where a number is in place of a list.
 fn count_of(value: &[u8]) -> Option<u64>
     ensures { result ≡ boards.count_of value.now }
 {

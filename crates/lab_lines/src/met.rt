@@ -64,7 +64,7 @@ fn fronts(kind: ReplyKind) -> &'static [&'static str]
     }
 }
 
-// What stands before the first blank, and what behind it.
+// What is before the first blank, and what is after it.
 fn around_blank(text: &str) -> Option<(&str, &str)>
     ensures { option_map (λ parts. (parts.0.now, parts.1.now)) result ≡ around_space text.now }
 {
@@ -103,7 +103,7 @@ fn has_name(all: &[Refusal], text: &str) -> bool
     all.iter().any(|refusal| refusal.name() == text)
 }
 
-// Whether a text is the name of a refusal that stands in a trace.
+// Whether a text is the name of a refusal that is in a trace.
 fn is_refusal(text: &str) -> bool
     ensures { result ≡ is_refusal text.now }
 {
@@ -168,7 +168,7 @@ fn first_impossible<'a>(steps: &[Step], expected: &'a [Expected]) -> Option<&'a 
     None
 }
 
-// Puts the entry that a line of a trace is behind others.
+// Puts the entry of a line of a trace after others.
 fn put_entry<'a>(all: &mut Vec<EntryLine<'a>>, line: &'a str) -> Result<(), AllocError>
     ensures { OnOk result (map parts_of all.new.items ≡ map parts_of all.old.items ++ entry_in (line_read line.now)) }
 {
@@ -341,7 +341,7 @@ fn unmet_words(alloc: Global, expected: &Expected, answer: &str) -> Result<Strin
     format!(in alloc; "step {number}: {wanted} is expected, {answer} is answered")
 }
 
-// Tells what can never be answered.
+// Reports what can never be answered.
 fn tell_never(alloc: Global, steps: &[Step], one: &Expected) -> Result<Unexpected, AllocError>
     ensures { IfOk result (TellsNever steps.now one.now) }
 {
@@ -353,7 +353,7 @@ fn tell_never(alloc: Global, steps: &[Step], one: &Expected) -> Result<Unexpecte
     })
 }
 
-// Tells what is answered otherwise.
+// Reports what is answered otherwise.
 fn tell_unmet(
     alloc: Global,
     entries: &[EntryLine<'_>],
@@ -369,7 +369,7 @@ fn tell_unmet(
     })
 }
 
-// Tells the first that is answered otherwise, if there is one.
+// Reports the first that is answered otherwise, if there is one.
 #[tactic(auto, using(crate::proofs::MetLaws::met_told, crate::proofs::MetLaws::met_none))]
 fn judge_met(
     alloc: Global,
@@ -384,7 +384,7 @@ fn judge_met(
     }
 }
 
-// The same of a trace.
+// Reports the first of a trace that is answered otherwise.
 fn judge_trace(
     alloc: Global,
     expected: &[Expected],

@@ -1,4 +1,4 @@
-//! Where the parts of a line stand.
+//! Where the parts of a line are.
 ghost use Rattle.std.specs.Prelude.{◌≡◌, ◌<◌, ◌==◌, ◌++◌, ◌∷◌, [], List, IfOk, IfSome, OnOk, position};
 ghost use Rattle.lab_lines.specs.Lines as lines;
 ghost use Rattle.lab_lines.specs.Lines.{begun_then, ended_word, lengthened, pair_around, pairs_of, with_rest, words_of};
@@ -27,7 +27,7 @@ pub fn bytes_at(line: &[u8], part: Part) -> &[u8]
     line.get(part.from..part.to).unwrap_or(&[])
 }
 
-// The place at which a word goes on behind one more byte, and a word more where that ends it.
+// The place at which a word goes on after one more byte, and a word more where that ends it.
 fn step_over(
     words: &mut Vec<Part>,
     begun: Option<usize>,
@@ -47,7 +47,7 @@ fn step_over(
     }
 }
 
-/// The words of a line: what stands between spaces. `AllocError` where the list couldn't grow.
+/// The words of a line: what is between spaces. `AllocError` where the list couldn't grow.
 pub fn words_in(alloc: Global, line: &[u8]) -> Result<Vec<Part>, AllocError>
     ensures { IfOk result (λ words. words.items ≡ words_of line.now) }
 {

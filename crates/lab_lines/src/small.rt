@@ -1,11 +1,11 @@
-//! The small scenario that a line stands for: one step, each of its keys on a line of its own.
+//! The small scenario that a line means: one step, each of its keys on a line of its own.
 ghost use Rattle.std.specs.Prelude.{◌≡◌, ◌++◌, IfOk, OnOk, flat_map};
 ghost use Rattle.lab_lines.specs.Lines.{bare_line, pair_line, pair_line_of, quoted_line, small_text};
 
 use crate::places::{Pair, Part, bytes_at};
 use std::alloc::{AllocError, Global};
 
-/// The line of the small scenario on which the step's word stands; that of its thread follows, and then those of its
+/// The line of the small scenario on which the step's word is; that of its thread follows, and then those of its
 /// keys.
 pub const WORD_LINE: usize = 4;
 

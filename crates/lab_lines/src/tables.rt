@@ -41,14 +41,14 @@ fn keys_in(alloc: Global, text: &[u8]) -> Result<Vec<Item>, AllocError>
     }
 }
 
-// Whether a key is `expect`, and stands in a step.
+// Whether a key is `expect`, and is in a step.
 fn is_expect(text: &[u8], item: Item) -> bool
     ensures { result ≡ is_expect text.now item }
 {
     bare(slice(text, item.key)) == b"expect".as_slice() && !(number_of(item.section) == 0)
 }
 
-// Whether a byte can stand in an answer.
+// Whether a byte can be in an answer.
 fn is_answer_byte(byte: u8) -> bool
     ensures { result ≡ tables.is_answer_byte byte }
 {
@@ -62,7 +62,7 @@ fn are_of_answer(bytes: &[u8]) -> bool
     bytes.iter().all(|byte| is_answer_byte(*byte))
 }
 
-// Whether a value stands in quotes.
+// Whether a value is in quotes.
 fn is_quoted(value: &[u8]) -> bool
     ensures { result ≡ tables.is_quoted value.now }
 {
@@ -162,7 +162,7 @@ fn spot_at(text: &[u8], before: Spot, at: usize) -> Spot
     }
 }
 
-// Puts what a key expects behind others, and answers the spot of the last such key.
+// Puts what a key expects after others, and answers the spot of the last such key.
 fn put_expected(
     alloc: Global,
     all: &mut Vec<Expected>,
@@ -266,7 +266,7 @@ fn is_white(byte: u8) -> bool
     byte == b' ' || byte == b'\t' || byte == b'\r' || byte == b'\n'
 }
 
-// How many such bytes stand in front.
+// How many such bytes are in front.
 fn white_front(bytes: &[u8]) -> usize
     ensures { result ≡ prefix_len tables.is_white bytes.now }
 {
@@ -278,7 +278,7 @@ fn white_front(bytes: &[u8]) -> usize
     bytes.len()
 }
 
-// The end of a comma behind a byte, or that byte.
+// The end of a comma after a byte, or that byte.
 fn past_comma(text: &[u8], at: usize) -> usize
     ensures { result ≡ past_comma text.now at }
 {
@@ -291,7 +291,7 @@ fn past_comma(text: &[u8], at: usize) -> usize
     }
 }
 
-// Puts a text up to a key, and blanks in place of the key, if it is `expect`; what stands behind it is still to be put.
+// Puts a text up to a key, and blanks in place of the key, if it is `expect`; what comes after it is still to be put.
 fn put_without(out: &mut Vec<u8>, text: &[u8], at: usize, item: Item) -> Result<usize, AllocError>
     ensures { IfOk result (λ next. (rest : List Key) → out.new.items ++ blanked_from text.now next rest ≡ out.old.items ++ blanked_from text.now at (item ∷ rest)) }
 {
@@ -317,7 +317,7 @@ fn without_expected(alloc: Global, text: &[u8], keys: &[Item]) -> Result<Vec<u8>
     Ok(out)
 }
 
-/// The scenario in a text of tables: blanks stand in place of what it expects, so each byte is at its place.
+/// The scenario in a text of tables: blanks are in place of what it expects, so each byte is at its place.
 /// `AllocError` where memory couldn't grow.
 #[tactic(auto, unfolding(crate::specs::Tables::unexpecting))]
 pub fn unexpecting(alloc: Global, text: &[u8]) -> Result<Vec<u8>, AllocError>

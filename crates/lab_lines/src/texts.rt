@@ -97,7 +97,7 @@ fn add_limit(gathering: &mut Gathering, limit: u32) -> Result<(), Unadded>
     }
 }
 
-// Adds a step behind others.
+// Adds a step after others.
 fn add_step(steps: &mut Vec<Entry>, step: Step) -> Result<(), Unadded>
     ensures added { OnOk result (map step_of_entry steps.new.items ≡ map step_of_entry steps.old.items ++ step ∷ []) }
     ensures refused { IfErr result (λ e. e ≡ Unadded.Memory) }
@@ -214,7 +214,7 @@ fn write_steps(
     }
 }
 
-// Steps, and others behind them.
+// Steps, and others after them.
 fn joined(mut first: Vec<Entry>, mut others: Vec<Entry>) -> Result<Vec<Entry>, LinesFault>
     ensures joined { IfOk result (λ all. all.items ≡ first.items ++ others.items) }
     ensures refused { IfErr result (λ e. e ≡ LinesFault.Memory) }

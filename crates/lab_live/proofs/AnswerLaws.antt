@@ -1,4 +1,4 @@
--- What a line is answered, behind what was told before.
+-- The answer to a line, after what was printed before.
 use Rattle.std.proofs.Common.{inl, inr, ◌≡◌, ◌≢◌, ◌∙◌, ◌-◌, ◌++◌, ℕ, List, [], codes, length, Option, Some, None, is_some, option_map, Result, Ok, Err, OnOk, append-nil, refl, subst, ap}
 use Rattle.std.specs.List.{slice_get}
 use Rattle.std.specs.Option.{option_map_or}
@@ -13,7 +13,7 @@ use Rattle.lab_live.specs.Answers.{Answers, Does, GoesOn, Makes, MayGoOn, TellsS
 use Rattle.lab_live.specs.Sessions.{Driven, MayEnter, MayTakeBack, TakesBack, TellsEntry, TellsFull, all_but_last}
 use Rattle.lab_live.proofs.TellingLaws.{newest}
 
--- a step that was told has gone on, or found the history full
+-- a step whose lines were printed has gone on, or found the history full
 pub goes_on : {T E : Type 0} (r : Result T E) (old new : Driven) (step : Step) (before after : List ℕ)
     → OnOk r (length old.history.entries ≢ old.limit → TellsEntry old.history new.history step before after)
     → OnOk r (length old.history.entries ≡ old.limit → TellsFull old new step before after) → OnOk r (GoesOn old new before after)
@@ -52,7 +52,7 @@ pub limit_back : (old new : Driven) → MayTakeBack old new → new.limit ≡ ol
 limit_back old new (inl same) = ap (λ (d : Driven). d.limit) same
 limit_back old new (inr back) = back.limit
 
--- it was told which call that was
+-- the answer says which call that was
 pub undoes : (old new : Driven) (start own before after : List ℕ) → start ≡ []
     → own ≡ start ++ option_map_or undone_text (slice_get old.history.entries (length old.history.entries - 1)) [] → after ≡ before ++ own → TakesBack old new → Undoes old new before after
 undoes old new start own before after none is told back =
@@ -104,7 +104,7 @@ pub does_none : {T E : Type 0} (r : Result T E) (old new : Driven) (asked : Opti
 does_none (Err e) old new asked before after none same = tt
 does_none (Ok done) old new asked before after none same = subst (λ (o : Option Step). Does old new o before after) none same
 
--- ---- lines of their own, which then were told behind a text
+-- ---- lines of their own, which then were printed after a text
 
 pub answered : (old new : Driven) (start lines before after : List ℕ) → start ≡ [] → GoesOn old new start lines → after ≡ before ++ lines → Answers old new before after
 answered old new start lines before after none goes told = record {

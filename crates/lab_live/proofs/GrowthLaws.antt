@@ -12,14 +12,14 @@ use Rattle.evl_scenario.specs.Traces.{entry_lines, history_trace, lines_behind}
 use Rattle.evl_scenario.specs.declared.steps.Step.{Step}
 use Rattle.lab_live.specs.Sessions.{Driven, TellsEntry, TellsTrace}
 
--- what plays stand behind an entry's own
+-- the plays after an entry's own
 behind : (own others plays : List Play) (count : ℕ) → plays ≡ own ++ others → count ≡ length own → (take count plays ≡ own) × (drop count plays ≡ others)
 behind own others plays count split counted = (
   ap (take count) split ∙ ap (λ (n : ℕ). take n (own ++ others)) counted ∙ take-append_seam own others,
   ap (drop count) split ∙ ap (λ (n : ℕ). drop n (own ++ others)) counted ∙ drop-append_seam own others,
 )
 
--- the lines of entries with one more behind are their lines, and those of that one with its own plays
+-- the lines of entries with one more after them are their lines, and those of that one with its own plays
 lines_grow : (count : ℕ) (from to : State) (entries : List Entry) (plays : List Play) (entry : Entry) (own : List Play)
     → Run from entries plays to → entry.plays ≡ length own
     → lines_behind count (entries ++ entry ∷ []) (plays ++ own) ≡ lines_behind count entries plays ++ entry_lines (count + length entries + 1) entry own
@@ -55,7 +55,7 @@ trace_grows board limit old new entry own legal counted entries plays =
     ∙ sym (append_assoc first (lines_behind 0 old.entries old.plays) (entry_lines (0 + length old.entries + 1) entry own))
     ∙ ap (λ (n : ℕ). (first ++ lines_behind 0 old.entries old.plays) ++ entry_lines n entry own) number
 
--- whoever tells of the entry that came tells by what the trace grew
+-- the lines of the entry that came are those by which the trace grew
 tells_trace : (old new : Driven) (step : Step) (before after : List ℕ) → new.board ≡ old.board → new.limit ≡ old.limit → IsLegal old.history
     → TellsEntry old.history new.history step before after → TellsTrace old new before after
 tells_trace old new step before after board limit legal tells = record {
@@ -65,7 +65,7 @@ tells_trace old new step before after board limit legal tells = record {
       ∙ trace_grows old.board old.limit old.history new.history tells.entry tells.plays legal tells.counted tells.entries_are tells.plays_are;
 }
 
--- whether or not something was told
+-- whether or not something was printed
 pub tells_trace_on : {T E : Type 0} (r : Result T E) (Applies : Type 0) (old new : Driven) (step : Step) (before after : List ℕ) → new.board ≡ old.board → new.limit ≡ old.limit
     → IsLegal old.history → OnOk r (Applies → TellsEntry old.history new.history step before after) → OnOk r (Applies → TellsTrace old new before after)
 tells_trace_on (Ok done) Applies old new step before after board limit legal tells = λ applies. tells_trace old new step before after board limit legal (tells applies)

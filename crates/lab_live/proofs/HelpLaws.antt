@@ -19,7 +19,7 @@ forms_by_name : (some : List StepWord) → flat_map form_named (map name_of some
 forms_by_name [] = refl
 forms_by_name (word ∷ rest) = λ i. form_by_name word i ++ forms_by_name rest i
 
--- what is told of all names is told of the list
+-- what is printed of all names is the text of all forms
 pub all_forms : {T E : Type 0} (r : Result T E) (names : List (List ℕ)) (before after : List ℕ) → names ≡ map name_of words
     → OnOk r (after ≡ before ++ flat_map form_named names) → OnOk r (after ≡ before ++ forms_text)
 unfolding forms_text

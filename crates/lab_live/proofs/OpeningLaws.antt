@@ -32,7 +32,7 @@ is_driven board own bank limit first now same opened keeps = record {
   sound = subst AreSound (sym (keeps.bank ∙ opened.bank_is)) (sound_plans bank);
 }
 
--- whoever opens a kernel has few callbacks
+-- a kernel that was opened has few callbacks
 second_of : (a b c : Bool) → ((a && b && c) ≡ false → ⊥) → b ≡ true
 second_of true true c h = refl
 second_of true false c h = absurd (h refl)

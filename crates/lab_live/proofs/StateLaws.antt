@@ -11,11 +11,11 @@ use Rattle.lab_live.specs.Sessions.{Driven}
 use Rattle.lab_live.specs.States.{numbers_below, is_none, mutex_line, pending_end, pending_next, pending_so_far, pending_text, rest_text, stage_line, state_text, thread_line, timer_line}
 use Rattle.lab_live.specs.Wholes.{date_line, flags_line, sem_line, whole_text, whole_thread, xbuf_line}
 
--- what is told behind what was told behind a text
+-- what is printed after what was printed after a text
 pub behind : (before mid after xs ys : List ℕ) → mid ≡ before ++ xs → after ≡ mid ++ ys → after ≡ before ++ (xs ++ ys)
 behind before mid after xs ys first more = more ∙ ap (λ (m : List ℕ). m ++ ys) first ∙ append_assoc before xs ys
 
--- what is told in four parts
+-- what is printed in four parts
 pub behind_three : (text first second third all a b c d : List ℕ) → first ≡ text ++ a → second ≡ first ++ b → third ≡ second ++ c → all ≡ third ++ d
     → all ≡ text ++ (a ++ (b ++ (c ++ d)))
 behind_three text first second third all a b c d one two three four =
@@ -69,7 +69,7 @@ pub pending_same : (passes : ℕ → Bool) (line : ℕ) → passes line ≡ fals
 pending_same passes line not =
     kept_more passes line ∙ ap (λ (ls : List ℕ). filter passes (numbers_below line) ++ ls) (none_kept passes line not) ∙ append-nil (filter passes (numbers_below line))
 
--- what is told with one line more
+-- what is printed with one line more
 pub so_far_more : (lines : List ℕ) (line : ℕ) → pending_so_far (lines ++ line ∷ []) ≡ pending_so_far lines ++ pending_next (is_none lines) line
 so_far_more [] line = ap (λ (t : List ℕ). codes ", pending " ++ t) (append-nil (decimal line))
 so_far_more (first ∷ others) line =
@@ -89,7 +89,7 @@ pub pending_all : (lines : List ℕ) → pending_so_far lines ++ pending_end (is
 pending_all [] = refl
 pending_all (first ∷ others) = append_assoc (codes ", pending ") (join_by decimal (codes " ") (first ∷ others)) line_feed
 
--- a line that is pending was told
+-- a line that is pending was printed
 pub told_more : (passes : ℕ → Bool) (line : ℕ) (quiet : Bool) (first now next : List ℕ) → passes line ≡ true
     → now ≡ first ++ pending_so_far (filter passes (numbers_below line)) → quiet ≡ is_none (filter passes (numbers_below line))
     → next ≡ now ++ pending_next quiet line → next ≡ first ++ pending_so_far (filter passes (numbers_below (line + 1)))

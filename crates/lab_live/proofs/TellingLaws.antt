@@ -1,4 +1,4 @@
--- What is told of the newest entry of a history.
+-- What is printed of the newest entry of a history.
 use Rattle.std.proofs.Common.{◌≡◌, ◌∙◌, ℕ, ◌-◌, List, [], ◌∷◌, ◌++◌, length, drop, Some, sym, ap, arith}
 use Rattle.std.specs.List.{slice_get}
 use Rattle.std.proofs.Math.Seq.{get_or-append_seam, drop-append_seam}
@@ -20,7 +20,7 @@ newest before entry =
     ∙ slice_get-get_or (before ++ entry ∷ []) (length before) entry (omega (arith, count))
     ∙ ap (λ (e : Entry). Some e) (get_or-append_seam before entry [] entry)
 
--- who tells of the last entry of a list tells of the one that it ends with
+-- the lines of the last entry of a list are those of the entry that the list ends with
 pub newest_told : (entries : List Entry) (last : Entry) (number : ℕ) (own plays : List Play) (told after : List ℕ)
     → number ≡ length entries → slice_get entries (length entries - 1) ≡ Some last → own ≡ plays → after ≡ told ++ entry_lines number last own
     → (before : List Entry) (entry : Entry) → entries ≡ before ++ entry ∷ [] → after ≡ told ++ entry_lines (length entries) entry plays
@@ -29,7 +29,7 @@ newest_told entries last number own plays told after n at same is before entry e
     let one : last ≡ entry = cc in
     is ∙ (λ i. told ++ entry_lines (n i) (one i) (same i))
 
--- whoever tells of the newest entry, with the plays from an index on, tells of the step that was entered, with its own plays
+-- the lines of the newest entry, with the plays from an index on, are those of the step that was entered, with its own plays
 pub tells : (old new : History) (step : Step) (from : ℕ) (before after : List ℕ) → Enters old step new → from ≡ length old.plays
     → ((b : List Entry) (e : Entry) → new.entries ≡ b ++ e ∷ [] → after ≡ before ++ entry_lines (length new.entries) e (drop from new.plays))
     → TellsEntry old new step before after

@@ -32,7 +32,7 @@ pub some_entries : {A : Type 0} (xs : List A) → false ≡ (length xs == 0) →
 some_entries [] is none = cc
 some_entries (x ∷ xs) is none = cc
 
--- a run of entries with one behind is a run of those, and the step of that one
+-- a run of entries with one more after them is a run of those, and the step of that one
 run_split : (old new : State) (entries : List Entry) (last : Entry) (plays : List Play) → Run old (entries ++ last ∷ []) plays new
     → (before : List Play) × (own : List Play) × (mid : State) × (plays ≡ before ++ own) × Run old entries before mid × EntryStep mid last own new
 run_split old new [] last plays (own, rest, mid, split, step, (none, same)) =

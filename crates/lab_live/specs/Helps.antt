@@ -11,7 +11,7 @@ use Rattle.lab_faults.specs.Wants.{wanted_text}
 
 -- ---- forms
 
--- a value that can stand at a key of a line
+-- a value that a key of a line can have
 unfoldable pub sample_text : List ℕ → List ℕ
 sample_text key =
     if bytes_eq key (codes "line") then codes "5"
@@ -43,6 +43,12 @@ form_text word keys = codes "T0 " ++ (word ++ (flat_map key_text keys ++ line_fe
 abbrev pub form_line : StepWord → List ℕ
 form_line word = form_text (name_of word) (map (λ key. key.name) (fields_of word))
 
+-- rule: `?` and `help` print the forms of all calls and the notes, `? WORD` the call's form and what is wanted at each
+--   of its keys, or that there is no such call. A form is one line, in the order of the list of calls: `T0`, the word,
+--   and each key with a value, in brackets if it may be left out.
+--   also: Helps.{help_text, word_help}
+--   clauses: answer_line: help, sign, word; write_forms; write_call_of
+--   rows: each_form_is_read; help_tells_what_keys_take
 -- the forms of all calls, in the order of the list
 unfoldable pub forms_text : List ℕ
 forms_text = flat_map form_line words
@@ -72,7 +78,7 @@ word_help word = if is_some (word_of word) then call_help word else codes "! 3: 
 
 -- ---- all
 
--- what is told beside the forms
+-- what is reported beside the forms
 unfoldable pub notes : List ℕ
 notes =
     codes "? WORD tells what a call's keys take\n"

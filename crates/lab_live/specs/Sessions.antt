@@ -1,4 +1,4 @@
--- What a driven machine is, what it was opened with, and what it tells of a call.
+-- What a driven machine is, what it was opened with, and what it says of a call.
 use Rattle.std.specs.Prelude.{◌≡◌, ◌⊎◌, ◌≤◌, ◌-◌, ℕ, List, [], ◌∷◌, ◌++◌, length, map, take, None, Err}
 use Rattle.evl_base.specs.declared.board.Board.{Board}
 use Rattle.evl_base.specs.declared.entry.Entry.{Entry}
@@ -23,6 +23,9 @@ pub record Driven : Type 0 where
 pub record IsDriven (driven : Driven) : Type 0 where
   pub board : driven.history.board ≡ driven.board
   pub within : length driven.history.entries ≤ driven.limit
+  -- rule: A callback made of a plan answers that plan and has rows of declared kinds only, so it is sound. One made of
+  --   rows declares exactly their kinds; `Planned::new` may declare more.
+  --   clauses: Planned::{new, kinds, of_rows}
   pub sound : AreSound driven.history.bank
 
 -- what a history has asked for, and of these steps as many as its limit leaves room for
@@ -39,6 +42,9 @@ pub record Opens (script : Script) (bank : List Handler) (driven : Driven) : Typ
 -- The board and the bank stay, and a history that was no longer than the limit is so still.
 pub record KeepsWithin (limit : ℕ) (old new : History) : Type 0 where
   pub board : new.board ≡ old.board
+  -- rule: The program's callbacks as plans are those of its bank.
+  --   clauses: program_plans
+  --   rows: the_program_is_a_bank
   pub bank : new.bank ≡ old.bank
   pub within : length old.entries ≤ limit → length new.entries ≤ limit
 
@@ -57,6 +63,12 @@ MayEnter old step new = (new ≡ old) ⊎ Enters old step new
 abbrev pub all_but_last : List Entry → List Entry
 all_but_last entries = take (length entries - 1) entries
 
+-- rule: `undo` takes the last call back, and prints it: the history is the run of the calls before it, over the same
+--   board, limit and callbacks. Without a call it says so; if no scenario of the calls before can be written it gives
+--   the true reason; then nothing changes.
+--   also: Answers.Undoes
+--   clauses: Session::undo; answer_line: undone
+--   rows: calls_are_taken_back
 -- The last call was taken back: board and limit stay, and the history is the run of its calls, which with one entry more and its plays is the one that was.
 pub record TakesBack (old new : Driven) : Type 0 where
   pub board : new.board ≡ old.board
@@ -70,7 +82,7 @@ pub record TakesBack (old new : Driven) : Type 0 where
 abbrev pub MayTakeBack : Driven → Driven → Type 0
 MayTakeBack old new = (new ≡ old) ⊎ TakesBack old new
 
--- The history has one entry more, that of this step, and what was told behind the text before are the lines of that entry and of its plays.
+-- The history has one entry more, that of this step, and what was said after the text before are the lines of that entry and of its plays.
 pub record TellsEntry (old new : History) (step : Step) (before after : List ℕ) : Type 0 where
   pub entry : Entry
   pub plays : List Play
@@ -80,14 +92,18 @@ pub record TellsEntry (old new : History) (step : Step) (before after : List ℕ
   pub counted : entry.plays ≡ length plays
   pub told : after ≡ before ++ entry_lines (length new.entries) entry plays
 
--- What was told behind the text before are the lines by which the trace of all that was asked grew.
+-- What was written after the text before are the lines by which the trace of all that was asked grew.
 pub record TellsTrace (old new : Driven) (before after : List ℕ) : Type 0 where
   pub lines : List ℕ
   pub told : after ≡ before ++ lines
+  -- rule: Its scenario is the text of its board, limit and calls, and asks for exactly these; if there is none the true
+  --   reason is given. Its trace is its history's, which that scenario writes over the same bank.
+  --   clauses: Session::scenario: reads_back, refused; Session::trace: plays_again
+  --   rows: what_was_asked_plays_again
   pub trace : history_trace new.board new.limit new.history.entries new.history.plays
       ≡ history_trace old.board old.limit old.history.entries old.history.plays ++ lines
 
--- The history is full: it stays, and what was told is the line of a step that has no entry.
+-- The history is full: it stays, and what was written is the line of a step that has no entry.
 pub record TellsFull (old new : Driven) (step : Step) (before after : List ℕ) : Type 0 where
   pub same : new ≡ old
   pub told : after ≡ before ++ line_text None step (Err HistoryFull)

@@ -1,4 +1,4 @@
--- What a driven machine tells of its state.
+-- What a driven machine says of its state.
 use Rattle.std.specs.Prelude.{ℕ, zero, suc, ◌==◌, Bool, true, false, ◌&&◌, List, [], ◌∷◌, ◌++◌, length, reverse, filter, find, flat_map, codes, decimal, if◌then◌else◌, Option, Some, None, Result, Ok}
 use Rattle.std.specs.List.{join_by}
 use Rattle.std.specs.Option.{option_map_or}
@@ -48,7 +48,7 @@ abbrev pub begun_text : Option Entry → List ℕ
 begun_text None = []
 begun_text (Some entry) = codes ": " ++ call_text entry.call
 
--- how an unfinished wait stands: its deadline ended it, or it was served, or it goes on
+-- how an unfinished wait is: its deadline ended it, or it was served, or it goes on
 abbrev pub standing_text : State → ℕ → List ℕ
 standing_text s thread =
     if has_timed_out s thread then codes ", timed out"
@@ -74,7 +74,7 @@ owner_text mutex (Some owner) waiters =
 abbrev pub waiter_count : State → ℕ → ℕ
 waiter_count s mutex = option_map_or (λ m. length m.waiters) (record_at s mutex) 0
 
--- a mutex that has an owner; of others nothing is told
+-- a mutex that has an owner; of others nothing is reported
 abbrev pub mutex_line : State → ℕ → List ℕ
 mutex_line s mutex = owner_text mutex (owner_at (record_at s mutex)) (waiter_count s mutex)
 
@@ -103,7 +103,7 @@ timer_text timer (Running date interval) =
 timer_text timer Idle = codes "timer " ++ (decimal timer ++ codes " idle\n")
 timer_text timer Ended = codes "timer " ++ (decimal timer ++ codes " ended\n")
 
--- a timer that there is; of others nothing is told
+-- a timer that there is; of others nothing is reported
 abbrev pub timer_line : State → ℕ → List ℕ
 timer_line s timer = option_map_or (λ t. timer_text timer t.state) (timer_at s.clock timer) []
 
@@ -123,7 +123,7 @@ state_text driven = flat_map (thread_line driven.history) (numbers_below driven.
 
 -- ---- for private clauses
 
--- what was told of lines that are pending so far, before the others and the end
+-- what was written of lines that are pending so far, before the others and the end
 abbrev pub pending_so_far : List ℕ → List ℕ
 pending_so_far [] = []
 pending_so_far (first ∷ others) = codes ", pending " ++ join_by decimal (codes " ") (first ∷ others)
@@ -132,7 +132,7 @@ abbrev pub is_none : List ℕ → Bool
 is_none [] = true
 is_none (first ∷ others) = false
 
--- a line behind so many others
+-- a line after so many others
 abbrev pub pending_next : Bool → ℕ → List ℕ
 pending_next is_first line = (if is_first then codes ", pending " else codes " ") ++ decimal line
 

@@ -64,7 +64,7 @@ bits_text flags (Some bits) = codes "flags " ++ (decimal flags ++ (codes " bits 
 abbrev pub flags_line : State → ℕ → List ℕ
 flags_line s flags = bits_text flags (option_map (λ group. group.bits) (slice_get s.elements.flags flags))
 
--- how many bytes stand in a way of a cross-buffer
+-- how many bytes are in a way of a cross-buffer
 abbrev pub there_at : State → ℕ → Way → Option ℕ
 there_at s xbuf way = option_map (λ x. length (stream x way).there) (slice_get s.elements.xbufs xbuf)
 
@@ -82,7 +82,7 @@ xbuf_line s xbuf = there_text xbuf (there_at s xbuf In) (there_at s xbuf Out)
 abbrev pub date_line : State → List ℕ
 date_line s = codes "date " ++ (decimal (date s) ++ line_feed)
 
--- the date, and a line for each thread, semaphore, flag group and cross-buffer; then mutexes, stages and timers as they are told by themselves
+-- the date, and a line for each thread, semaphore, flag group and cross-buffer; then mutexes, stages and timers as they are reported by themselves
 unfoldable pub whole_text : Driven → List ℕ
 whole_text driven =
     date_line driven.history.state

@@ -57,17 +57,18 @@ fn write_own_scenario(alloc: Global, told: &mut String, session: &Session) -> Re
 fn write_last(told: &mut String, session: &Session) -> Result<(), AllocError>
     ensures { OnOk result (string_bytes told.new ≡ string_bytes told.old ++ option_map_or undone_text (slice_get session.now.history.entries (length session.now.history.entries - 1)) []) }
 {
-    match session.kernel().history().last() {
-        Some(entry) => {
+    match session.kernel().history().last(*told.allocator()) {
+        Ok(Some(entry)) => {
             let who = entry.caller.0;
             let call = &entry.call;
             write!(told, "undone: T{who} {call}\n")
         }
-        None => Ok(()),
+        Ok(None) => Ok(()),
+        Err(_) => Err(AllocError),
     }
 }
 
-// Takes the last call back, and tells which one that was.
+// Takes the last call back, and says which one that was.
 #[tactic(auto, using(crate::proofs::AnswerLaws::undoes, crate::proofs::AnswerLaws::undoes_none, crate::proofs::AnswerLaws::undoes_unwritten, crate::proofs::AnswerLaws::takes_back, crate::proofs::AnswerLaws::stays_back))]
 fn take_back(alloc: Global, session: &mut Session, told: &mut String) -> Result<(), AllocError>
     ensures undoes { OnOk result (Undoes session.old session.new (string_bytes told.old) (string_bytes told.new)) }
@@ -162,7 +163,7 @@ fn is_blank(byte: u8) -> bool
     byte == b' ' || byte == b'\r'
 }
 
-// The end of a line that has this byte behind those up to an end.
+// The end of a line that has this byte after those up to an end.
 fn end_behind(byte: u8, at: usize, end: usize) -> usize
     requires { at < 9223372036854775808 }
     ensures { result ≡ (if answers.is_blank byte then end else at + 1) }
@@ -277,7 +278,7 @@ fn answer_text(
     }
 }
 
-/// The path behind a word with which a line begins; an empty one where it is no UTF-8. Blanks at the line's end are not
+/// The path after a word with which a line begins; an empty one where it is no UTF-8. Blanks at the line's end are not
 /// of the path.
 pub fn path_behind<'a>(word: &str, line: &'a [u8]) -> Option<&'a str>
     ensures { option_map (λ path. path.now) result ≡ answers.path_behind word.now (answers.trimmed line.now) }
@@ -292,7 +293,7 @@ pub fn path_behind<'a>(word: &str, line: &'a [u8]) -> Option<&'a str>
 /// the machine is doing, `ps all` with all that it shows, `scenario` with that of the calls so far, `undo` with the last
 /// call, which is taken back, one that begins with `#` with itself, an empty one with nothing, and one that can't be read
 /// with `!`, the byte, from 1, and what was wanted there; that changes nothing. `AllocError` where memory couldn't grow:
-/// then nothing is told, but a call may have been made or taken back.
+/// then nothing is reported, but a call may have been made or taken back.
 #[tactic(auto, using(crate::proofs::AnswerLaws::does_behind, crate::proofs::AnswerLaws::told_none, crate::proofs::AnswerLaws::told_behind, crate::proofs::AnswerLaws::tells_scenario))]
 pub fn answer_line(
     alloc: Global,

@@ -9,7 +9,7 @@ use evl_base::{Kind, STEP_WORDS, kind_named};
 use lab_faults::{is_optional, keys_of};
 use std::alloc::{AllocError, Global};
 
-// A value that can stand at a key of a line.
+// A value that a key of a line can have.
 #[tactic(auto, unfolding(crate::specs::Helps::sample_text))]
 fn sample(key: &str) -> &'static str
     ensures { result.now ≡ sample_text key.now }
@@ -31,7 +31,7 @@ fn sample(key: &str) -> &'static str
     }
 }
 
-/// What is told beside the forms.
+/// What is reported beside the forms.
 pub const NOTES: &str = "? WORD tells what a call's keys take
 ps tells threads, who waits for what, owners, pending lines and timers; ps all ranks, counts, bits, bytes and the date too
 scenario, or save, prints the calls so far as a scenario

@@ -23,6 +23,7 @@ use evl_scenario::{
 use evl_shell::trace_kernel;
 use std::alloc::{AllocError, Global};
 use std::marker::Model;
+use std::mem;
 
 /// A machine, its board, the limit of its history, and its callbacks once more.
 #[derive(Drop)]
@@ -55,7 +56,7 @@ fn has_entry(answer: &Result<Reply, Refusal>) -> bool
     }
 }
 
-// Makes a step of a machine, and tells whether it has an entry; it has none where the history is full.
+// Makes a step of a machine, and says whether it has an entry; it has none where the history is full.
 #[tactic(auto, using(crate::proofs::StepLaws::enters, crate::proofs::StepLaws::keeps_entry, crate::proofs::StepLaws::keeps_same, crate::proofs::StepLaws::is_not_full))]
 fn take_step(machine: &mut PlannedKernel, step: Step) -> Result<bool, AllocError>
     ensures entered { IfOk result (λ entered. IsTrue entered → Enters machine.old.history step machine.new.history) }
@@ -120,7 +121,7 @@ fn open_scenarios(
             machine,
         }),
         Err(_) => {
-            drop(machine);
+            machine.leave();
             Err(Fault::Memory)
         }
     }
@@ -154,14 +155,15 @@ fn tell_newest(
     ensures { OnOk result ((before : List Entry) (entry : Entry) → kernel.now.history.entries ≡ before ++ entry ∷ []
         → string_bytes told.new ≡ string_bytes told.old ++ entry_lines (length kernel.now.history.entries) entry (drop from kernel.now.history.plays)) }
 {
-    let entries = kernel.history();
+    let history = kernel.history();
     let plays = plays_from(kernel, from);
-    match entries.last() {
-        Some(entry) => match write_entry(told, entries.len(), entry, plays) {
+    match history.last(*told.allocator()) {
+        Ok(Some(entry)) => match write_entry(told, history.len(), &entry, plays) {
             Ok(()) => Ok(()),
             Err(error) => Err(error),
         },
-        None => Ok(()),
+        Ok(None) => Ok(()),
+        Err(_) => Err(AllocError),
     }
 }
 
@@ -231,14 +233,23 @@ fn know_legal(session: &Session)
     let _plays = session.machine.kernel().plays();
 }
 
-// Puts a machine in the place of another.
+// Puts a machine in the place of another, which is let go.
 fn put_back(session: &mut Session, before: Session)
     ensures { session.new ≡ before }
 {
-    *session = before;
+    let after = mem::replace(session, before);
+    after.leave();
 }
 
 impl Session {
+    /// Lets it go, its kernel as the plans do.
+    pub fn leave(self) {
+        let Session { machine, .. } = self;
+        machine.leave();
+    }
+
+    // rule: A driven machine opens over its scenario's board and limit and at most 64 callbacks, and is asked for the
+    //   scenario's steps in order, as far as the limit allows; or the text's fault is reported, or memory ran out.
     /// A machine of the scenario's board that has made its steps, over a bank of at most 64 callbacks, under a limit
     /// that may be handed in. `Text`, `Board` and `Step` say what is wrong with the text, `Memory` that a growth was
     /// refused, or that the bank has more callbacks.
@@ -316,7 +327,7 @@ impl Session {
         ensures trace { IfOk result (λ text. string_bytes text ≡ history_trace self.now.board self.now.limit self.now.history.entries self.now.history.plays) }
         ensures plays_again { IfOk result (λ text. PlaysAgain self.now.history self.now.board self.now.limit (string_bytes text)) }
     {
-        match trace_kernel(alloc, self.machine.kernel(), &self.board, self.limit) {
+        match trace_kernel(alloc, alloc, self.machine.kernel(), &self.board, self.limit) {
             Ok(text) => Ok(text),
             Err(_) => Err(AllocError),
         }
@@ -330,8 +341,10 @@ impl Session {
         ensures reads_back { IfOk result (λ text. scenario_of None (string_bytes text) ≡ Ok (script_of_history self.now.board self.now.limit self.now.history.entries)) }
         ensures refused { IfErr result (λ e. IsUnwritten e (script_of_history self.now.board self.now.limit self.now.history.entries)) }
     {
-        let entries = self.machine.kernel().history();
-        write_scenario(alloc, &self.board, self.limit, entries)
+        match self.machine.kernel().history().to_vec(alloc) {
+            Ok(entries) => write_scenario(alloc, &self.board, self.limit, entries.as_slice()),
+            Err(_) => Err(Unwritten::Memory),
+        }
     }
 
     // The machine as it was before the last call, if there is one.
@@ -340,7 +353,11 @@ impl Session {
         ensures back { IfOk result (λ before. self.now.history.entries ≢ [] → TakesBack self.now before) }
         ensures refused { IfErr result (λ e. IsUnwritten e (script_of_history self.now.board self.now.limit (sessions.all_but_last self.now.history.entries))) }
     {
-        let earlier = all_but_last(self.machine.kernel().history());
+        let entries = match self.machine.kernel().history().to_vec(alloc) {
+            Ok(entries) => entries,
+            Err(_) => return Err(Unwritten::Memory),
+        };
+        let earlier = all_but_last(entries.as_slice());
         match reopened(
             alloc,
             &self.board,
@@ -377,7 +394,7 @@ impl Session {
         }
     }
 
-    // Makes a step, and writes its lines behind what was told.
+    // Makes a step, and writes its lines after what was written.
     #[tactic(auto, using(crate::proofs::TellingLaws::tells, crate::proofs::StepLaws::may_enter, crate::proofs::StepLaws::may_stay))]
     fn make_step(&mut self, alloc: Global, step: Step, told: &mut String) -> Result<(), AllocError>
         ensures entry { OnOk result (length self.old.history.entries ≢ self.old.limit → TellsEntry self.old.history self.new.history step (string_bytes told.old) (string_bytes told.new)) }
@@ -397,10 +414,10 @@ impl Session {
         }
     }
 
-    /// Makes a step, and writes its lines behind what was told: those of its entry and its plays, which are those by
+    /// Makes a step, and writes its lines after what was written: those of its entry and its plays, which are those by
     /// which the trace of all that was asked grows; or where the history is at its limit the line of a step without an
     /// entry. `AllocError` where memory couldn't grow: the step may have its entry then, nothing else has been changed,
-    /// and what was told isn't known.
+    /// and what was written isn't known.
     #[tactic(auto, using(crate::proofs::GrowthLaws::tells_trace_on))]
     pub fn make(&mut self, alloc: Global, step: Step, told: &mut String) -> Result<(), AllocError>
         ensures entry { OnOk result (length self.old.history.entries ≢ self.old.limit → TellsEntry self.old.history self.new.history step (string_bytes told.old) (string_bytes told.new)) }

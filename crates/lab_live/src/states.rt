@@ -56,7 +56,7 @@ fn write_begun(told: &mut String, entries: &[Entry], thread: ThreadId) -> Result
     }
 }
 
-// Writes how the unfinished wait of a thread stands.
+// Writes how the unfinished wait of a thread is.
 fn write_standing<C>(
     told: &mut String,
     kernel: &KernelOf<C, Global>,
@@ -83,7 +83,10 @@ pub fn write_wait<C>(
 {
     if kernel.waits(thread) {
         write_standing(told, kernel, thread)?;
-        write_begun(told, kernel.history(), thread)
+        match kernel.history().to_vec(*told.allocator()) {
+            Ok(entries) => write_begun(told, entries.as_slice(), thread),
+            Err(_) => Err(AllocError),
+        }
     } else {
         Ok(())
     }
@@ -132,7 +135,7 @@ fn write_mutex<C>(
     }
 }
 
-// Writes a line that is pending, behind others or as the first one.
+// Writes a line that is pending, after others or as the first one.
 fn put_line(told: &mut String, is_first: bool, line: u16) -> Result<(), AllocError>
     ensures { OnOk result (string_bytes told.new ≡ string_bytes told.old ++ pending_next is_first line) }
 {
@@ -140,7 +143,7 @@ fn put_line(told: &mut String, is_first: bool, line: u16) -> Result<(), AllocErr
     write!(told, "{line}")
 }
 
-// Writes the lines that are pending on a stage, and tells whether there are none.
+// Writes the lines that are pending on a stage, and says whether there are none.
 fn write_lines<C>(
     told: &mut String,
     kernel: &KernelOf<C, Global>,
@@ -289,7 +292,7 @@ pub fn write_rest(told: &mut String, session: &Session) -> Result<(), AllocError
     Ok(())
 }
 
-/// Writes what the machine is doing behind what was told. `AllocError` where memory couldn't grow.
+/// Writes what the machine is doing after what was written. `AllocError` where memory couldn't grow.
 pub fn write_state(told: &mut String, session: &Session) -> Result<(), AllocError>
     ensures { OnOk result (string_bytes told.new ≡ string_bytes told.old ++ state_text session.now) }
 {

@@ -97,7 +97,7 @@ fn write_flags<C>(
     }
 }
 
-// Writes how many bytes stand in the ways of a cross-buffer, if there is one.
+// Writes how many bytes are in the ways of a cross-buffer, if there is one.
 fn write_there(
     told: &mut String,
     xbuf: u16,
@@ -194,7 +194,7 @@ fn write_date<C>(told: &mut String, kernel: &KernelOf<C, Global>) -> Result<(), 
     write!(told, "date {date}\n")
 }
 
-/// Writes all that the machine shows behind what was told: the date in nanoseconds, a line for each thread, semaphore,
+/// Writes all that the machine shows after what was written: the date in nanoseconds, a line for each thread, semaphore,
 /// flag group and cross-buffer, then mutexes that have an owner, stages and timers. `AllocError` where memory couldn't
 /// grow.
 pub fn write_whole(told: &mut String, session: &Session) -> Result<(), AllocError>

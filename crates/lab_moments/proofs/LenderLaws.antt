@@ -14,7 +14,7 @@ pub lender_more : (s : State) (thread rank from : ℕ) → option_or (lender_bel
 unfolding lender_below
 lender_more s thread rank from = ap (λ (k : ℕ). lender_below s thread rank k) (sym (add-one from))
 
--- A walk of n steps, of which k were made: it is over where the next thread is the one, where there is none, or behind the last step
+-- A walk of n steps, of which k were made: it is over where the next thread is the one, where there is none, or after the last step
 pub walk-here : (next : ℕ → Option ℕ) (n k from mid to : ℕ) → k < n → next from ≡ Some mid → mid ≡ to → true ≡ reaches (n - k) next from to
 walk-here next n k from mid to l e here =
     let left : n - k ≡ suc (n - (k + 1)) = omega arith in

@@ -1,4 +1,4 @@
--- What stands on lines is on lines for which calls asked, and what is pending has a callback: each call and each play keeps that.
+-- What is installed is on lines for which calls asked, and what is pending has a callback: each call and each play keeps that.
 use Rattle.std.proofs.Common.{◌≡◌, ◌≢◌, ◌≤◌, ◌<◌, ℕ, ◌+◌, ◌==◌, min, nat_lt, ◌⊎◌, inl, inr, Bool, true, false, not, List, [], ◌∷◌, Option, Some, None, Result, Ok, Err, is_some, unwrap_or, slice_get, if◌then◌else◌, refl, sym, ap, ◌∙◌, subst, arith}
 use Rattle.std.specs.Option.{option_map_or}
 use Rattle.std.proofs.lemmas.Bool.{false≢true}
@@ -50,12 +50,12 @@ use Rattle.evl_kernel.proofs.histories.SilenceLaws.{below_limit, sound-posted, s
 use Rattle.evl_kernel.proofs.histories.WorldLaws.{chosen, chosen_pends}
 use Rattle.lab_moments.specs.Asked.{below_task, below_call, below_entries}
 
--- what stands anywhere is on such a line, and what is pending has a callback
+-- what is installed anywhere is on such a line, and what is pending has a callback
 pub record IsWithin (top : ℕ) (s : State) : Type 0 where
   pub within : (stage : Stage) (line : ℕ) (at : lines.Installed ℕ) → lines.installed_at s.lines stage line ≡ Some at → min line_count (line + 1) ≤ top
   pub sound : lines.IsSoundPipeline s.lines
 
--- what stands after a request stood there, or is on its line
+-- what is installed after a request was installed before it, or is on its line
 new_there : (p : lines.Pipeline ℕ) (line : ℕ) (stage : Stage) (number tag : ℕ) (other_stage : Stage) (other : ℕ) (at : lines.Installed ℕ)
     → lines.installed_at (lines.requested p line stage number tag) other_stage other ≡ Some at → Stood p other_stage other at ⊎ (other ≡ line)
 new_there p line Oob number tag Oob other at h = came (set-lookup p.oob.installed line other _ at h)
@@ -197,7 +197,7 @@ module _ (top : ℕ) where
   within-item : (s : State) (found : Item) → IsWithin top s → next_due s.clock ≡ Some found → IsWithin top (item_played s found).1
   within-item s found h due = leaves-item (IsWithin top) kept_within (λ s n t h there. within-clock s _ h) (kept-deadline (IsWithin top) kept_waiting) within-answered s found h due
 
-  -- what is pending stands there, or is line 0
+  -- what is pending has a callback installed, or is line 0
   there : (s : State) (stage : Stage) (line : ℕ) → IsWithin top s → lines.is_pending s.lines stage line ≡ true
       → ((at : lines.Installed ℕ) × (lines.installed_at s.lines stage line ≡ Some at)) ⊎ ((stage ≡ Oob) × (line ≡ 0))
   there s stage line h pends = by (lines.installed_at s.lines stage line) refl
@@ -254,7 +254,7 @@ module _ (top : ℕ) where
   within-opening : (board : Board) (bank : List Handler) → IsWithin top (opening board bank)
   within-opening board bank = record { within = λ stage line at here. absurd (bare stage line at here); sound = sound-opening }
 
-  -- behind those lines nothing is pending
+  -- after those lines nothing is pending
   pub quiet_behind : (h : History) → IsLegal h → below_entries h.entries ≤ top → 1 ≤ top → (stage : Stage) (line : ℕ) → top ≤ line → line < 4096
       → lines.is_pending h.state.lines stage line ≡ false
   quiet_behind h legal asked some stage line behind few = by (lines.is_pending h.state.lines stage line) refl

@@ -12,7 +12,7 @@ use Rattle.evl_shell.specs.Runs as runs
 use Rattle.evl_shell.specs.Runs.{beginning, turn}
 use Rattle.lab_moments.specs.Standings.{stands}
 
--- a date, and how those lanes stand that show something, in order
+-- a date, and the states of those lanes that show something, in order
 abbrev pub Shown : Type 0
 Shown = ℕ × List Standing
 
@@ -36,6 +36,9 @@ script_shown lanes bank script =
     then shown_from lanes script.limit (beginning (opening script.board bank)) script.steps
     else []
 
+-- rule: A scenario over copies of callbacks has a moment after each step; one that finds the history full changes
+--   nothing. No scenario, or more than 64 callbacks: no moment.
+--   clauses: shown_of; moments_of
 -- of what a text is read as; of no script nothing
 abbrev pub shown_of : List Lane → List Handler → Result Script Fault → List Shown
 shown_of lanes bank (Ok script) = script_shown lanes bank script

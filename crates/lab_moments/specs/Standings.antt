@@ -1,4 +1,4 @@
--- How the lanes of a picture stand at a state of the kernel.
+-- The states of a picture's lanes at a state of the kernel.
 use Rattle.std.specs.Prelude.{ℕ, zero, suc, ◌+◌, ◌==◌, ◌&&◌, not, Bool, false, Option, Some, None, option_and_then, option_map, if◌then◌else◌}
 use Rattle.std.specs.Option.{option_map_or, option_or}
 use Rattle.evl_base.specs.declared.stage.Stage.{Stage}
@@ -19,7 +19,7 @@ use Rattle.evl_kernel.specs.declared.waits.Awaited.TheVariants as awaited
 use Rattle.evl_kernel.specs.state.States.{State}
 use Rattle.evl_kernel.specs.waiting.Waits.{has_ended, has_timed_out, wait_at}
 use Rattle.evl_kernel.specs.calls.ThreadCalls.{rank_of}
-use Rattle.lab_drawing.specs.Frames.{own_rank}
+use Rattle.lab_drawing.specs.Ranks.{own_rank}
 use Rattle.lab_drawing.specs.declared.lanes.Lane.{Lane}
 use Rattle.lab_drawing.specs.declared.lanes.Lane.TheVariants.{Thread, Mutex, Timer, Clock, Line, Stage as OfStage}
 use Rattle.lab_drawing.specs.declared.moments.Condition.{Condition}
@@ -122,7 +122,7 @@ pending_below s stage (suc line) = pending_below s stage line + (if is_pending s
 abbrev pub pending_count : State → Stage → ℕ
 pending_count s stage = pending_below s stage line_count
 
--- of none nothing is told
+-- a count of 0 isn't shown
 abbrev pub some_events : ℕ → Option ℕ
 some_events count = if count == 0 then None else Some count
 
@@ -136,7 +136,7 @@ stage_stands s stage =
 abbrev pub event_stands : State → Lane → Stage → ℕ → Option Standing
 event_stands s lane stage number = if is_pending s.lines stage number then Some (standing lane Pending None) else None
 
--- how a lane stands, where it shows something
+-- the state of a lane, where it shows something
 abbrev pub stands : State → Lane → Option Standing
 stands s (Thread thread) = thread_stands s thread
 stands s (Mutex mutex) = mutex_stands s mutex

@@ -1,4 +1,4 @@
-//! How a machine stands after each call of a scenario.
+//! The state of a machine after each call of a scenario.
 //! What names no source is this profile's own.
 #![tactic(auto)]
 

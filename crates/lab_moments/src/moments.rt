@@ -10,7 +10,7 @@ use evl_kernel::KernelOf;
 use lab_drawing::{Lane, Moment, Standing};
 use std::alloc::{AllocError, Global};
 
-// How those of the lanes stand that show something, in order.
+// The states of those lanes that show something, in order.
 fn standings<C>(
     alloc: Global,
     kernel: &KernelOf<C, Global>,
@@ -29,7 +29,13 @@ fn standings<C>(
     Ok(told)
 }
 
-/// The date of a kernel, and how those of the lanes stand that show something, in order. `AllocError` where memory
+// rule: A moment of a machine has the kernel's date and how each lane is there: a thread picked, ready, blocked or
+//   in-band with policy and effective rank and, if that is not its own, the first thread of this rank that waits for it
+//   along recorded owners; a line, or the clock's, with an event pending; a mutex with its recorded owner, else the
+//   first thread that got it and has not finished its wait; a running timer; a stage stalled, or with so many events
+//   pending.
+//   rows: moments_tell_how_a_thread_stands
+/// The date of a kernel, and the states of those lanes that show something, in order. `AllocError` where memory
 /// couldn't grow.
 pub fn moment_of<C>(
     alloc: Global,

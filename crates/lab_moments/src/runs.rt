@@ -16,7 +16,7 @@ use evl_shell::wants_memory;
 use lab_drawing::{Lane, Moment};
 use std::alloc::{AllocError, Global};
 
-// Makes a step, and answers how the lanes stand then. No call asks for this line or one behind it.
+// Makes a step, and answers the lanes' states then. No call asks for this line or one after it.
 fn made(
     alloc: Global,
     kernel: &mut PlannedKernel,
@@ -41,7 +41,7 @@ fn made(
     moment_below(alloc, kernel.kernel(), lanes, below)
 }
 
-// Makes all steps, and tells how the lanes stand after each. No call asks for this line or one behind it.
+// Makes all steps, and answers the lanes' states after each. No call asks for this line or one after it.
 fn make_steps(
     alloc: Global,
     kernel: &mut PlannedKernel,
@@ -63,7 +63,7 @@ fn make_steps(
     Ok(moments)
 }
 
-// Plays a scenario. Over more callbacks than a kernel has nothing is told.
+// Plays a scenario. Over more callbacks than a kernel has there are no moments.
 fn play(
     alloc: Global,
     scenario: Scenario,
@@ -77,7 +77,7 @@ fn play(
     match PlannedKernel::new(alloc, board, bank, limit) {
         Ok(mut kernel) => {
             let made = make_steps(alloc, &mut kernel, steps, lanes, below);
-            drop(kernel);
+            kernel.leave();
             made
         }
         Err(Refusal::Range) => Ok(Vec::new(alloc)),
@@ -85,9 +85,9 @@ fn play(
     }
 }
 
-/// How the lanes stand after each step of a scenario's text, played over copies of these callbacks: a moment for each
+/// The lanes' states after each step of a scenario's text, played over copies of these callbacks: a moment for each
 /// step, that of the kernel after the steps so far. Of a text that is no scenario, and over more than 64 callbacks,
-/// nothing is told. `AllocError` where memory couldn't grow.
+/// there is no moment. `AllocError` where memory couldn't grow.
 pub fn moments_of(
     alloc: Global,
     bank: &[Planned],

@@ -1,4 +1,4 @@
-//! How the lanes of a picture stand, as a kernel's readers tell it.
+//! The states of a picture's lanes, as a kernel's readers answer them.
 ghost use Rattle.std.specs.Prelude.{◌≡◌};
 ghost use Rattle.lab_moments.specs.Asked.{CountsAll};
 ghost use Rattle.lab_moments.specs.Standings.{condition, event_stands, handed_stands, is_picked, mutex_stands, pending_count, some_events, stage_stands, stands, thread_stands, timer_stands};
@@ -21,7 +21,7 @@ fn is_picked<C>(kernel: &KernelOf<C, Global>, thread: u16) -> bool
     }
 }
 
-// How an attached thread stands.
+// The condition of an attached thread.
 fn condition<C>(kernel: &KernelOf<C, Global>, thread: u16) -> Condition
     ensures condition { result ≡ condition kernel.now.history.state thread }
 {
@@ -37,7 +37,7 @@ fn condition<C>(kernel: &KernelOf<C, Global>, thread: u16) -> Condition
     }
 }
 
-// How a thread stands, if it is attached.
+// The state of a thread, if it is attached.
 fn thread_standing<C>(kernel: &KernelOf<C, Global>, thread: u16) -> Option<Standing>
     ensures standing { result ≡ thread_stands kernel.now.history.state thread }
 {
@@ -53,7 +53,7 @@ fn thread_standing<C>(kernel: &KernelOf<C, Global>, thread: u16) -> Option<Stand
     }
 }
 
-// How a mutex stands that has no recorded owner, if it has been handed on.
+// The state of a mutex that has no recorded owner, if it has been handed on.
 fn handed_standing<C>(kernel: &KernelOf<C, Global>, mutex: u16) -> Option<Standing>
     ensures standing { result ≡ handed_stands kernel.now.history.state mutex }
 {
@@ -69,7 +69,7 @@ fn handed_standing<C>(kernel: &KernelOf<C, Global>, mutex: u16) -> Option<Standi
     }
 }
 
-// How a mutex stands, if it has a recorded owner, or has been handed on.
+// The state of a mutex, if it has a recorded owner, or has been handed on.
 fn mutex_standing<C>(kernel: &KernelOf<C, Global>, mutex: u16) -> Option<Standing>
     ensures standing { result ≡ mutex_stands kernel.now.history.state mutex }
 {
@@ -85,7 +85,7 @@ fn mutex_standing<C>(kernel: &KernelOf<C, Global>, mutex: u16) -> Option<Standin
     }
 }
 
-// How a timer stands, if it runs.
+// The state of a timer, if it runs.
 fn timer_standing<C>(kernel: &KernelOf<C, Global>, timer: u16) -> Option<Standing>
     ensures standing { result ≡ timer_stands kernel.now.history.state timer }
 {
@@ -112,7 +112,7 @@ fn pending_events<C>(kernel: &KernelOf<C, Global>, stage: Stage, below: u16) -> 
     }
 }
 
-// How a stage stands, if it is stalled, or events are pending there.
+// The state of a stage, if it is stalled, or events are pending there.
 fn stage_standing<C>(kernel: &KernelOf<C, Global>, stage: Stage, below: u16) -> Option<Standing>
     requires { CountsAll kernel.now.history.state below }
     ensures standing { result ≡ stage_stands kernel.now.history.state stage }
@@ -139,7 +139,7 @@ fn stage_standing<C>(kernel: &KernelOf<C, Global>, stage: Stage, below: u16) -> 
     }
 }
 
-// How an interrupt line stands on a stage: whether its event is pending there.
+// The state of an interrupt line on a stage: whether its event is pending there.
 fn event_standing<C>(
     kernel: &KernelOf<C, Global>,
     lane: Lane,
@@ -161,7 +161,7 @@ fn event_standing<C>(
     }
 }
 
-/// How a lane stands, where it shows something: an attached thread, a mutex with a recorded owner or that was handed
+/// The state of a lane, where it shows something: an attached thread, a mutex with a recorded owner or that was handed
 /// on, a timer that runs, a line (and the clock's) whose event is pending, a stage that is stalled or on which events
 /// are pending.
 pub fn standing<C>(kernel: &KernelOf<C, Global>, lane: Lane) -> Option<Standing>

@@ -132,7 +132,7 @@ module _ {M S : Type 0} (m : Machine S) (state : M → S) (fits : M → Type 0) 
     shortest = λ k long before. record { below = All-weaker (IsBelow k) (IsBelow (k + 1)) (λ n h. omega (arith, h)) ends before.below; rise = before.rise };
   }
 
-  -- the ends behind a node
+  -- the ends after a node
   abbrev IsKept : Bool → List (Node M) → Node M → List (Node M) → Type 0
   IsKept goes ends node new = new ≡ (if goes then ends else ends ++ node ∷ [])
 
@@ -157,7 +157,7 @@ module _ {M S : Type 0} (m : Machine S) (state : M → S) (fits : M → Type 0) 
       over_if true h = refl
       over_if false h = absurd (cc)
 
-  -- an end of so many steps stands behind those of no more
+  -- an end of so many steps comes after those of no more
   shortest_kept : (k : ℕ) (goes : Bool) (ends new : List (Node M)) (node : Node M) → IsKept goes ends node new → IsLong k node
       → AreShortest (k + 1) ends → AreShortest (k + 1) new
   shortest_kept k goes ends new node e long all = record {
@@ -307,7 +307,7 @@ module _ {M S : Type 0} (m : Machine S) (state : M → S) (fits : M → Type 0) 
       (subst (λ (ns : List (Node M)). IsFront m state fits (state start) 0 (node ∷ []) ns) (sym empty)
       (subst (λ x. IsFront m state fits (state x) 0 (node ∷ []) []) same (front_first node (subst fits (sym same) fit) one none)))
 
-  -- what is told of how far it was gone
+  -- what is said of as many steps as were gone
   module _ (s : S) (steps told : ℕ) (level ends found : List (Node M)) (front : IsFront m state fits s steps level ends) (same : found ≡ ends) (count : told ≡ steps) where
     pub counted_at : (f : S → ℕ) → weight state f found ≡ total f (orders m s told)
     counted_at f = ap (weight state f) same ∙ (front.counted f ∙ ap (λ k. total f (orders m s k)) (sym count))

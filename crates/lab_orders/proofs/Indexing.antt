@@ -43,7 +43,7 @@ newest_is : (digests : List ℕ) (digest n : ℕ) → NewestIs digests digest n 
 newest_is digests digest zero = λ i lt. absurd (omega (arith, lt))
 newest_is digests digest (suc n) = one_more digests digest n (nat_eq (get_or digests n 0) digest) refl (newest digests digest n) (newest_is digests digest n)
 
--- a digest behind them changes nothing below
+-- a digest after them changes nothing below
 newest_push : (digests : List ℕ) (more digest n : ℕ) → n ≤ length digests → newest (digests ++ more ∷ []) digest n ≡ newest digests digest n
 newest_push digests more digest zero le = refl
 newest_push digests more digest (suc n) le =

@@ -34,7 +34,7 @@ pairs_flat Q R f apart each (x ∷ xs) pairs =
     all_flat (λ z. All (R (get_or (f x) k d)) (f z)) (R (get_or (f x) k d)) f (λ z all. all) xs
     (λ i e lt. apart x (get_or xs i e) (pairs_head Q x xs pairs i e lt) k d h))
 
--- what one element more is behind can be told from both
+-- two lists that are equal stay so without their last elements
 push_same : (xs ys : List ℕ) (a b : ℕ) → xs ++ a ∷ [] ≡ ys ++ b ∷ [] → xs ≡ ys
 push_same [] [] a b e = refl
 push_same [] (y ∷ ys) a b e = absurd (omega (arith, ap length e, length-append ys (b ∷ [])))

@@ -1,4 +1,4 @@
--- More orders than a count can tell.
+-- More orders than a count can hold.
 use Rattle.std.proofs.Common.{◌≡◌, ℕ, zero, suc, ◌+◌, ◌*◌, inl, inr, List, [], ◌∷◌, ◌++◌, length, ap, arith, zero-add, add-one}
 use Rattle.std.specs.Prelude.{◌<◌, ◌≤◌, Some, slice_get, sum_by}
 use Rattle.std.specs.Option.{option_map_or}
@@ -33,7 +33,7 @@ module _ {S : Type 0} (m : Machine S) (f : S → ℕ) where
       let single : ahead_by m f s (c ∷ []) ≡ g c = zero-add (g c) in
       omega (arith, single, sum_below g c m.callers h)
 
-  -- the step of one caller, behind those of the callers before it
+  -- the step of one caller, after those of the callers before it
   pub too_many_by : (limit w u k : ℕ) (s : S) (c : ℕ) → c < m.callers → w ≡ u + k * ahead_by m f s (numbers_below c) → limit ≤ w + k * ahead_by m f s (c ∷ [])
       → limit ≤ u + k * ahead m f s
   too_many_by limit w u k s c h before more =
@@ -45,7 +45,7 @@ module _ {S : Type 0} (m : Machine S) (f : S → ℕ) where
           let spread : k * (a + b) ≡ k * a + k * b = omega arith in
           omega (arith, times, spread, before, more)
 
-  -- the steps from one node, behind those from the nodes before it
+  -- the steps from one node, after those from the nodes before it
   pub too_many_from : {M : Type 0} (state : M → S) (limit w : ℕ) (done rest others level : List (Node M)) (node : Node M) → done ++ rest ≡ level → rest ≡ node ∷ others
       → w ≡ weight state (ahead m f) done → limit ≤ w + node.count * ahead m f (state node.at) → limit ≤ weight state (ahead m f) level
   too_many_from {M} state limit w done rest others level node whole split before more =

@@ -34,7 +34,7 @@ module _ {S : Type 0} (m : Machine S) (f : S → ℕ) where
   total_chosen true r rest = sum_by-cons (λ (q : Run S). f q.at) r rest
   total_chosen false r rest = sym (zero-add (total f rest))
 
-  -- the runs behind which nobody can make a step
+  -- the runs after which nobody can make a step
   pub total_over : (rs : List (Run S)) → total f (filter (λ r. is_over m r.at) rs) ≡ total (at_end m f) rs
   total_over [] = refl
   total_over (r ∷ rs) =

@@ -20,6 +20,13 @@ abbrev pub IsFirst : {S : Type 0} → Machine S → S → (S → Bool) → ℕ �
 IsFirst m s holds steps Nowhere = (k : ℕ) → k < steps → HoldsAfterNone m s holds k
 IsFirst m s holds steps (After order) = (length order.items < steps) × LeadsFirst m s holds order.items
 
+-- rule: For each question about moments the first order to a moment as it looks for is reported, a shortest one; if
+--   none is, no moment of any run that was gone through is so. What is looked for is a function of the kernel's
+--   records: that all facts are so, or, of `always`, that not all are. Moments that are merged have the same records,
+--   so the same facts.
+--   also: Facts.is_so; Watches.is_noted; Verdicts.{is_found_against, state_against}
+--   clauses: explore: firsts; outcomes_of; state_against
+--   rows: each_moment_is_asked
 -- of each question, where the first of these has the number n
 abbrev pub AreFirsts : {S : Type 0} → Machine S → S → (ℕ → S → Bool) → ℕ → ℕ → List First → Type 0
 AreFirsts m s holds steps n [] = ⊤

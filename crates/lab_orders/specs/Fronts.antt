@@ -28,7 +28,7 @@ pub record AreShortest {M : Type 0} (steps : ℕ) (nodes : List (Node M)) : Type
   pub below : All (λ node. length node.order.items < steps) nodes
   pub rise : AllPairs (λ one other. length one.order.items ≤ length other.order.items) nodes
 
--- these nodes are where all runs of so many steps lead: each stands for as many of them as its count says
+-- these nodes are where all runs of so many steps lead: each counts for as many of them as its count says
 abbrev pub StandFor : {M S : Type 0} → Machine S → (M → S) → S → ℕ → List (Node M) → Type 0
 StandFor {M} {S} m state s k nodes = (f : S → ℕ) → weight state f nodes ≡ total f (runs m s k)
 
@@ -40,6 +40,11 @@ pub record IsGone {M S : Type 0} (m : Machine S) (state : M → S) (s : S) (most
   pub some : All (λ nodes. 0 < length nodes) levels
   pub few : All (λ nodes. length nodes ≤ most) levels
   pub stand : (k : ℕ) → k < steps → StandFor m state s k (slice_index_or levels k [])
+  -- rule: Whatever number each state has, its sum over the ends, each as often as its count says, is that over all
+  --   orders. The search is cut off only at the number of steps asked for, or where more than `most` runs have as many,
+  --   and there is such a run; otherwise no order is longer.
+  --   clauses: explore: cut, more, whole
+  --   rows: all_merges_are_counted; what_is_cut_off_is_told
   pub counted : moments ≡ min (sum_by length levels) 18446744073709551615
 
 -- no two of these nodes are at one state
@@ -49,6 +54,11 @@ states state nodes = map (λ node. state node.at) nodes
 abbrev pub AreApart : {M S : Type 0} → (M → S) → List (Node M) → Type 0
 AreApart state nodes = AllPairs (λ one other. one ≢ other) (states state nodes)
 
+-- rule: If comparing is complete, no two moments of one number of steps are at one state: as many states as moments are
+--   reported. It is complete for worlds that are tables; of kernels it isn't known, since memory may run out.
+--   also: Levels.IsIndexed
+--   clauses: explore: apart
+--   rows: all_merges_are_counted
 -- and no two nodes of one number of steps are
 pub record GoesApart {M S : Type 0} (m : Machine S) (state : M → S) (s : S) (most steps moments : ℕ) : Type 0 where
   pub gone : IsGone m state s most steps moments
@@ -68,6 +78,10 @@ pub record LeadsOn {M S : Type 0} (m : Machine S) (state : M → S) (fits : M �
   pub ends : (f : S → ℕ) → weight state f new ≡ weight state f old + weight state (at_end m f) level
   pub led_there : (s : S) → AreLed m state s level → AreLed m state s next
   pub led_ends : (s : S) → AreLed m state s level → AreLed m state s old → AreLed m state s new
+  -- rule: Each end is where its order leads, and nobody can step there. Each outcome is reported once, with exact sums.
+  --   also: Fronts.sums
+  --   clauses: explore; add_tally: distinct
+  --   rows: ends_are_where_their_orders_lead; two_orders_of_puts_end_alike
   pub over : AreOver m state old → AreOver m state new
   pub longer : (k : ℕ) → AreLong k level → AreLong (k + 1) next
   pub shortest : (k : ℕ) → AreLong k level → AreShortest k old → AreShortest (k + 1) new

@@ -40,6 +40,12 @@ pub record IsSeenOf {S T : Type 0} (m : Machine S) (n : Machine T) (see : S → 
   pub callers : n.callers ≡ m.callers
   pub go : (s : S) (c : ℕ) → n.go (see s) c ≡ option_map see (m.go s c)
 
+-- rule: With `--ask` the report says how many orders there are and how many of them end against `[ask]`, by the report
+--   of their ends without the answers of callers of whom `never` asks none; and of each question about moments the
+--   first order to one as it looks for. Forgetting answers leaves all counts as they are.
+--   also: AskingAlone.{IsVerdict, ForgetsAnswers}; Outcomes.CanNotTell
+--   clauses: ask_alone; seen_is_counted; forgets_answers
+--   rows: what_is_asked_alone_is_counted
 -- Then whatever is counted of its states is counted of what is seen of the other's, run by run and order by order.
 pub record CountsWhatIsSeen {S T : Type 0} (m : Machine S) (n : Machine T) (see : S → T) (s : S) (k : ℕ) : Type 0 where
   pub each_run : (f : T → ℕ) → total f (runs n (see s) k) ≡ total (λ t. f (see t)) (runs m s k)

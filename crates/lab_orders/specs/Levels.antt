@@ -4,7 +4,7 @@ use Rattle.std.specs.HashMap.{get}
 use Rattle.lab_orders.specs.Fronts.{AreApart, states}
 use Rattle.lab_orders.specs.declared.levels.Level.{Level}
 
--- the last place below n at which this digest stands
+-- the last place below n at which this digest is
 abbrev pub newest : List ℕ → ℕ → ℕ → Option ℕ
 newest digests digest zero = None
 newest digests digest (suc n) = cond (nat_eq (slice_index_or digests n 0) digest) (Some n) (newest digests digest n)

@@ -1,8 +1,10 @@
+pub mod Answers
 pub mod Firsts
 pub mod Fronts
 pub mod Laws
 pub mod Leading
 pub mod Levels
 pub mod Machines
+pub mod Seen
 pub mod Tallies
 pub mod Weights

@@ -46,7 +46,7 @@ unfoldable pub runs : {S : Type 0} → Machine S → S → ℕ → List (Run S)
 runs m s zero = ran [] s ∷ []
 runs m s (suc k) = flat_map (longer m) (runs m s k)
 
--- All orders of fewer steps than this: the runs behind which nobody can make one. The shortest come first.
+-- All orders of fewer steps than this: the runs after which nobody can make one. The shortest come first.
 unfoldable pub orders : {S : Type 0} → Machine S → S → ℕ → List (Run S)
 orders m s zero = []
 orders m s (suc k) = orders m s k ++ filter (λ r. is_over m r.at) (runs m s k)

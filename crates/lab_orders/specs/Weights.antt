@@ -19,7 +19,7 @@ ahead_by m f s callers = sum_by (λ c. option_map_or f (m.go s c) 0) callers
 abbrev pub ahead : {S : Type 0} → Machine S → (S → ℕ) → S → ℕ
 ahead m f s = ahead_by m f s (numbers_below m.callers)
 
--- more orders than this less one no count tells
+-- more orders than this less one no count holds
 abbrev pub count_limit : ℕ
 count_limit = 2 ^ 128
 

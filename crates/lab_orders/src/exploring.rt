@@ -222,6 +222,9 @@ fn found<M: Drop>(front: Front<M>, firsts: Vec<First>) -> Explored<M>
     }
 }
 
+// rule: No level of more than `most` moments, and none past the number of steps asked for, is continued. Shorter orders
+//   come first. `Count` means more orders, or runs of one length, than a count holds.
+//   clauses: explore: gone, shortest, uncounted; add_tally
 /// Goes through all orders of fewer than `steps` steps from a moment, and no further than where a number of steps leads
 /// to more than `most` moments. `Memory` where memory couldn't grow, `Count` where there are more orders of some length
 /// than a count can hold.
@@ -240,11 +243,11 @@ pub fn explore<W: World>(
         ≡ total f (orders (W.machine world.now) (W.state world.now start) found.steps)) }
 
     // It goes no further than asked; each step on is made from one moment at least and from no more than `most`, and so
-    // many moments are told.
+    // many moments are given.
     ensures asked { IfOk result (λ found. found.steps ≤ steps) }
     ensures gone { IfOk result (λ found. IsGone (W.machine world.now) (W.state world.now) (W.state world.now start) most found.steps found.moments) }
 
-    // Where each two moments of one state are told as such, no two of one number of steps are at one state.
+    // Where each two moments of one state are known as such, no two of one number of steps are at one state.
     ensures apart { IfOk result (λ found. W.complete world.now → GoesApart (W.machine world.now) (W.state world.now) (W.state world.now start) most found.steps found.moments) }
 
     // Where nothing was cut off, no run has as many steps.
@@ -265,7 +268,7 @@ pub fn explore<W: World>(
     ensures firsts { IfOk result (λ found. AreFirsts (W.machine world.now) (W.state world.now start) (W.holds world.now) found.steps 0 found.firsts.items) }
     ensures each { IfOk result (λ found. length found.firsts.items ≡ W.asked world.now) }
 
-    // It is `Count` only where some number of steps, no more than asked, has more runs than a count can tell.
+    // It is `Count` only where some number of steps, no more than asked, has more runs than a count can hold.
     ensures uncounted { IfErr result (λ error. error ≡ OrdersError.Count → (k : ℕ) × (k ≤ steps) × (count_limit ≤ length (runs (W.machine world.now) (W.state world.now start) k))) }
 {
     let mut front = match first_front(alloc, world, start) {

@@ -3,6 +3,9 @@ ghost use Rattle.lab_orders.specs.Laws.{MergesAreOrders, OrdersAreMerges, Orders
 
 use crate::worlds::World;
 
+// rule: The runs of a length are exactly those that exist, each once. An order is a merge of the callers' steps; where
+//   nobody ever waits each merge is an order.
+//   clauses: runs_are_all_runs; runs_are_there_once; orders_end; orders_are_merges; merges_are_orders
 /// The runs of so many steps are all that there are, and nothing else.
 pub fn runs_are_all_runs<W: World>()
     ensures { RunsAreAllRuns W.State }

@@ -15,7 +15,7 @@ use std::collections::HashMap;
 pub enum OrdersError {
     /// Memory couldn't grow.
     Memory,
-    /// More orders lead to one state than a count can tell: 2^128 or more.
+    /// More orders lead to one state than a count can hold: 2^128 or more.
     Count,
 }
 
@@ -139,7 +139,7 @@ fn longer(alloc: Global, order: &[u16], caller: u16) -> Result<Vec<u16>, AllocEr
     Ok(all)
 }
 
-// Puts a node behind all others.
+// Puts a node after all others.
 fn add_node<M: Drop>(level: &mut Level<M>, digest: u64, node: Node<M>) -> Result<(), AllocError>
     ensures nodes { OnOk result (level.new.nodes.items ≡ level.old.nodes.items ++ node ∷ []) }
     ensures indexed { OnOk result ((digests : List ℕ) → length digests ≡ vec_len level.old.nodes → IsIndexed digests level.old → IsIndexed (digests ++ digest ∷ []) level.new) }
@@ -168,7 +168,7 @@ pub(crate) fn first_level<M: Drop>(alloc: Global, moment: M) -> Result<Level<M>,
     }
 }
 
-// Puts a moment behind all others, to which the orders of the node before lead by a step of this caller.
+// Puts a moment after all others, to which the orders of the node before lead by a step of this caller.
 fn add_moment<M: Drop>(
     alloc: Global,
     level: &mut Level<M>,

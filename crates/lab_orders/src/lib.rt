@@ -2,12 +2,15 @@
 //! What names no source is this profile's own.
 #![tactic(auto)]
 
+mod counts;
 mod exploring;
 mod firsts;
 mod laws;
 mod leading;
 mod levels;
+mod lines;
 mod nodes;
+mod rows;
 mod tallies;
 mod worlds;
 
@@ -19,6 +22,7 @@ pub use laws::{
 };
 pub use leading::{Led, lead};
 pub use levels::OrdersError;
+pub use lines::{put_answers, put_head};
 pub use nodes::{Node, Reached};
 pub use tallies::{Tally, add_tally};
 pub use worlds::World;

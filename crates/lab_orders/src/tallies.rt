@@ -8,7 +8,7 @@ use crate::levels::OrdersError;
 /// An outcome.
 #[derive(Drop)]
 pub struct Tally {
-    /// What is told of it: two outcomes are the same where this is.
+    /// What is reported of it: two outcomes are the same where this is.
     pub told: String,
     /// How many orders end so.
     pub count: u128,
@@ -16,7 +16,7 @@ pub struct Tally {
     pub order: Vec<u16>,
 }
 
-// Whether just this is told of an outcome.
+// Whether just this is reported of an outcome.
 fn is_told(tally: &Tally, told: &str) -> bool
     ensures yes { result ≡ true → string_bytes tally.now.told ≡ told.now }
     ensures no { result ≡ false → string_bytes tally.now.told ≢ told.now }
@@ -24,7 +24,7 @@ fn is_told(tally: &Tally, told: &str) -> bool
     tally.told.as_str() == told
 }
 
-// The place of the outcome of which just this is told.
+// The place of the outcome of which just this is reported.
 fn place_of(tallies: &[Tally], told: &str) -> Option<usize>
     ensures within { IfSome result (λ i. i < length tallies.now) }
     ensures same { IfSome result (λ i. (tally : _) → slice_get tallies.now i ≡ Some tally → string_bytes tally.told ≡ told.now) }
@@ -53,8 +53,8 @@ fn raise(tallies: &mut Vec<Tally>, place: usize, count: u128) -> Result<(), Orde
     }
 }
 
-/// Adds orders of an outcome: to those of the one that is told alike, if there is one, which keeps its order. `Memory`
-/// where the list couldn't grow, `Count` where there are more orders than a count can tell.
+/// Adds orders of an outcome: to those of the one that is reported alike, if there is one, which keeps its order. `Memory`
+/// where the list couldn't grow, `Count` where there are more orders than a count can hold.
 pub fn add_tally(tallies: &mut Vec<Tally>, tally: Tally) -> Result<(), OrdersError>
     requires { AreDistinct tallies.old.items }
 
@@ -63,7 +63,7 @@ pub fn add_tally(tallies: &mut Vec<Tally>, tally: Tally) -> Result<(), OrdersErr
     ensures distinct { OnOk result (AreDistinct tallies.new.items) }
     ensures firsts { OnOk result (KeepsFirsts tallies.old.items tally tallies.new.items) }
 
-    // It is `Count` only where the outcomes have more orders together than a count can tell.
+    // It is `Count` only where the outcomes have more orders together than a count can hold.
     ensures uncounted { IfErr result (λ error. error ≡ OrdersError.Count → count_limit ≤ told_weight (λ text. 1) tallies.old.items + tally.count) }
 {
     match place_of(tallies.as_slice(), tally.told.as_str()) {

@@ -12,7 +12,7 @@ pub trait World {
     /// What is kept of the world at one moment.
     type Moment: Drop;
 
-    /// What is at hand right behind a step, by which its moment is told from others.
+    /// What is at hand right after a step, by which its moment is distinguished from others.
     type Hand: Drop;
 
     /// What contracts know of a moment.
@@ -36,7 +36,7 @@ pub trait World {
     /// How many questions are asked.
     ghost asked: { Self → ℕ };
 
-    /// That each two moments of one state are told as such, and have the digest of that state.
+    /// That each two moments of one state are known as such, and have the digest of that state.
     ghost complete: { Self → Type 0 };
 
     /// The digest of a state, where there is one.

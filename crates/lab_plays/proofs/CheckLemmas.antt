@@ -1,4 +1,4 @@
--- What is told of scenarios that are checked, one after the other.
+-- What is printed of scenarios that are checked, one after the other.
 use Rattle.std.proofs.Common.{◌≡◌, ◌≤◌, ◌∙◌, length, ℕ, List, [], ◌∷◌, ◌++◌, append-nil, Bool, true, false, Option, Some, None, Result, Ok, Err, IfOk, OnOk, map, refl, sym, ap, ap₂, subst, string_bytes, arith, max}
 use Rattle.std.specs.Prelude.{IsSomeAnd, codes}
 use Rattle.std.specs.List.{All, concat}
@@ -82,7 +82,7 @@ module _ (bank : List Handler) where
       each_one (record { name = name; text = Err TooLong; printed = line_about name too_long_words; status = 2 }) old new 2 (refl, refl) tells refl
   each_unread name Memory old new tells = absurd tells
 
-  -- a further file behind those that were checked
+  -- a further file after those that were checked
   pub each_next : (names : List (List ℕ)) (name : List ℕ) (old mid new : Option (List ℕ)) (status ended : ℕ)
       → ChecksEach bank names old mid status → ChecksEach bank (name ∷ []) mid new ended → ChecksEach bank (names ++ name ∷ []) old new (max status ended)
   each_next names name old mid new status ended first second =

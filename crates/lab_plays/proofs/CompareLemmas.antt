@@ -1,4 +1,4 @@
--- How differences are told.
+-- How differences are printed.
 use Rattle.std.proofs.Common.{arith, ◌≡◌, ◌==◌, ◌<◌, ◌+◌, ◌∙◌, ℕ, List, [], ◌∷◌, ◌++◌, append-nil, Bool, true, false, codes, get_or, length, map, take, Option, Result, Ok, Err, IfOk, OnOk, IsSomeAnd, refl, sym, ap, subst}
 use Rattle.std.proofs.lemmas.List.{map-append, map_more}
 use Rattle.std.proofs.lemmas.List.Folds.{concat-append}

@@ -44,7 +44,7 @@ shared_below names folder n longer is =
 pub none_shared : (names folder : List (Bor (List ℕ))) → nat_lt (length folder) (length names) ≡ false → 0 ≡ shared (map now folder) (map now names)
 none_shared names folder ends = rw (length-map folder now, length-map names now, ends) refl
 
--- what is left of the names behind those
+-- what is left of the names after those
 pub left_of : (names folder : List (Bor (List ℕ))) (own : ℕ) → own ≡ shared (map now folder) (map now names)
     → map now (take (length names - own) (drop own names)) ≡ below (map now folder) (map now names)
 left_of names folder own is =

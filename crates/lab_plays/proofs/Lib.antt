@@ -1,3 +1,5 @@
+mod NoteLemmas
+mod StateLemmas
 pub mod CheckLemmas
 pub mod CompareLemmas
 pub mod ExpectLemmas

@@ -1,4 +1,4 @@
--- What is told of a scenario, and of several one after the other.
+-- What is reported of a scenario, and of several one after the other.
 use Rattle.std.proofs.Common.{arith, Bor, length, ◌==◌, ◌≢◌, ◌≡◌, ◌∙◌, ◌⊎◌, inl, inr, ℕ, List, [], ◌∷◌, ◌++◌, append-nil, Bool, true, false, max, if◌then◌else◌, Option, Some, None, Result, Ok, Err, IfOk, OnOk, IfSome, map, find, codes, decimal, refl, sym, ap, ap₂, subst, string_bytes}
 use Rattle.std.specs.Prelude.{IsSomeAnd}
 use Rattle.std.specs.List.{All, concat}
@@ -34,7 +34,7 @@ mapped g f (x ∷ xs) = ap (λ l. g (f x) ∷ l) (mapped g f xs)
 
 -- ---- one
 
--- what is told of the one is told of the other
+-- what is reported of the one is reported of the other
 pub told_as : (E : Type 0) (Is Was : Told → Type 0) (old new quiet spoken : Option (List ℕ)) (r : Result ℕ E)
     → ((told : Told) → Was told → Is told) → IfOk r (Tells Was old new quiet spoken) → IfOk r (Tells Is old new quiet spoken)
 told_as E Is Was old new quiet spoken (Ok s) same t = record { told = t.told; is = same t.told t.is; prints = t.prints; says = t.says; ends = t.ends }
@@ -61,7 +61,7 @@ module _ (Is : Told → Type 0) where
   told_of_line (Some l) old quiet spoken is says = only_said (says_ill l) old quiet spoken refl (is l refl) says
   told_of_line None old quiet spoken is says = absurd says
 
--- what is judged of a text is told behind it
+-- what is judged of a text is said after it
 pub judged_told : (E : Type 0) (telling : Telling) (bank : List Handler) (limit : Option ℕ) (name text : List ℕ) (old new quiet between spoken : Option (List ℕ)) (status : ℕ) (j : Judged)
     (r : Result ℕ E) → Tells (TellsGiven telling bank limit name text) old new quiet between status → JudgesText bank limit name text j → IfOk r (λ s. s ≡ max status j.status)
     → OnOk r (Appends between spoken (string_bytes j.said)) → IfOk r (Tells (TellsJudged telling bank limit name text) old new quiet spoken)
@@ -127,7 +127,7 @@ module _ (Is : Played → Type 0) where
   one_name [] name e h = cc
   one_name (y ∷ ys) name e h = subst (λ (n : List ℕ). is_input n ≡ false) (ap first_name e) (unfound (is_input y.name) y _ h)
 
-  -- a further file behind those that were played
+  -- a further file after those that were played
   pub each_next : (names : List (List ℕ)) (name : List ℕ) (known later last old mid new quiet between spoken : Option (List ℕ)) (bad is_bad : ℕ)
       → (first : PlaysEach Is names known old mid quiet between bad) → (find (λ p. is_input p.name) first.each ≡ None → later ≡ known)
       → (second : PlaysEach Is (name ∷ []) later mid new between spoken is_bad) → (is_input name ≡ false → last ≡ later)

@@ -1,4 +1,4 @@
--- What `lab check` tells of texts, by their kinds.
+-- What `lab check` says of texts, by their kinds.
 use Rattle.std.specs.Prelude.{◌≡◌, ◌≤◌, ◌⊎◌, ℕ, List, [], ◌++◌, max, string_bytes, length, map, Bool, true, false, Option, None, IsSomeAnd, Ok, Err}
 use Rattle.std.specs.List.{All, concat, list_any}
 use Rattle.std.specs.Io.KnownBytes.{Appends}
@@ -30,13 +30,13 @@ abbrev pub warnings_unless : Bool → List ℕ → List ℕ
 warnings_unless true warned = []
 warnings_unless false warned = warned
 
--- behind a text stand the faults of a text of a kind, or else its warnings, and whether it is at fault is answered
+-- after a text stand the faults of a text of a kind, or else its warnings, and whether it is at fault is answered
 pub record TellsText (bank : List Handler) (kind : TextKind) (name text before after : List ℕ) (at_fault : Bool) : Type 0 where
   pub reported : List ℕ
   pub reports : Reports kind name text before reported at_fault
   pub warned : after ≡ reported ++ warnings_unless at_fault (kind_warnings bank kind name text)
 
--- what stands for a text is checked; of a text of lines that can't be read its first fault is told
+-- what is in place of a text is checked; of a text of lines that can't be read its first fault is reported
 abbrev pub ChecksText : List Handler → List ℕ → List ℕ → List ℕ → Bool → Type 0
 ChecksText bank name text printed at_fault =
     ((plain : List ℕ) × IsPlain text plain × TellsText bank (checked_kind plain) name plain [] printed at_fault)
@@ -77,7 +77,7 @@ IsChecked bank c = TellsFile bank c.name c.text c.printed c.status
 
 -- ---- several
 
--- what is told of files, one after the other, and the worst status
+-- what is reported of files, one after the other, and the worst status
 pub record ChecksEach (bank : List Handler) (names : List (List ℕ)) (old new : Option (List ℕ)) (status : ℕ) : Type 0 where
   pub each : List Checked
   pub in_order : map (λ c. c.name) each ≡ names
@@ -85,6 +85,13 @@ pub record ChecksEach (bank : List Handler) (names : List (List ℕ)) (old new :
   pub prints : Appends old new (concat (map (λ c. c.printed) each))
   pub ends : status ≡ worst (map (λ c. c.status) each)
 
+-- rule: `lab check` prints, for each file in order, the faults of the text that was read by its kind, else a scenario's
+--   warnings, or that it cannot be read; of a text of lines those of its scenario, or the first line that cannot be
+--   read, with its number. Then that of a text that expects answers. It answers 2 exactly if a text has a fault (a
+--   scenario: if it cannot be played, or expects what cannot be) or a file cannot be read, else 1 exactly if a step is
+--   answered otherwise.
+--   also: Checks.{ChecksEach, ChecksText}; Banks.Refuses; Reports.Reports
+--   clauses: check_files; check_each; tell_faults; check_given
 -- files were checked over the callbacks of a bank's file or the program's, and nothing else is said
 pub record Checks (file : Option (List ℕ)) (names : List (List ℕ)) (old new quiet spoken : Option (List ℕ)) (status : ℕ) : Type 0 where
   pub bank : List Handler

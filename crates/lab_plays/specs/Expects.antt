@@ -1,4 +1,4 @@
--- What is told of a text that expects its steps to be answered so.
+-- What is reported of a text that expects its steps to be answered so.
 use Rattle.std.specs.Prelude.{◌≡◌, ◌⊎◌, ℕ, Bool, List, [], ◌∷◌, ◌++◌, codes, decimal, map, string_bytes, if◌then◌else◌, Option, Some, None, Result, Ok, Err}
 use Rattle.std.specs.Str.Lines.{lines}
 use Rattle.evl_kernel.specs.state.States.{Handler}
@@ -20,7 +20,7 @@ use Rattle.lab_lines.specs.declared.texts.LinesFault.{LinesFault}
 use Rattle.lab_streams.specs.Texts.{text_in}
 use Rattle.lab_plays.specs.declared.expects.Judged.{Judged}
 
--- ---- what is told
+-- ---- what is reported
 
 abbrev pub line_words : List ℕ → ℕ → List ℕ → List ℕ
 line_words name line words = name ++ (codes ":" ++ (decimal line ++ (codes ": " ++ (words ++ line_feed))))
@@ -51,7 +51,7 @@ abbrev pub JudgesRead : List ℕ → List Expected → List ℕ → Result Scrip
 JudgesRead name expected trace (Err e) j = IsNothing j
 JudgesRead name expected trace (Ok script) j = JudgesSteps name expected trace script.steps j
 
--- of one that is refused nothing is told here
+-- of one that is refused nothing is reported here
 abbrev pub JudgesTrace : List ℕ → List Expected → Result (List ℕ) Fault → Result Script Fault → Judged → Type 0
 JudgesTrace name expected (Err e) read j = IsNothing j
 JudgesTrace name expected (Ok trace) read j = JudgesRead name expected trace read j
@@ -68,13 +68,13 @@ abbrev pub JudgesPlain : List Handler → Option ℕ → List ℕ → Expected �
 JudgesPlain bank limit name first expected plain j =
     JudgesKind name first expected (kind_of plain) (trace_of bank limit plain) (scenario_of limit plain) j
 
--- what stands for a text is played
+-- what is in place of a text is played
 abbrev pub JudgesGiven : List Handler → Option ℕ → List ℕ → Expected → List Expected → List ℕ → Judged → Type 0
 JudgesGiven bank limit name first expected text j =
     ((plain : List ℕ) × IsPlain text plain × JudgesPlain bank limit name first expected plain j)
     ⊎ ((e : LinesFault) × IsUnread text e × IsNothing j)
 
--- of a text that expects nothing nothing is told
+-- of a text that expects nothing nothing is reported
 abbrev pub JudgesAll : List Handler → Option ℕ → List ℕ → List ℕ → List Expected → Judged → Type 0
 JudgesAll bank limit name text [] j = IsNothing j
 JudgesAll bank limit name text (first ∷ rest) j = JudgesGiven bank limit name first (first ∷ rest) text j

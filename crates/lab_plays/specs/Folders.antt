@@ -28,7 +28,7 @@ begun folder steps = if starts_with bytes_eq steps folder then length folder els
 abbrev pub shared : List (List ℕ) → List (List ℕ) → ℕ
 shared folder steps = if nat_lt (length folder) (length steps) then begun folder steps else 0
 
--- the steps behind those of a folder
+-- the steps after those of a folder
 abbrev pub below : List (List ℕ) → List (List ℕ) → List (List ℕ)
 below folder steps = drop (shared folder steps) steps
 

@@ -1,4 +1,4 @@
--- What `lab play` tells of scenarios.
+-- What `lab play` says of scenarios.
 use Rattle.std.specs.Prelude.{◌≡◌, ◌≤◌, ◌⊎◌, ◌-◌, ◌^◌, max, ℕ, List, [], ◌∷◌, ◌++◌, length, map, take, find, codes, decimal, string_bytes, Bool, true, false, MatchBool, if◌then◌else◌, Option, Some, None, option_map, unwrap_or, IfSome, IsSomeAnd, Result, Ok, Err}
 use Rattle.std.specs.List.{All, concat}
 use Rattle.std.specs.Str.{bytes_eq}
@@ -29,7 +29,7 @@ use Rattle.lab_streams.specs.declared.words.Playing.{Playing}
 use Rattle.lab_streams.specs.declared.words.Telling.{Telling}
 use Rattle.lab_streams.specs.declared.words.Telling.TheVariants.{Trace, Json, Against}
 
--- ---- what is told
+-- ---- what is reported
 
 -- what is printed of a scenario, what is said of its end, and its status
 pub record Told : Type 0 where
@@ -48,7 +48,7 @@ ends_apart name printed words = record { printed = printed; said = line_about na
 abbrev pub ends_ill : List ℕ → List ℕ → Told
 ends_ill name words = record { printed = []; said = line_about name words; status = 2 }
 
--- this was told: the output and the error stream have it behind what they had
+-- this was written: the output and the error stream have it after what they had
 pub record Tells (Is : Told → Type 0) (old new quiet spoken : Option (List ℕ)) (status : ℕ) : Type 0 where
   pub told : Told
   pub is : Is told
@@ -72,7 +72,7 @@ IsJsonOf name text json =
 
 -- ---- beside a trace that was kept
 
--- what stands at a line, behind a sign, or that the text has ended
+-- what is at a line, after a sign, or that the text has ended
 abbrev pub side_text : List ℕ → Option (List ℕ) → List ℕ
 side_text sign line = sign ++ (codes " " ++ (unwrap_or line (codes "(the end)") ++ line_feed))
 
@@ -122,7 +122,7 @@ TellsGiven telling bank limit name text told =
     ((plain : List ℕ) × IsPlain text plain × TellsPlayed telling name (kind_of plain) (trace_of bank limit plain) told)
     ⊎ ((said : List ℕ) × SaysUnread name text said × (told ≡ says_ill said))
 
--- what is judged of it is said behind that
+-- what is judged of it is said after that
 abbrev pub with_judged : Told → Judged → Told
 with_judged told j = record { printed = told.printed; said = told.said ++ string_bytes j.said; status = max told.status j.status }
 
@@ -138,7 +138,7 @@ TellsFile telling bank limit name (Err why) told = IsSomeAnd (unread_words why) 
 
 -- ---- several
 
--- a file, what was read of it, and what is told
+-- a file, what was read of it, and what is reported
 pub record Played : Type 0 where
   pub name : List ℕ
   pub text : Reading
@@ -156,7 +156,7 @@ abbrev pub worst : List ℕ → ℕ
 worst [] = 0
 worst (status ∷ rest) = max status (worst rest)
 
--- what is told of files, one after the other
+-- what is reported of files, one after the other
 pub record PlaysEach (Is : Played → Type 0) (names : List (List ℕ)) (known old new quiet spoken : Option (List ℕ)) (status : ℕ) : Type 0 where
   pub each : List Played
   pub in_order : map (λ p. p.name) each ≡ names
@@ -166,6 +166,15 @@ pub record PlaysEach (Is : Played → Type 0) (names : List (List ℕ)) (known o
   pub says : Appends quiet spoken (concat (map (λ p. p.told.said) each))
   pub ends : status ≡ worst (map (λ p. p.told.status) each)
 
+-- rule: `lab play` prints, for each file in order, the trace of the text that was read (of a text of lines, of its
+--   scenario), over the bank and under the limit, or nothing if it is refused; as JSON a line for each entry; beside a
+--   folder's trace the first line that differs. Standard error has a line for each file (of another kind of text for
+--   which part it is, as `live`, `draw`, `convert`, `orders` and `callers` say too), then of one that expects answers
+--   the step that `first_unexpected` finds, with its line. The answer is the worst of the files': 1 of a trace that
+--   differs from one that was kept; 2 of one that is refused, cannot be read, or whose trace is missing. Where a folder
+--   has a file's trace is a function of their paths. The first `-` is the whole input; a file's text is some text.
+--   also: Plays.{PlaysEach, TellsPlayed, Compares}; Folders.trace_path; Expects.JudgesText; Banks.Refuses
+--   clauses: judge; play_files; play_each; play_text; compare; trace_path; tell_fault
 -- files, or the input where none is named, were played as the words ask, over the callbacks of a bank's file or the program's
 pub record Plays (asked : Playing) (names : List (List ℕ)) (known old new quiet spoken : Option (List ℕ)) (status : ℕ) : Type 0 where
   pub bank : List Handler

@@ -17,7 +17,7 @@ use std::alloc::{AllocError, Global};
 use std::io;
 use std::rt::Files;
 
-/// Tells the warnings of a scenario without fault; a text of another kind has none.
+/// Prints the warnings of a scenario without fault; a text of another kind has none.
 pub fn warn(
     alloc: Global,
     plans: &[Planned],
@@ -37,7 +37,7 @@ pub fn warn(
     }
 }
 
-// Tells the faults of a text of a kind, or its warnings where it has none, and whether it has a fault.
+// Reports the faults of a text of a kind, or its warnings where it has none, and whether it has a fault.
 fn tell_faults(
     alloc: Global,
     plans: &[Planned],
@@ -55,7 +55,7 @@ fn tell_faults(
     Ok(false)
 }
 
-// Prints the faults or warnings of a text, and tells whether it has a fault.
+// Prints the faults or warnings of a text, and says whether it has a fault.
 fn check_text<O: Stream>(
     alloc: Global,
     plans: &[Planned],
@@ -73,7 +73,7 @@ fn check_text<O: Stream>(
     Ok(is_at_fault)
 }
 
-// The same of what stands for a text; of a text of lines that can't be read prints its first fault.
+// As `check_text`, of what is in place of a text; of a text of lines that can't be read prints its first fault.
 fn check_given<O: Stream>(
     alloc: Global,
     plans: &[Planned],

@@ -16,7 +16,7 @@ use std::alloc::{AllocError, Global};
 use std::io;
 use std::rt::Files;
 
-// Tells that there is no trace at a path.
+// Says that there is no trace at a path.
 fn tell_missing<E: Stream>(err: &mut E, name: &str, path: &str) -> io::Result<()>
     ensures line { OnOk result (Appends (E.contents err.old) (E.contents err.new) (line_about name.now (codes "no trace " ++ path.now))) }
     ensures early { IfErr result (EndsEarly false false (E.has_failed err.new)) }
@@ -24,7 +24,7 @@ fn tell_missing<E: Stream>(err: &mut E, name: &str, path: &str) -> io::Result<()
     writeln!(err, "{name}: no trace {path}")
 }
 
-// Tells that the trace at a path is too long.
+// Says that the trace at a path is too long.
 fn tell_too_long<E: Stream>(err: &mut E, name: &str, path: &str) -> io::Result<()>
     ensures line { OnOk result (IsSomeAnd (unstored_words path.now Unread.TooLong) (λ words. Appends (E.contents err.old) (E.contents err.new) (line_about name.now words))) }
     ensures early { IfErr result (EndsEarly false false (E.has_failed err.new)) }
@@ -35,7 +35,7 @@ fn tell_too_long<E: Stream>(err: &mut E, name: &str, path: &str) -> io::Result<(
     )
 }
 
-// Tells why the trace at a path isn't read, and answers the status. Want of memory isn't told: it is this function's own
+// Says why the trace at a path isn't read, and answers the status. Want of memory isn't reported: it is this function's own
 // error.
 fn tell_unstored<E: Stream>(err: &mut E, name: &str, path: &str, why: Unread) -> io::Result<u8>
     ensures status { IfOk result (λ status. status ≡ 2) }
@@ -55,7 +55,7 @@ fn tell_unstored<E: Stream>(err: &mut E, name: &str, path: &str, why: Unread) ->
     }
 }
 
-// Tells a line of a trace, or that it has ended.
+// Prints a line of a trace, or that it has ended.
 fn tell_line<O: Stream>(out: &mut O, sign: &str, line: Option<&str>) -> io::Result<()>
     ensures text { OnOk result (Appends (O.contents out.old) (O.contents out.new) (side_text sign.now (option_map (λ text. text.now) line.entry))) }
     ensures early { IfErr result (EndsEarly false (O.has_failed out.new) false) }
@@ -64,7 +64,7 @@ fn tell_line<O: Stream>(out: &mut O, sign: &str, line: Option<&str>) -> io::Resu
     writeln!(out, "{sign} {text}")
 }
 
-// Tells a difference.
+// Prints a difference.
 fn tell_difference<O: Stream>(name: &str, difference: Difference<'_>, out: &mut O) -> io::Result<()>
     ensures text { OnOk result (Appends (O.contents out.old) (O.contents out.new) (apart_text name.now (told_apart difference.entry))) }
     ensures early { IfErr result (EndsEarly false (O.has_failed out.new) false) }
@@ -75,7 +75,7 @@ fn tell_difference<O: Stream>(name: &str, difference: Difference<'_>, out: &mut 
     tell_line(out, "+", made)
 }
 
-// Tells differences.
+// Prints differences.
 fn tell_differences<O: Stream>(
     name: &str,
     differences: &[Difference<'_>],
@@ -90,7 +90,7 @@ fn tell_differences<O: Stream>(
     Ok(())
 }
 
-// Tells how a trace differs, and answers the status.
+// Says how a trace differs, and answers the status.
 fn tell_compared<O: Stream, E: Stream>(
     name: &str,
     differences: &[Difference<'_>],
@@ -146,7 +146,7 @@ fn compare_at<R: Files + AllocGlobal, O: Stream, E: Stream>(
     }
 }
 
-/// Tells where the trace of a file differs from the one that a folder has of it, and answers the status: 1 where it
+/// Says where the trace of a file differs from the one that a folder has of it, and answers the status: 1 where it
 /// differs, 2 where there is no such trace, or it can't be read.
 pub fn compare<R: Files + AllocGlobal, O: Stream, E: Stream>(
     rt: &R,

@@ -19,7 +19,7 @@ use lab_streams::{AGAINST, AT_FAULT, Stream, text_in, worse};
 use std::alloc::{AllocError, Global};
 use std::io;
 
-/// What is told of a text that expects answers, and its status: nothing with 0, that a step is answered otherwise with
+/// What is reported of a text that expects answers, and its status: nothing with 0, that a step is answered otherwise with
 /// 1, or a fault with 2.
 #[derive(Drop)]
 pub struct Judged {
@@ -27,7 +27,7 @@ pub struct Judged {
     pub status: u8,
 }
 
-// That nothing is told.
+// That nothing is reported.
 fn nothing(alloc: Global) -> Judged
     ensures { IsNothing result }
 {
@@ -37,7 +37,7 @@ fn nothing(alloc: Global) -> Judged
     }
 }
 
-// That this is told of a line.
+// That this is reported of a line.
 fn said(
     alloc: Global,
     name: &str,
@@ -60,7 +60,7 @@ fn found_status(is_fault: bool) -> u8
     if is_fault { AT_FAULT } else { AGAINST }
 }
 
-// Tells what was found.
+// Prints what was found.
 fn tell_found(alloc: Global, name: &str, found: Option<Unexpected>) -> Result<Judged, AllocError>
     ensures { IfOk result (TellsFound name.now found) }
 {
@@ -164,7 +164,7 @@ fn copied(alloc: Global, bytes: &[u8]) -> Result<Vec<u8>, AllocError>
     Ok(copy)
 }
 
-// Judges what stands for a text.
+// Judges what is in place of a text.
 fn judge_given(
     alloc: Global,
     plans: &[Planned],
@@ -212,7 +212,7 @@ fn no_answer(alloc: Global, name: &str, line: usize, step: usize) -> Result<Judg
     said(alloc, name, line, words.as_str(), AT_FAULT)
 }
 
-/// Plays a text that expects answers over callbacks, under a limit that may be handed in, and tells the first step that
+/// Plays a text that expects answers over callbacks, under a limit that may be handed in, and names the first step that
 /// is answered otherwise, or of which an answer is expected that no call of its kind has; of any other text nothing.
 /// `AllocError` where memory couldn't grow.
 pub fn judge(
@@ -232,7 +232,7 @@ pub fn judge(
     }
 }
 
-/// Tells what was judged of a text behind what else was told of it, and answers the worse status.
+/// Says what was judged of a text after what else was written of it, and answers the worse status.
 pub fn tell_judged<E: Stream>(err: &mut E, status: u8, judged: &Judged) -> io::Result<u8>
     ensures status { IfOk result (λ worse. worse ≡ max status judged.now.status) }
     ensures said { OnOk result (Appends (E.contents err.old) (E.contents err.new) (string_bytes judged.now.said)) }

@@ -100,7 +100,7 @@ fn shared<'a>(steps: &[&'a str], folder: &[&'a str]) -> usize
     }
 }
 
-// The steps behind those of a folder.
+// The steps after those of a folder.
 fn below<'a, 'b>(steps: &'b [&'a str], folder: &[&'a str]) -> &'b [&'a str]
     ensures { map (λ step. step.now) result.now ≡ folders.below (map (λ step. step.now) folder.now) (map (λ step. step.now) steps.now) }
 {
@@ -129,7 +129,7 @@ fn names_below<'a>(
     named(alloc, below_if(alike, steps.as_slice(), own.as_slice()))
 }
 
-// Writes names, each behind a slash.
+// Writes names, each after a slash.
 fn put_names(path: &mut String, names: &[&str]) -> Result<(), AllocError>
     ensures { OnOk result (string_bytes path.new ≡ string_bytes path.old ++ concat (map behind_slash (map (λ name. name.now) names.now))) }
 {

@@ -54,7 +54,7 @@ fn put_json<O: Stream>(alloc: Global, name: &str, text: &str, out: &mut O) -> io
     }
 }
 
-// Tells a trace, and answers the status.
+// Prints a trace, and answers the status.
 fn tell_whole<O: Stream, E: Stream>(
     name: &str,
     trace: &[u8],
@@ -69,7 +69,7 @@ fn tell_whole<O: Stream, E: Stream>(
     Ok(0)
 }
 
-// Tells a trace as JSON, and answers the status.
+// Prints a trace as JSON, and answers the status.
 fn tell_json<O: Stream, E: Stream>(
     alloc: Global,
     name: &str,
@@ -85,7 +85,7 @@ fn tell_json<O: Stream, E: Stream>(
     Ok(0)
 }
 
-// Tells what is asked for of a trace, and answers the status.
+// Prints what is asked for of a trace, and answers the status.
 fn tell_trace<R: Files + AllocGlobal, O: Stream, E: Stream>(
     rt: &R,
     telling: Telling<'_>,
@@ -128,7 +128,7 @@ fn play_text<R: Files + AllocGlobal, O: Stream, E: Stream>(
     }
 }
 
-// Plays what stands for a text, and answers the status.
+// Plays what is in place of a text, and answers the status.
 fn play_given<R: Files + AllocGlobal, O: Stream, E: Stream>(
     rt: &R,
     plans: &[Planned],
@@ -151,7 +151,7 @@ fn play_given<R: Files + AllocGlobal, O: Stream, E: Stream>(
     }
 }
 
-// Plays a text, then tells whether its steps are answered as it expects, and answers the worse status.
+// Plays a text, then says whether its steps are answered as it expects, and answers the worse status.
 fn play_judged<R: Files + AllocGlobal, O: Stream, E: Stream>(
     rt: &R,
     plans: &[Planned],
@@ -237,7 +237,7 @@ fn play_over<R: Files + AllocGlobal, I: Read, O: Stream, E: Stream>(
     }
 }
 
-/// Plays scenarios over a bank, tells of each what is asked for and on `err` how it ended, and answers the worst status: 1
+/// Plays scenarios over a bank, says of each what is asked for and on `err` how it ended, and answers the worst status: 1
 /// where a trace differs from one that was kept, or a step is answered otherwise than its text expects, 2 where a text is
 /// refused or can't be read, such a trace isn't there, or the bank is at fault.
 pub fn play_files<R: Files + AllocGlobal, I: Read, O: Stream, E: Stream>(

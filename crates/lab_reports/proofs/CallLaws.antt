@@ -81,18 +81,18 @@ pub value_with : (key piece value next : List ℕ) (more : List (List ℕ)) → 
 value_with key piece value next [] h e = absurd (omega (arith, h))
 value_with key piece value next (other ∷ more) h e = rw e refl
 
--- no `=` stands in the text
+-- the text has no `=`
 pub all_without : (text : List ℕ) → FindsChar 61 text None → IsAllValue text
 all_without text h key =
     let alone : position_or_len (λ b. b == 61) text ≡ length text = split_once_first 61 text None h (omega arith) in
     rw (pieces-alone text alone) refl
 
--- what stands before the first `=`, and what behind it
+-- what is before the first `=`, and what is after it
 module _ (text front back : List ℕ) (whole : text ≡ front ++ 61 ∷ back) (apart : (i : ℕ) → i < length front → get_or front i 0 ≢ 61) where
   pub pieces-cut : pieces text ≡ front ∷ pieces back
   pieces-cut = ap pieces whole ∙ lacks_cut front back (lacks_by 61 front apart)
 
-  -- no space stands before it
+  -- no space is before it
   pub all_before : RFindsChar 32 front None → IsAllValue text
   all_before h key =
       rw pieces-cut (value_alone key front (pieces back) (some_pieces back) (last_none front (spaceless front h)))

@@ -5,7 +5,7 @@ use Rattle.std.proofs.lemmas.List.{drop_all, length-append, length-map, map-appe
 use Rattle.lab_reports.specs.Differences.{Apart, Notes, apart_at, are_alike, differing, told_apart}
 use Rattle.lab_reports.specs.declared.differences.Difference.{Difference}
 
--- ---- at an index, and behind it
+-- ---- at an index, and after it
 
 only_made : (n i : ℕ) (made : List (List ℕ)) → differing n [] (drop i made) ≡ apart_at n None (slice_get made i) ++ differing (n + 1) [] (drop (suc i) made)
 only_made n zero [] = refl

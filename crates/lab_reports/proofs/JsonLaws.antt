@@ -83,7 +83,7 @@ head_told file parts old one two three new e f g h =
 
 -- ---- lines
 
--- an entry begins a line, behind the end of the one before it
+-- an entry begins a line, after the end of the one before it
 begun_from : (file : List ℕ) (begun : Option Bool) (parts : EntryParts) (rest : List Said)
     → end_json begun ++ (head_json file (Some parts) ++ left_json file (Some true) rest) ≡ left_json file begun (entry parts ∷ rest)
 begun_from file begun parts rest = by begun

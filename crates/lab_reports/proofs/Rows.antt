@@ -54,7 +54,7 @@ trace_1 : trace_json (codes "a \"b\"") told ≡ write_line ++ begin_line
 unfolding serde_json_on_literals digits
 trace_1 = refl
 
--- a play that no entry stands before
+-- a play that no entry comes before
 abbrev before_line : List ℕ
 before_line =
     codes "{\"file\": \"a \\\"b\\\"\", \"number\": null, \"who\": null, \"call\": null, \"keys\": {}, "

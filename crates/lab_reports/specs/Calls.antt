@@ -9,7 +9,7 @@ use Rattle.evl_base.specs.Fields.{value_text}
 abbrev pub Pair : Type 0
 Pair = List ℕ × List ℕ
 
--- what stands before the last space, and what behind it
+-- what is before the last space, and what after it
 abbrev pub before_or_here : ℕ → List ℕ → Option (List ℕ × List ℕ) → Option (List ℕ × List ℕ)
 before_or_here byte rest (Some (front, back)) = Some (byte ∷ front, back)
 before_or_here byte rest None = if byte == 32 then Some ([], rest) else None
@@ -18,7 +18,7 @@ abbrev pub around_last_space : List ℕ → Option (List ℕ × List ℕ)
 around_last_space [] = None
 around_last_space (byte ∷ rest) = before_or_here byte rest (around_last_space rest)
 
--- the pairs of a key and of the pieces behind it, which were cut at each `=`: a piece is a value with the next key behind
+-- the pairs of a key and of the pieces after it, which were cut at each `=`: a piece is a value with the next key after
 -- its last space, and the last piece is a value; where a piece has no space, all from there on is the value
 abbrev pub pairs_behind : List ℕ → List (List ℕ) → List Pair
 pairs_behind key [] = []
@@ -35,11 +35,11 @@ pairs_of (key ∷ more) = pairs_behind key more
 abbrev pub pieces : List ℕ → List (List ℕ)
 pieces text = slice_split (λ byte. byte == 61) text
 
--- the word of a call stands before its first space
+-- the word of a call is before its first space
 abbrev pub call_word : List ℕ → List ℕ
 call_word call = before_first (λ byte. byte == 32) call
 
--- its pairs stand behind that: the first eight, and no call has so many
+-- its pairs stand after that: the first eight, and no call has so many
 abbrev pub call_pairs : List ℕ → List Pair
 call_pairs call = take 8 (pairs_of (pieces (after_first (λ byte. byte == 32) call)))
 
@@ -50,12 +50,12 @@ abbrev pub pairs_text : List Pair → List ℕ
 pairs_text [] = []
 pairs_text (pair ∷ more) = 32 ∷ (pair.0 ++ 61 ∷ (pair.1 ++ pairs_text more))
 
--- no space and no `=` stands in a key, and no `=` in a value
+-- no space and no `=` is in a key, and no `=` in a value
 abbrev pub ArePairs : List Pair → Type 0
 ArePairs [] = Unit {0}
 ArePairs (pair ∷ more) = Lacks 32 pair.0 × Lacks 61 pair.0 × Lacks 61 pair.1 × ArePairs more
 
--- the text of a call is this word, in which no space stands, and these pairs
+-- the text of a call is this word, in which no space is, and these pairs
 pub record IsJoined (call word : List ℕ) (pairs : List Pair) : Type 0 where
   pub whole : call ≡ word ++ pairs_text pairs
   pub one_word : Lacks 32 word
@@ -67,7 +67,7 @@ keyed_pair keyed = (keyed.0, value_text keyed.1)
 
 -- ---- for private clauses
 
--- the pairs of what is left, if a key stands there
+-- the pairs of what is left, if a key is there
 abbrev pub rest_pairs : Option (List ℕ) → List Pair
 rest_pairs None = []
 rest_pairs (Some rest) = pairs_of (pieces rest)
@@ -80,7 +80,7 @@ OneMore done left done_now left_now = (n : ℕ) → done_now ++ take n (rest_pai
 abbrev pub IsAllValue : List ℕ → Type 0
 IsAllValue text = (key : List ℕ) → pairs_behind key (pieces text) ≡ (key, text) ∷ []
 
--- a value stands at the front of a text, and behind a space the next key
+-- a value is at the front of a text, and after a space the next key
 pub record IsBeforeKey (text value : List ℕ) : Type 0 where
   pub rest : List ℕ
   pub whole : text ≡ value ++ 32 ∷ rest

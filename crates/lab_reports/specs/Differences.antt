@@ -16,14 +16,18 @@ are_alike (Some one) (Some other) = bytes_eq one other || are_one_entry (line_re
 are_alike None None = true
 are_alike _ _ = false
 
--- the number of a line, and what stands there in each of two lists, none behind their ends
+-- the number of a line, and what is there in each of two lists, none after their ends
 abbrev pub Apart : Type 0
 Apart = ℕ × Option (List ℕ) × Option (List ℕ)
 
--- what stands there, if it isn't alike
+-- what is there, if it isn't alike
 abbrev pub apart_at : ℕ → Option (List ℕ) → Option (List ℕ) → List Apart
 apart_at line stored made = if are_alike stored made then [] else (line, stored, made) ∷ []
 
+-- rule: The lines at which two traces differ in more than entries' numbers are given, as many of the first as are asked
+--   for, with what each trace has there. Carriage returns before line feeds and a missing last line feed do not count.
+--   clauses: find_differences
+--   rows: numbers_alone_are_no_difference; apart_1
 -- each line at which two lists differ, where their first lines have this number
 abbrev pub differing : ℕ → List (List ℕ) → List (List ℕ) → List Apart
 differing line [] [] = []
@@ -31,7 +35,7 @@ differing line (one ∷ stored) [] = apart_at line (Some one) None ++ differing 
 differing line [] (other ∷ made) = apart_at line None (Some other) ++ differing (line + 1) [] made
 differing line (one ∷ stored) (other ∷ made) = apart_at line (Some one) (Some other) ++ differing (line + 1) stored made
 
--- what is told of a difference
+-- what is reported of a difference
 abbrev pub told_apart : Difference → Apart
 told_apart d = (d.line, option_map (λ line. line.now) d.stored, option_map (λ line. line.now) d.made)
 

@@ -91,6 +91,10 @@ events_from named row [] = []
 events_from named row (mark ∷ rest) =
     names_text named mark.lane ++ (event_text row mark ++ (wait_text row mark mark.shape ++ events_from (event_noted named (track mark.lane)) (row + 1) rest))
 
+-- rule: Trace events are exactly their text: a track's name and place before its first event, an event for each mark,
+--   and where waits begin or end.
+--   clauses: write_events
+--   rows: each_mark_is_an_event
 -- the events of all marks, from row 1
 abbrev pub events_text : List Mark → List ℕ
 events_text marks =

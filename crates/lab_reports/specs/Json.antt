@@ -15,8 +15,12 @@ use Rattle.lab_reports.specs.Quotes.{json_text}
 
 -- ---- groups
 
--- an entry with its plays, or the plays that no entry stands before
+-- an entry with its plays, or the plays that no entry is before
 pub record Group : Type 0 where
+  -- rule: Each call that it takes adds its entry, of this thread and call, and prints exactly that entry's lines with
+  --   its plays, by which the history's trace grows; board, limit and callbacks stay. A full history stays, and the
+  --   line without an entry is printed. Want of memory leaves it, or adds exactly that entry.
+  --   clauses: Session::make: bank, board, full, history, limit, trace
   pub entry : Option EntryParts
   pub plays : List Play
 
@@ -34,7 +38,7 @@ entry_groups (board line ∷ rest) = entry_groups rest
 entry_groups (play p ∷ rest) = entry_groups rest
 entry_groups (entry parts ∷ rest) = record { entry = Some parts; plays = first_plays rest } ∷ entry_groups rest
 
--- plays that no entry stands before, if there are some
+-- plays that no entry is before, if there are some
 abbrev pub group_before : List Play → List Group
 group_before [] = []
 group_before (p ∷ plays) = record { entry = None; plays = p ∷ plays } ∷ []
@@ -44,11 +48,11 @@ groups said = group_before (first_plays said) ++ entry_groups said
 
 -- ---- texts
 
--- what stands before each of several texts but the first
+-- what is before each of several texts but the first
 abbrev pub comma : Bool → List ℕ
 comma is_first = if is_first then [] else codes ", "
 
--- texts one behind the other, with a comma and a space between
+-- texts one after the other, with a comma and a space between
 abbrev pub json_list : Bool → List (List ℕ) → List ℕ
 json_list is_first [] = []
 json_list is_first (text ∷ texts) = comma is_first ++ (text ++ json_list false texts)
@@ -71,7 +75,7 @@ truth_json truth = if truth then codes "true" else codes "false"
 abbrev pub digits_of : List ℕ → List ℕ
 digits_of value = if bytes_eq value (codes "-") then [] else value
 
--- the value of a key: bytes are a text of digits; else `none` is null, a number, true or false stands as it is, and
+-- the value of a key: bytes are a text of digits; else `none` is null, a number, true or false is as it is, and
 -- anything else is a text
 abbrev pub value_json : List ℕ → List ℕ → List ℕ
 value_json key value =
@@ -117,7 +121,7 @@ answer_json answer =
     ++ (codes ", \"value\": " ++ (kind_json (answer_parts answer).0 (answer_parts answer).1
     ++ (codes "}, \"refused\": " ++ truth_json (names_refusal answer)))))
 
--- what stands of a group between its file and its plays
+-- what holds of a group between its file and its plays
 abbrev pub entry_json : Option EntryParts → List ℕ
 entry_json None = codes ", \"number\": null, \"who\": null, \"call\": null, \"keys\": {}, \"answer\": null, \"refused\": false"
 entry_json (Some parts) =
@@ -147,27 +151,34 @@ head_json file parts = codes "{\"file\": " ++ (json_text file ++ (entry_json par
 abbrev pub group_json : List ℕ → Group → List ℕ
 group_json file group = head_json file group.entry ++ (json_list true (map play_json group.plays) ++ codes "]}\n")
 
--- the lines of these groups, one behind the other
+-- the lines of these groups, one after the other
 abbrev pub lines_json : List ℕ → List Group → List ℕ
 lines_json file gs = concat (map (group_json file) gs)
 
--- what is told of a trace of this file
+-- rule: The JSON of a trace is exactly its text: a line for each entry with the plays after it, before these one for
+--   plays without an entry. Numbers, null, texts and escapes are as the trace has them; an answer is its kind and its
+--   value. A call has its name and keys with values; any text of a word and pairs has its first eight (no space in a
+--   word or key, no `=` in a key or value).
+--   clauses: write_json; call_parts
+--   rows: each_entry_is_a_line_of_json; plays_before_the_first_entry_have_a_line; answers_have_kinds_and_values;
+--   trace_1; trace_2; call_1; call_2; call_3; answer_1; answer_2; answer_3; answer_4; answer_5; answer_6; answer_7
+-- what is reported of a trace of this file
 abbrev pub trace_json : List ℕ → List Said → List ℕ
 trace_json file said = lines_json file (groups said)
 
 -- ---- for private clauses
 
--- what ends the line that was begun, if there is one; of that is told whether it has no plays yet
+-- what ends the line that was begun, if there is one; of that is reported whether it has no plays yet
 abbrev pub end_json : Option Bool → List ℕ
 end_json None = []
 end_json (Some is_first) = codes "]}\n"
 
--- a play behind it
+-- a play after it
 abbrev pub next_json : List ℕ → Option Bool → Play → List ℕ
 next_json file None p = head_json file None ++ play_json p
 next_json file (Some is_first) p = comma is_first ++ play_json p
 
--- what is still to be told
+-- what is still to be reported
 abbrev pub left_json : List ℕ → Option Bool → List Said → List ℕ
 left_json file None said = trace_json file said
 left_json file (Some is_first) said =

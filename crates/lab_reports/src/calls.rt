@@ -11,7 +11,7 @@ use std::alloc::{AllocError, Global};
 // The most keys of a call.
 const MOST_KEYS: usize = 8;
 
-// The value at the front of a text, up to the last space before the next `=`; none where no key stands behind it.
+// The value at the front of a text, up to the last space before the next `=`; none where no key comes after it.
 fn value_before_key(text: &str) -> Option<&str>
     ensures { MatchOption result (IsAllValue text.now) (λ value. IsBeforeKey text.now value.now) }
 {
@@ -20,14 +20,14 @@ fn value_before_key(text: &str) -> Option<&str>
     Some(value)
 }
 
-// What stands behind this front part and a space.
+// What comes after this front part and a space.
 fn behind<'a>(front: &str, text: &'a str) -> Option<&'a str>
     ensures { (rest : List ℕ) → text.now ≡ front.now ++ 32 ∷ rest → option_map (λ r. r.now) result ≡ Some rest }
 {
     text.strip_prefix(front)?.strip_prefix(" ")
 }
 
-// A value at the front of a text, and what stands from the next key on: a value may have spaces in it.
+// A value at the front of a text, and what is from the next key on: a value may have spaces in it.
 fn around_value(text: &str) -> (&str, Option<&str>)
     ensures { (key : List ℕ) → pairs_behind key (pieces text.now) ≡ (key, result.0.now) ∷ rest_pairs (option_map (λ r. r.now) result.1) }
 {
@@ -75,7 +75,7 @@ pub fn call_parts<'a>(
     ensures word { IfOk result (λ parts. parts.0.now ≡ call_word call.now) }
     ensures pairs { IfOk result (λ parts. map (λ p. (p.0.now, p.1.now)) parts.1.items ≡ call_pairs call.now) }
 
-    // Of whatever word and pairs the text is joined, these are told, the first eight pairs at least.
+    // Of whatever word and pairs the text is joined, these are reported, the first eight pairs at least.
     ensures joined { (word : List ℕ) (pairs : List Pair) → IsJoined call.now word pairs → IfOk result (λ parts. (parts.0.now ≡ word) × (map (λ p. (p.0.now, p.1.now)) parts.1.items ≡ take 8 pairs)) }
 
     // Of each call of the kernel these are its name and its keys with their values.

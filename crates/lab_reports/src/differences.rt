@@ -8,7 +8,7 @@ ghost use Rattle.lab_reports.specs.Differences.{Apart, Notes, differing, told_ap
 use lab_traces::{Says, read_line};
 use std::alloc::{AllocError, Global};
 
-/// Where two traces differ: the line, from 1, and what stands there in each; none behind the last line.
+/// Where two traces differ: the line, from 1, and what is there in each; none after the last line.
 #[derive(Clone, Copy, PartialEq, Eq)]
 pub struct Difference<'a> {
     pub line: usize,
@@ -48,7 +48,7 @@ fn lines_of<'a>(alloc: Global, text: &'a str) -> Result<Vec<&'a str>, AllocError
     text.lines().collect(alloc)
 }
 
-// The line at an index, none behind the last one.
+// The line at an index, none after the last one.
 fn line_at<'a>(all: &[&'a str], index: usize) -> Option<&'a str>
     ensures { option_map (λ line. line.now) result ≡ slice_get (map (λ line. line.now) all.now) index }
 {
@@ -67,7 +67,7 @@ fn most_lines(old: &[&str], new: &[&str]) -> usize
     }
 }
 
-// What is told of two lists of lines at an index.
+// What is reported of two lists of lines at an index.
 fn told<'a>(old: &[&'a str], new: &[&'a str], index: usize) -> Difference<'a>
     requires { index < 2 ^ 64 - 1 }
     ensures { told_apart result ≡ (index + 1, slice_get (map (λ line. line.now) old.now) index, slice_get (map (λ line. line.now) new.now) index) }
@@ -79,7 +79,7 @@ fn told<'a>(old: &[&'a str], new: &[&'a str], index: usize) -> Difference<'a>
     }
 }
 
-// Notes what is told of two lists, where it isn't alike, and fewer than these are noted.
+// Notes what is reported of two lists, where it isn't alike, and fewer than these are noted.
 #[tactic(auto, using(crate::proofs::DifferenceLaws::noted_one))]
 fn note<'a>(
     found: &mut Vec<Difference<'a>>,

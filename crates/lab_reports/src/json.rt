@@ -13,7 +13,7 @@ use evl_base::{LineNo, Play, Stage, ThreadId, TimerId};
 use lab_traces::{EntryLine, Says, TraceLine};
 use std::alloc::{AllocError, Global};
 
-// Writes what stands before the next of several texts.
+// Writes what is before the next of several texts.
 fn put_comma(json: &mut String, is_first: bool) -> Result<(), AllocError>
     ensures { OnOk result (string_bytes json.new ≡ string_bytes json.old ++ told.comma is_first) }
 {
@@ -97,7 +97,7 @@ fn put_entry(
     }
 }
 
-// Writes what stands of a line before its plays.
+// Writes what holds of a line before its plays.
 fn put_head(
     alloc: Global,
     json: &mut String,
@@ -207,7 +207,7 @@ fn put_next(
     put_play(json, play)
 }
 
-// Writes what a line of the trace says. Before and behind it: whether the line of JSON that was begun has no plays yet, if
+// Writes what a line of the trace says. Before and after it: whether the line of JSON that was begun has no plays yet, if
 // one was begun.
 fn put_says(
     alloc: Global,

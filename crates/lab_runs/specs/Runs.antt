@@ -3,9 +3,9 @@ use Rattle.std.specs.Prelude.{ℕ, ◌≡◌, ◌⊎◌, ◌==◌, ◌&&◌, Boo
 use Rattle.std.specs.List.{list_all}
 use Rattle.evl_kernel.specs.state.States.{Handler}
 use Rattle.lab_tasks.specs.declared.sets.TaskSet.{TaskSet}
-use Rattle.lab_jobs.specs.Asks.{holds}
-use Rattle.lab_jobs.specs.Jobs.{jobs_of}
-use Rattle.lab_jobs.specs.declared.jobs.Job.{Job}
+use Rattle.lab_schedules.specs.Asks.{holds}
+use Rattle.lab_schedules.specs.Jobs.{jobs_of}
+use Rattle.lab_schedules.specs.declared.jobs.Job.{Job}
 use Rattle.lab_schedules.specs.Openings.{IsSchedule}
 use Rattle.lab_schedules.specs.declared.schedules.Schedule.{Schedule}
 use Rattle.lab_schedules.specs.declared.schedules.End.{End}
@@ -35,6 +35,11 @@ fails s = status_of s.end == 0 && not (list_all (holds (jobs_in s) s.date) s.rul
 abbrev pub status_in : Schedule → ℕ
 status_in s = if fails s then 1 else status_of s.end
 
+-- rule: A run's status is 0 where its schedule went to its end, 1 where it did and something asked isn't so, 5 where it
+--   was cut off, 2 where its setup or a task was refused; `lab` prints and says what the part answers, and ends with
+--   its status.
+--   also: Runs.status_in
+--   clauses: run_set; emit
 -- a task set is run over these callbacks: the status is that of its schedule
 abbrev pub RunEnds : TaskSet → List Handler → ℕ → Type 0
 RunEnds set bank status = (schedule : Schedule) × IsSchedule set bank schedule × (status ≡ status_in schedule)

@@ -2,8 +2,7 @@
 use crate::reports::name_of;
 use crate::texts::Text;
 use crate::times::put_time;
-use lab_jobs::{Job, first_against, holds};
-use lab_schedules::Schedule;
+use lab_schedules::{Job, Schedule, first_against, holds};
 use lab_tasks::Ask;
 
 // Appends a bound, as `response high <= 8ms`.

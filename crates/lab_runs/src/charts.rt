@@ -2,8 +2,7 @@
 use crate::reports::name_of;
 use crate::texts::Text;
 use crate::times::{put_time, put_units};
-use lab_jobs::{Event, Job, Stretch, What};
-use lab_schedules::Schedule;
+use lab_schedules::{Event, Job, Schedule, Stretch, What};
 use lab_tasks::Act;
 use std::alloc::{AllocError, Global};
 

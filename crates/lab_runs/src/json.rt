@@ -1,8 +1,7 @@
 //! A schedule for programs: as JSON, as comma-separated values, and as lines with dates.
 use crate::reports::{computed_in, name_of};
 use crate::texts::Text;
-use lab_jobs::{Event, Job, Stretch, What, holds};
-use lab_schedules::{End, Schedule};
+use lab_schedules::{End, Event, Job, Schedule, Stretch, What, holds};
 use lab_tasks::Ask;
 use serde_json::Value;
 use std::alloc::{AllocError, Global};

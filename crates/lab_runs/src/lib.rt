@@ -3,6 +3,7 @@
 #![tactic(auto)]
 
 mod asks;
+mod bounds;
 mod charts;
 mod faults;
 mod json;

@@ -13,6 +13,8 @@ pub struct Output {
 pub enum View {
     /// A line for each job and each task, and the load.
     Report,
+    /// The same with the bounds that theory gives each task's responses.
+    Bounds,
     /// All of it as one line of JSON.
     Json,
     /// The jobs as comma-separated values.

@@ -1,11 +1,11 @@
 //! The report of a schedule: a line for each job and each task, and the processor's load.
 use crate::asks::put_answers;
+use crate::bounds::Analysis;
 use crate::summaries::{Summary, summary_of};
 use crate::tables::Table;
 use crate::texts::Text;
 use crate::times::{put_share, put_time};
-use lab_jobs::{Job, Stretch};
-use lab_schedules::{End, Schedule};
+use lab_schedules::{End, Job, Schedule, Stretch};
 use std::alloc::{AllocError, Global};
 
 // Whether a job met its deadline; a bar where that isn't known, or it has none.
@@ -59,7 +59,8 @@ fn put_jobs(alloc: Global, text: &mut Text, schedule: &Schedule, jobs: &[Job]) {
         "preempted",
         "blocked",
     ];
-    let mut table = Table::new(alloc, &heads);
+    let mut table = Table::with_heads(alloc, &heads);
+    table.end_row();
     for job in jobs {
         put_job(&mut table, schedule, job);
     }
@@ -74,7 +75,7 @@ fn put_responses(table: &mut Table, of: &Summary) {
     table.put_date(is_known.then_some(of.greatest));
 }
 
-// Appends the row of a task.
+// Appends a task's row without its end.
 fn put_task(table: &mut Table, schedule: &Schedule, task: usize, of: &Summary) {
     table.put_text(name_of(schedule, task));
     table.put_count(of.jobs);
@@ -83,26 +84,41 @@ fn put_task(table: &mut Table, schedule: &Schedule, task: usize, of: &Summary) {
     put_responses(table, of);
     table.put_time(of.blocked);
     table.put_share(of.computed, schedule.date);
-    table.end_row();
 }
 
-// Appends the table of tasks.
-fn put_tasks(alloc: Global, text: &mut Text, schedule: &Schedule, jobs: &[Job]) {
-    let heads = [
-        "task",
-        "jobs",
-        "finished",
-        "missed",
-        "least",
-        "mean",
-        "greatest",
-        "blocked",
-        "processor",
-    ];
-    let mut table = Table::new(alloc, &heads);
+// The heads of the table of tasks.
+const TASK_HEADS: [&str; 9] = [
+    "task",
+    "jobs",
+    "finished",
+    "missed",
+    "least",
+    "mean",
+    "greatest",
+    "blocked",
+    "processor",
+];
+
+// Appends the table of tasks, with their bounds where these are asked for.
+fn put_tasks(
+    alloc: Global,
+    text: &mut Text,
+    schedule: &Schedule,
+    jobs: &[Job],
+    analysis: Option<&Analysis>,
+) {
+    let mut table = Table::with_heads(alloc, &TASK_HEADS);
+    if analysis.is_some() {
+        table.put_text("bound");
+    }
+    table.end_row();
     for task in 0..schedule.rules.tasks.len() {
         let of = summary_of(jobs, schedule.runs.as_slice(), task);
         put_task(&mut table, schedule, task, &of);
+        if let Some(analysis) = analysis {
+            analysis.put_bound(&mut table, task);
+        }
+        table.end_row();
     }
     table.write(text);
 }
@@ -139,13 +155,21 @@ fn put_load(text: &mut Text, schedule: &Schedule) {
     text.put_char('\n');
 }
 
-/// The report of a schedule and its jobs, and what came of all that is asked.
-pub fn report_of(alloc: Global, schedule: &Schedule, jobs: &[Job]) -> Result<String, AllocError> {
+/// The report of a schedule and its jobs, with bounds where these are asked for, and what came of all that is asked.
+pub fn report_of(
+    alloc: Global,
+    schedule: &Schedule,
+    jobs: &[Job],
+    analysis: Option<&Analysis>,
+) -> Result<String, AllocError> {
     let mut text = Text::new(alloc);
     put_jobs(alloc, &mut text, schedule, jobs);
     text.put_char('\n');
-    put_tasks(alloc, &mut text, schedule, jobs);
+    put_tasks(alloc, &mut text, schedule, jobs, analysis);
     text.put_char('\n');
+    if let Some(analysis) = analysis {
+        analysis.put_source(&mut text, schedule);
+    }
     put_load(&mut text, schedule);
     put_answers(&mut text, schedule, jobs);
     text.finish()

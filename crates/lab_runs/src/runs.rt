@@ -4,6 +4,7 @@ ghost use Rattle.evl_plans.specs.Told.{handler_of};
 ghost use Rattle.lab_runs.specs.Runs.{AreEnough, RunEnds, status_in, status_of};
 
 use crate::asks::put_failures;
+use crate::bounds::{Ground, analysis_of};
 use crate::charts::chart_of;
 use crate::faults::fault_line;
 use crate::json::{csv_of, json_of, trace_of};
@@ -13,8 +14,7 @@ use crate::texts::Text;
 use evl_base::Board;
 use evl_plans::Planned;
 use evl_scenario::write_scenario;
-use lab_jobs::{Job, all_hold};
-use lab_schedules::{End, Schedule, play_tasks};
+use lab_schedules::{End, Job, Schedule, all_hold, play_tasks};
 use lab_tasks::{FaultKind, TaskSet, TasksFault, read_tasks};
 use std::alloc::{AllocError, Global};
 
@@ -62,7 +62,7 @@ fn said_of(
     let mut said = Text::new(alloc);
     if status_of(schedule.end) != 0 {
         put_end(&mut said, name, schedule.end);
-    } else if view != View::Report {
+    } else if !matches!(view, View::Report | View::Bounds) {
         put_failures(&mut said, name, schedule, jobs);
     }
     said.finish()
@@ -88,43 +88,66 @@ fn put_numbered(said: &mut Text, word: &str, number: usize) {
     said.put(": ");
 }
 
-// The scenario of a schedule's history, over its board.
-fn scenario_of(
-    alloc: Global,
-    schedule: &Schedule,
-    board: &Board,
+/// What a set is played over: its board, the limit of the history, and whether it has a setup.
+#[derive(Clone, Copy)]
+struct Over<'a> {
+    board: &'a Board,
     limit: u32,
-) -> Result<String, AllocError> {
-    match write_scenario(alloc, board, limit, schedule.kernel.kernel().history()) {
+    is_set_up: bool,
+}
+
+// The scenario of a schedule's history.
+fn scenario_of(alloc: Global, schedule: &Schedule, over: Over<'_>) -> Result<String, AllocError> {
+    let entries = match schedule.kernel.kernel().history().to_vec(alloc) {
+        Ok(entries) => entries,
+        Err(_) => return Err(AllocError),
+    };
+    match write_scenario(alloc, over.board, over.limit, entries.as_slice()) {
         Ok(text) => Ok(text),
         Err(_) => String::from_str(alloc, ""),
     }
 }
 
-// A schedule as it is asked for, over a board with a limit.
+// The report of a schedule with bounds.
+fn bounds_report_of(
+    alloc: Global,
+    schedule: &Schedule,
+    jobs: &[Job],
+    over: Over<'_>,
+) -> Result<String, AllocError> {
+    let ground = Ground {
+        kinds: over.board.mutexes.as_slice(),
+        is_set_up: over.is_set_up,
+    };
+    let analysis = analysis_of(alloc, schedule, ground)?;
+    report_of(alloc, schedule, jobs, Some(&analysis))
+}
+
+// A schedule as it is asked for.
 fn printed_of(
     alloc: Global,
     schedule: &Schedule,
     jobs: &[Job],
-    over: (&Board, u32),
+    over: Over<'_>,
     view: View,
 ) -> Result<String, AllocError> {
     match view {
-        View::Report => report_of(alloc, schedule, jobs),
+        View::Report => report_of(alloc, schedule, jobs, None),
+        View::Bounds => bounds_report_of(alloc, schedule, jobs, over),
         View::Json => json_of(alloc, schedule, jobs),
         View::Csv => csv_of(alloc, schedule, jobs),
         View::Trace => trace_of(alloc, schedule),
-        View::Scenario => scenario_of(alloc, schedule, over.0, over.1),
+        View::Scenario => scenario_of(alloc, schedule, over),
         View::Chart => chart_of(alloc, schedule, jobs),
     }
 }
 
-// A schedule's output, over a board with a limit.
+// A schedule's output.
 fn output_of(
     alloc: Global,
     name: &str,
     schedule: &Schedule,
-    over: (&Board, u32),
+    over: Over<'_>,
     view: View,
 ) -> Result<Output, AllocError>
     ensures { IfOk result (λ output. output.status ≡ status_in schedule.now) }
@@ -150,9 +173,15 @@ fn run_set(
 {
     let board = set.board.copied();
     let limit = set.limit;
+    let is_set_up = !set.setup.is_empty();
     let schedule = play_tasks(alloc, set, bank)?;
-    let output = output_of(alloc, name, &schedule, (&board, limit), view);
-    drop(schedule);
+    let over = Over {
+        board: &board,
+        limit,
+        is_set_up,
+    };
+    let output = output_of(alloc, name, &schedule, over, view);
+    schedule.leave();
     output
 }
 

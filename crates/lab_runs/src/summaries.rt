@@ -1,5 +1,5 @@
 //! What a task's jobs have come to.
-use lab_jobs::{Job, Stretch};
+use lab_schedules::{Job, Stretch};
 
 /// What a task's jobs have come to. Times are in nanoseconds.
 #[derive(Clone, Copy, PartialEq, Eq)]

@@ -36,8 +36,8 @@ fn put_row(text: &mut Text, row: &[Text], widths: &[usize]) {
 }
 
 impl Table {
-    /// A table with these heads.
-    pub fn new(alloc: Global, heads: &[&str]) -> Table {
+    /// A table whose first row begins with these heads.
+    pub fn with_heads(alloc: Global, heads: &[&str]) -> Table {
         let mut table = Table {
             alloc,
             rows: Vec::new(alloc),
@@ -48,7 +48,6 @@ impl Table {
         for head in heads {
             table.put_text(head);
         }
-        table.end_row();
         table
     }
 

@@ -93,7 +93,7 @@ module _ (c : Callers) (bank : List Handler) (told : List Bool) where
       subst (λ (s : Seen). total f (runs (asked_machine c told) s k) ≡ total (λ seen. f (forget told seen)) (runs (machine c) (first_seen c bank) k)) first_is
       ((what_is_seen (machine c) (asked_machine c told) (forget told) (forgets told c) (first_seen c bank) k).each_run f)
 
-  -- of a number of steps there are more runs than a count can tell, where there are as many of the machine that forgets
+  -- of a number of steps there are more runs than a count can hold, where there are as many of the machine that forgets
   pub runs_uncounted : (e : OrdersError) → (e ≡ Count → (k : ℕ) × (count_limit ≤ length (runs (asked_machine c told) (first_seen c bank) k))) → CanNotTell c bank e
   runs_uncounted Memory f = tt
   runs_uncounted Count f =

@@ -1,4 +1,4 @@
--- What no outcome is told as, no order ends as; and texts of answers that may never be.
+-- No order ends with a text that no outcome has; and texts of answers that may never be.
 use Rattle.std.proofs.Common.{◌≡◌, ◌≤◌, ℕ, ◌+◌, ◌*◌, Bool, true, false, not, cond, List, [], ◌∷◌, length, refl, sym, ◌∙◌, ap, arith, All}
 use Rattle.std.specs.Prelude.{None, Some, nat_lt, position, string_bytes}
 use Rattle.std.specs.List.{AllByRecursion, position_or_len}

@@ -1,4 +1,4 @@
--- Callers are found by how they are told.
+-- Callers are found by their names.
 use Rattle.std.proofs.Common.{◌≡◌, ℕ, zero, suc, ◌+◌, Bool, true, false, ◌||◌, List, [], ◌∷◌, ◌++◌, length, map, refl, sym, ◌∙◌, ap, arith, take}
 use Rattle.std.specs.Prelude.{◌<◌, Option, Some, None, option_map, slice_get}
 use Rattle.std.specs.List.{list_any}
@@ -10,7 +10,7 @@ use Rattle.lab_scenario_orders.specs.Asks.{caller_text, is_caller_text}
 use Rattle.lab_scenario_orders.specs.OrderTexts.{caller_name}
 use Rattle.lab_scenario_orders.specs.declared.callers.Caller.{Caller}
 
--- whether the caller with this number is told so
+-- whether the caller with this number has this name
 abbrev pub is_at : List Caller → ℕ → List ℕ → Bool
 is_at callers n who = option_map_or (λ name. bytes_eq name who) (caller_name callers n) false
 

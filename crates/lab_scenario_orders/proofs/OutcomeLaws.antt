@@ -1,4 +1,4 @@
--- Sums over ends and over outcomes, and why outcomes can't be told.
+-- Sums over ends and over outcomes, and why outcomes can't be reported.
 use Rattle.std.proofs.Common.{◌≡◌, ℕ, ◌+◌, ◌*◌, ◌≤◌, List, [], ◌∷◌, length, Result, Ok, Err, IfErr, refl, subst, arith, inl, inr}
 use Rattle.std.specs.Prelude.{sum_by}
 use Rattle.std.proofs.lemmas.List.Sums.{sum_by-cons}
@@ -20,7 +20,7 @@ weight_of_ones {M} state (node ∷ nodes) =
     let all : sum_by (λ n. n.count) (node ∷ nodes) ≡ node.count + sum_by (λ n. n.count) nodes = sum_by-cons (λ (n : Node M). n.count) node nodes in
     omega (arith, more, all, weight_of_ones state nodes)
 
--- of a number of steps there are more runs, or more orders of fewer, than a count can tell
+-- of a number of steps there are more runs, or more orders of fewer, than a count can hold
 pub too_many_runs : (c : Callers) (bank : List Handler) (most : ℕ) (e : OrdersError) → (e ≡ Count → (k : ℕ) × (k ≤ most) × (count_limit ≤ length (runs (machine c) (first_seen c bank) k)))
     → CanNotTell c bank e
 too_many_runs c bank most Memory f = tt

@@ -27,13 +27,13 @@ mapped_at f [] i r d lt is = absurd (omega arith)
 mapped_at f (x ∷ xs) zero r d lt is = ap f (sym is)
 mapped_at f (x ∷ xs) (suc i) r d lt is = mapped_at f xs i r d (omega arith) is
 
--- a number of a list, whatever stands for those that aren't there
+-- a number of a list, whatever is given for those that aren't there
 pub index_is : (xs : List ℕ) (i r : ℕ) → i < length xs → r ≡ get_or xs i r → r ≡ slice_index xs i
 index_is [] i r lt is = absurd (omega arith)
 index_is (x ∷ xs) zero r lt is = is
 index_is (x ∷ xs) (suc i) r lt is = index_is xs i r (omega arith) is
 
--- one text of a list was replaced by itself with an answer behind it
+-- one text of a list was replaced by itself with an answer after it
 pub answers_set : {Z : Type 0} (answers all : List (String Z)) (i : ℕ) (told r : String Z) (reply : Result Reply Refusal) → i < length answers
     → map string_bytes all ≡ map string_bytes answers → r ≡ get_or answers i r → string_bytes told ≡ answer_line (string_bytes r) reply
     → map string_bytes (slice_set all i told) ≡ slice_set (map string_bytes answers) i (answer_line (slice_index_or (map string_bytes answers) i []) reply)

@@ -1,4 +1,4 @@
--- The records behind the steps that weren't refused are those behind all steps.
+-- The records after the steps that weren't refused are those after all steps.
 use Rattle.std.proofs.Common.{◌≡◌, ℕ, ◌+◌, Bool, true, false, List, [], ◌∷◌, ◌++◌, length, map, Some, None, Result, Ok, Err, if◌then◌else◌, refl, sym, ◌∙◌, ap, length-set}
 use Rattle.std.specs.Prelude.{slice_get, slice_index, slice_index_or, slice_set, string_bytes, Option}
 use Rattle.std.specs.Option.{option_map_or}
@@ -31,7 +31,7 @@ pub trailed_after : (c : Callers) (s : State) (trail : List ℕ) (place : ℕ) (
     → trailed c s (trail_after trail place (step_outcome (trailed c s trail) step.who.0 step.call).reply) ≡ (step_outcome (trailed c s trail) step.who.0 step.call).after
 trailed_after c s trail place step at = by_answer c s trail place step (step_outcome (trailed c s trail) step.who.0 step.call).reply at refl
 
--- the moment after a step stands for what the machine comes to
+-- the moment after a step represents what the machine comes to
 pub after_is : (c : Callers) (s k : State) (moment next : Moment) (caller place : ℕ) (step : Step) (reply : Result Reply Refusal)
     → slice_get c.steps.items place ≡ Some step → k ≡ trailed c s moment.trail.items → reply ≡ (step_outcome k step.who.0 step.call).reply
     → next.made.items ≡ slice_set moment.made.items caller (slice_index moment.made.items caller + 1)

@@ -13,7 +13,7 @@ use Rattle.lab_scenario_orders.specs.declared.callers.Callers.{Callers}
 use Rattle.lab_scenario_orders.specs.declared.moments.Moment.{Moment}
 use Rattle.lab_scenario_orders.specs.declared.watches.Watch.{Watch}
 
--- what is noted of the records after a step is noted of the moment that stands for them
+-- what is noted of the records after a step is noted of the moment that represents them
 pub noted_after : (c : Callers) (bank : List Handler) (watches : List Watch) (seen : Seen) (next : Moment) (n : ℕ) (o : Outcome)
     → seen_at c bank next ≡ after seen n o → IsMoment c next → next.noted.items ≡ map (is_noted o.after) watches → next.held.items ≡ held_in c o.after → IsNoted c bank watches next
 noted_after c bank watches seen next n o is places noted held = record {
@@ -38,7 +38,7 @@ joined_more [] one rest = refl
 joined_more (first ∷ []) one rest = refl
 joined_more (first ∷ (next ∷ done)) one rest = ap (λ text. first ++ (codes " and " ++ text)) (joined_more (next ∷ done) one rest)
 
--- the same of what a loop has
+-- the parts that a loop has, and one more
 pub parts_more : (done all : List (Bor (List ℕ))) (one : Bor (List ℕ)) (rest behind text : List ℕ) → all ≡ done ++ one ∷ [] → rest ≡ one.now ++ (codes " and " ++ behind)
     → joined (map (λ part. part.now) done ++ rest ∷ []) ≡ text → joined (map (λ part. part.now) all ++ behind ∷ []) ≡ text
 parts_more done all one rest behind text more is whole =

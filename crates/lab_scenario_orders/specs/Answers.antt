@@ -1,4 +1,4 @@
--- What calls can be answered, as it is told.
+-- What calls can be answered, as it is written.
 use Rattle.std.specs.Prelude.{ℕ, Bool, false, ◌&&◌, ◌||◌, nat_eq, nat_le, not, List, [], ◌∷◌, codes, find, is_some, length, string_bytes, Option}
 use Rattle.std.specs.Char.{is_ascii_digit}
 use Rattle.std.specs.List.{list_all, list_any}
@@ -45,7 +45,7 @@ is_handed text = option_map_or (λ next. (bytes_eq next (codes "none") || is_num
 abbrev pub is_end_of_wait : List ℕ → Bool
 is_end_of_wait text = ((bytes_eq text (codes "done") || bytes_eq text (codes "timed out")) || is_numbered (codes "bits ") text) || is_bytes text
 
--- an answer of this kind can be told so
+-- an answer of this kind can be written so
 abbrev pub is_told_of : ReplyKind → List ℕ → Bool
 is_told_of kind.Done text = bytes_eq text (codes "done")
 is_told_of kind.Begun text = bytes_eq text (codes "begun")
@@ -80,6 +80,11 @@ can_have who answer step = can_be step.call answer && bytes_eq (caller_text step
 abbrev pub is_possible : List Step → List ℕ → List ℕ → Bool
 is_possible steps who answer = list_any (can_have who answer) steps
 
+-- rule: The first answer of `never` that no step of its caller can have, as a refusal of the kernel or as an answer of
+--   its call's kind, is reported with the first word that one can have, at most two edits away.
+--   also: Answers.{near_answer, is_told_of}
+--   clauses: first_impossible; near_answer
+--   rows: answers_that_no_step_can_have_are_told
 -- the first answer of `never` that no step of its caller can have
 abbrev pub first_impossible : List Step → List Never → Option Never
 first_impossible steps never = find (λ one. not (is_possible steps (string_bytes one.who) (string_bytes one.answer))) never

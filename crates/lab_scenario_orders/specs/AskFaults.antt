@@ -35,7 +35,7 @@ text_in (suc (suc n)) (item value rest) = text_in (suc n) rest
 abbrev pub text_at : ℕ → Option Data → Option (List ℕ)
 text_at n value = option_and_then (text_in n) (option_and_then as_array value)
 
--- just one arrow stands in a text, between these
+-- just one arrow is in a text, between these
 pub record IsAroundArrow (text before behind : List ℕ) : Type 0 where
   pub arrow : text ≡ before ++ (codes "->" ++ behind)
   pub first : HasSubslice before (codes "->") → ⊥
@@ -82,6 +82,13 @@ abbrev pub IsWhyIn : List Caller → Board → Option Members → AskFault → T
 IsWhyIn callers board None e = (e ≡ fault.Table) ⊎ (e ≡ fault.Memory)
 IsWhyIn callers board (Some ms) e = IsWhy callers board ms e
 
+-- rule: What is asked is refused for a key that has no such value or isn't one of `[ask]`; for a text of `never`, by
+--   its number from 1, that is no caller of the text with one answer; or for a text of facts, by its key and number,
+--   with the word that may be meant where one of its parts between ` and `s is no fact, else with the first part that
+--   it names and the board lacks.
+--   also: AskFaults.{IsBadKey, IsNoAnswer, IsNoFacts}; Claims.IsUnread
+--   clauses: read_ask: why
+--   rows: what_cant_be_asked_is_refused
 -- of a text: it isn't UTF-8, its tables `[ask]` aren't one table, or that table can't be asked
 abbrev pub IsWhyOf : List Caller → Board → List ℕ → AskFault → Type 0
 IsWhyOf callers board text e =

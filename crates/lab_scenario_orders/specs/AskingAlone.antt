@@ -51,7 +51,7 @@ is_asked_of never caller = list_any (λ one. bytes_eq (caller_text caller.who.0)
 abbrev pub asked_of : Ask → Callers → List Bool
 asked_of ask c = map (is_asked_of ask.never.items) c.callers.items
 
--- an end is against what is asked, by what is told of it without the answers that are forgotten
+-- an end is against what is asked, by what is reported of it without the answers that are forgotten
 abbrev pub one_against : Callers → Ask → List Bool → Seen → ℕ
 one_against c ask told seen = cond (is_against ask (told_text c (forget told seen))) 1 0
 

@@ -1,4 +1,4 @@
--- What is asked of all orders, by what is told of their ends.
+-- What is asked of all orders, by what is reported of their ends.
 use Rattle.std.specs.Prelude.{ℕ, ◌≡◌, ◌==◌, Bool, true, false, ◌&&◌, ◌||◌, if◌then◌else◌, List, [], ◌∷◌, ◌++◌, codes, map, drop, take, length, string_bytes, Option, Some, None, is_some, option_and_then, option_map, unwrap_or, All}
 use Rattle.std.specs.Fmt.{decimal}
 use Rattle.std.specs.List.{list_any}
@@ -15,14 +15,14 @@ use Rattle.lab_scenario_orders.specs.declared.asks.Ask.{Ask}
 use Rattle.lab_scenario_orders.specs.declared.asks.Never.{Never}
 use Rattle.lab_scenario_orders.specs.declared.callers.Caller.{Caller}
 
--- what stands behind the first text in the second, if that begins with it
+-- what comes after the first text in the second, if that begins with it
 abbrev pub text_behind : List ℕ → List ℕ → Option (List ℕ)
 text_behind front text = if pointwise (λ a b. a == b) (take (length front) text) front then Some (drop (length front) text) else None
 
 abbrev pub begins : List ℕ → List ℕ → Bool
 begins front text = is_some (text_behind front text)
 
--- something holds of what stands behind some line feed of a text
+-- something holds of what comes after some line feed of a text
 abbrev pub later_line : (List ℕ → Bool) → List ℕ → Bool
 later_line holds [] = false
 later_line holds (b ∷ bs) = (b == 10 && holds bs) || later_line holds bs
@@ -31,7 +31,7 @@ later_line holds (b ∷ bs) = (b == 10 && holds bs) || later_line holds bs
 abbrev pub some_line : (List ℕ → Bool) → List ℕ → Bool
 some_line holds text = holds text || later_line holds text
 
--- behind an answer comes an arrow, or the end of the line
+-- after an answer comes an arrow, or the end of the line
 abbrev pub is_end : List ℕ → Bool
 is_end text = begins (codes " -> ") text || begins (codes "\n") text
 
@@ -51,12 +51,12 @@ is_line_of never text = option_map_or (λ rest. begins (codes " -> ") rest && is
 abbrev pub is_stuck_line : List ℕ → Bool
 is_stuck_line text = begins (codes "stuck: ") text
 
--- behind the digits of a text it says that somebody waits
+-- after the digits of a text it says that somebody waits
 abbrev pub waits_behind_number : List ℕ → Bool
 waits_behind_number [] = false
 waits_behind_number (b ∷ bs) = if is_ascii_digit b then waits_behind_number bs else begins (codes " waits") (b ∷ bs)
 
--- what is told of a thread, be it stuck or not
+-- what is reported of a thread, be it stuck or not
 abbrev pub past_stuck : List ℕ → List ℕ
 past_stuck text = unwrap_or (text_behind (codes "stuck: ") text) text
 
@@ -64,14 +64,18 @@ past_stuck text = unwrap_or (text_behind (codes "stuck: ") text) text
 abbrev pub is_wait_line : List ℕ → Bool
 is_wait_line text = option_map_or waits_behind_number (text_behind (codes "T") (past_stuck text)) false
 
--- what is told of an outcome is against what is asked: a caller is stuck, a thread waits, or a caller has an answer that it
+-- rule: The first outcome against `[ask]` is reported: a caller stuck, a thread that waits at the end, an answer. If
+--   there is none, no order ends so.
+--   clauses: ask_all; is_against
+--   rows: waits_at_the_end_are_asked_for
+-- what is reported of an outcome is against what is asked: a caller is stuck, a thread waits, or a caller has an answer that it
 -- may never have
 abbrev pub is_against : Ask → List ℕ → Bool
 is_against ask told =
     ((ask.always_ends && some_line is_stuck_line told) || (ask.ends_waits && some_line is_wait_line told))
     || list_any (λ never. some_line (is_line_of never) told) ask.never.items
 
--- an answer that a caller may never have, as it stands in the text
+-- an answer that a caller may never have, as it is in the text
 abbrev pub never_text : Never → List ℕ
 never_text never = string_bytes never.text
 
@@ -83,15 +87,15 @@ pub record IsParted (text who answer : List ℕ) : Type 0 where
   pub named : who ≡ trim before
   pub given : answer ≡ trim behind
 
--- how a caller is told
+-- how a caller is named
 abbrev pub caller_text : ℕ → List ℕ
 caller_text who = codes "T" ++ decimal who
 
--- one of these callers is told so
+-- one of these callers is named so
 abbrev pub is_caller_text : List Caller → List ℕ → Bool
 is_caller_text callers who = list_any (λ caller. bytes_eq (caller_text caller.who.0) who) callers
 
--- one of these callers, and just one answer: no arrow stands in it
+-- one of these callers, and just one answer: no arrow is in it
 pub record IsAnswerOf (callers : List Caller) (never : Never) : Type 0 where
   pub who : is_caller_text callers (string_bytes never.who) ≡ true
   pub single : HasSubslice (string_bytes never.answer) (codes "->") → ⊥

@@ -103,7 +103,7 @@ pub record IsSetUp (text : List ℕ) (c : Callers) : Type 0 where
   pub setup : c.setup.items ≡ take (setup_count text) script.steps
   pub steps : c.steps.items ≡ drop (setup_count text) script.steps
 
--- Why a text of callers is refused: it isn't UTF-8; or else a step stands before one that is set up; or else its scenario
+-- Why a text of callers is refused: it isn't UTF-8; or else a step is before one that is set up; or else its scenario
 -- can't be read, or has more steps than its history may have entries. Or memory ran out.
 abbrev pub IsRefused : List ℕ → TextFault → Type 0
 IsRefused text (Scenario fault) =

@@ -16,13 +16,18 @@ joined [] = []
 joined (text ∷ []) = text
 joined (text ∷ (next ∷ rest)) = text ++ (codes " and " ++ joined (next ∷ rest))
 
+-- rule: A question is read as it is written: facts with ` and ` between them, each with `not ` before it or not; it
+--   names nothing that the board lacks. A fault has the line of the key that it names.
+--   also: FactTexts.fact_in; Facts.lacked
+--   clauses: read_ask: watches, placed
+--   rows: what_cant_be_asked_is_refused
 -- a text claims this: facts with `and` between them
 pub record Claims (text : List ℕ) (claims : List Claim) : Type 0 where
   pub texts : List (List ℕ)
   pub written : text ≡ joined texts
   pub each : map claim_in texts ≡ map (λ claim. Some claim) claims
 
--- no `and` stands in a text
+-- no `and` is in a text
 abbrev pub IsSingle : List ℕ → Type 0
 IsSingle text = HasSubslice text (codes " and ") → ⊥
 

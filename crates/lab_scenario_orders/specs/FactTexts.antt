@@ -24,7 +24,7 @@ use Rattle.lab_scenario_orders.specs.declared.facts.Relation.TheVariants.{Equal,
 abbrev pub both : {A B : Type 0} → (List ℕ → Option A) → (List ℕ → Option B) → List ℕ → Option (A × B)
 both one other text = option_and_then (λ parts. option_zip (one parts.0) (other parts.1)) (around_space text)
 
--- what stands behind a front part is read, if it stands there; and else this
+-- what comes after a front part is read, if it is there; and else this
 abbrev pub past_or : {A : Type 0} → Option (List ℕ) → (List ℕ → Option A) → Option A → Option A
 past_or (Some rest) reads other = reads rest
 past_or None reads other = other
@@ -55,7 +55,7 @@ a_buffer n = record { 0 = n }
 abbrev pub a_line : ℕ → LineNo
 a_line n = record { 0 = n }
 
--- a thread, as it is told
+-- a thread, as it is written
 abbrev pub thread_in : List ℕ → Option ThreadId
 thread_in text = option_and_then (λ rest. option_map a_thread (half_in rest)) (past_front (codes "T") text)
 

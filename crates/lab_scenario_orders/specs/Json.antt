@@ -1,4 +1,4 @@
--- What is told of all orders, as JSON.
+-- What is reported of all orders, as JSON.
 use Rattle.std.specs.Prelude.{ℕ, Bool, true, false, ◌+◌, ◌==◌, List, [], ◌∷◌, ◌++◌, codes, decimal, if◌then◌else◌, slice_get, string_bytes, Option}
 use Rattle.std.specs.Option.{option_map_or}
 use Rattle.std.specs.Str.Lines.{lines}
@@ -104,5 +104,9 @@ states_json callers found watches = codes ",\"states\":[" ++ (states_from caller
 unfoldable pub outcomes_json : List Caller → Ask → List Tally → List ℕ
 outcomes_json callers ask outcomes = codes ",\"outcomes\":[" ++ (outcomes_from callers ask 0 outcomes ++ codes "]}\n")
 
+-- rule: As JSON, the report has the counts, for each question about moments whether it holds (`null` where it was cut
+--   off and no order decides it) with its order, and of each outcome its orders, whether it is against what is asked,
+--   its lines and its order.
+--   clauses: write_json
 abbrev pub json_text : Callers → Ask → Outcomes → List ℕ
 json_text c ask found = head_json ask found ++ (states_json c.callers.items found ask.watches.items ++ outcomes_json c.callers.items ask found.all.items)

@@ -11,7 +11,7 @@ use Rattle.lab_scenario_orders.specs.declared.asks.AskFault.TheVariants as fault
 use Rattle.lab_scenario_orders.specs.declared.asks.AskKey.{AskKey}
 use Rattle.lab_scenario_orders.specs.declared.asks.AskKey.TheVariants as key
 
--- what stands before the first `=`, and what behind it
+-- what comes before the first `=`, and what after it
 abbrev pub around_equals : List ℕ → Option (List ℕ × List ℕ)
 around_equals text =
     if nat_lt (position_or_len (λ byte. byte == 61) text) (length text)
@@ -49,6 +49,15 @@ key_name key.Always = Some (codes "always")
 key_name key.Outcomes = Some (codes "outcomes")
 key_name key.Other = None
 
+-- rule: A text is split by lines into tables `[ask]` and a scenario, of which it has the board, limit and steps, and
+--   how many are set up. What is asked is what the tables say; `never` names only callers, each with one answer,
+--   without white space around either; a key's fault has the first line that sets the key. A report says that somebody
+--   is stuck exactly if one of its lines does.
+--   also: Callers.scenario; Asks.{who, parted}
+--   clauses: split_text; read_callers; read_ask; Never::asks; is_stuck
+--   rows: a_report_tells_first_who_is_stuck; blanks_may_stand_within_the_brackets_of_a_head;
+--   just_one_answer_of_a_caller_is_meant; orders_as_threads_are_picked_are_asked_for; what_cant_be_asked_is_refused;
+--   what_is_asked_stands_apart
 -- a fault of a key, or of facts at it, has the line that sets it
 abbrev pub IsPlaced : List ℕ → AskFault → Type 0
 IsPlaced text (fault.Key key line) = line ≡ line_set (key_name key) text

@@ -36,6 +36,11 @@ leaving_step who = record { who = record { 0 = who }; call = call.SetStage Inban
 abbrev pub leaving_steps : List Step → List Step → List Caller → List Step
 leaving_steps setup steps callers = map (λ caller. leaving_step caller.who.0) (filter (stays_there setup steps) callers)
 
+-- rule: With `as_picked` each caller that its steps of `attach`, `set_stage` and `detach` leave out-of-band makes one
+--   step more, which takes it in-band. All else is as in the text.
+--   also: Leaving.leaving_steps
+--   clauses: leaving
+--   rows: who_leaves_is_out_of_the_way
 -- the same callers, with these steps more, each as the last one of its thread, and room for them
 pub record AreLeaving (read set : Callers) : Type 0 where
   pub board : set.board ≡ read.board

@@ -25,7 +25,7 @@ abbrev pub trail_after : List ℕ → ℕ → Result Reply Refusal → List ℕ
 trail_after trail place (Ok reply) = trail ++ place ∷ []
 trail_after trail place (Err refusal) = trail
 
--- the callers and the kernel that a moment stands for, from these records on
+-- the callers and the kernel that a moment means, from these records on
 abbrev pub seen_from : Callers → State → Moment → Seen
 seen_from c s moment = record {
   made = moment.made.items;

@@ -7,7 +7,7 @@ use Rattle.lab_scenario_orders.specs.declared.callers.Caller.{Caller}
 use Rattle.lab_scenario_orders.specs.declared.order_texts.OrderFault.{OrderFault}
 use Rattle.lab_scenario_orders.specs.declared.order_texts.OrderFault.TheVariants.{Name, Step, Memory}
 
--- how the caller with this number is told
+-- how the caller with this number is named
 abbrev pub caller_name : List Caller → ℕ → Option (List ℕ)
 caller_name callers n = option_map (λ caller. caller_text caller.who.0) (slice_get callers n)
 
@@ -23,6 +23,11 @@ IsUnread callers words (Name number) = (place : ℕ) × (number ≡ place + 1) �
 IsUnread callers words (Step number) = ⊥
 IsUnread callers words Memory = ⊤
 
+-- rule: An order as a text is read as its callers, each reported; its scenario is printed exactly if each of its steps
+--   can be made, else the first that cannot is reported.
+--   also: OrderTexts.{IsUnmade, IsUnread}
+--   clauses: lead; read_order; play_order
+--   rows: orders_are_played_as_they_are_written
 -- each step of an order can be made
 abbrev pub CanBeMade : {S : Type 0} → Machine S → S → List ℕ → Type 0
 CanBeMade {S} m s order = (at : S) × (led_along m s order ≡ Some at)

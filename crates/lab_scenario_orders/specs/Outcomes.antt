@@ -31,18 +31,28 @@ pub record AreRisen (k : ℕ) (outcomes : List Tally) : Type 0 where
   pub rise : AreRising outcomes
   pub below : All (λ n. n ≤ k) (lengths outcomes)
 
--- Why outcomes can't be told: memory ran out; or more runs of so many steps, or more orders of fewer, than a count can tell.
+-- Why outcomes can't be reported: memory ran out; or more runs of so many steps, or more orders of fewer, than a count can hold.
 abbrev pub CanNotTell : Callers → List Handler → OrdersError → Type 0
 CanNotTell c bank Memory = Unit {0}
 CanNotTell c bank Count =
     (k : ℕ) × ((count_limit ≤ length (runs (machine c) (first_seen c bank) k)) ⊎ (count_limit ≤ length (orders (machine c) (first_seen c bank) k)))
 
+-- rule: Each outcome of a scenario's callers is reported once, with how many orders end so; together these are all
+--   orders. Orders are merged only if their kernels are alike and their callers were answered alike.
+--   also: Outcomes.{distinct, rise, count, asked, gone, whole, cut, more}
+--   clauses: outcomes_of; ask_all
+--   rows: inband_threads_step_while_nobody_is_picked; two_locks_can_end_stuck; two_of_six_orders_end_stuck;
+--   unattached_callers_step_at_any_time; who_is_not_picked_makes_no_step; who_never_goes_stays_picked
 -- The outcomes of all orders of callers over a bank.
 pub record AreOutcomes (c : Callers) (bank : List Handler) (watches : List Watch) (most : ℕ) (found : Outcomes) : Type 0 where
-  -- whatever is counted of what is told: the outcomes, each as often as its count says, give what all orders give
+  -- whatever is counted of what is reported: the outcomes, each as often as its count says, give what all orders give
   pub counted : (f : List ℕ → ℕ) → told_weight f found.all.items ≡ total (λ seen. f (told_text c seen)) (orders (machine c) (first_seen c bank) found.steps)
-  -- no two are told alike
+  -- no two are reported alike
   pub distinct : AreDistinct found.all.items
+  -- rule: The order given for an outcome leads there, and nobody can step there. The report has the counts and, of each
+  --   outcome, what is reported, its order, and that order as a scenario.
+  --   clauses: outcomes_of; write_report; scenario_of
+  --   rows: a_report_begins_with_counts; steps_that_are_set_up_become_steps; what_is_told_of_outcomes_is_asked
   -- the order of each leads there from the first moment on, and nobody can make a step more; the shortest stand first
   pub lead : LeadThere c (first_seen c bank) found.all.items
   pub rise : AreRising found.all.items

@@ -32,7 +32,7 @@ who_text callers n = option_map_or (λ caller. codes " T" ++ decimal caller.who.
 abbrev pub order_text : List Caller → List ℕ → List ℕ
 order_text callers order = codes "# order:" ++ (flat_map (who_text callers) order ++ line_feed)
 
--- how many orders lead to an outcome, what is told of it, and the first of them
+-- how many orders lead to an outcome, what is reported of it, and the first of them
 abbrev pub head_text : Callers → ℕ → Tally → List ℕ
 head_text c n outcome =
     codes "# outcome " ++ (decimal n ++ (codes ": " ++ (number_text outcome.count (codes "order") ++ (line_feed
@@ -63,7 +63,7 @@ found_text Never found = if found then codes "at a moment" else codes "at no mom
 found_text Sometimes found = if found then codes "at a moment" else codes "at no moment"
 found_text Always found = if found then codes "not at each moment" else codes "at each moment"
 
--- of which moments this is told, where longer orders were cut off and none was found
+-- of which moments this is reported, where longer orders were cut off and none was found
 abbrev pub reach_text : Bool → Bool → List ℕ
 reach_text found whole = if (found || whole) then line_feed else codes " that was gone through\n"
 

@@ -17,7 +17,7 @@ bare line = trim (before_first (λ byte. byte == 35) line)
 abbrev pub ends_head : List ℕ → List ℕ → List ℕ → Bool
 ends_head name end text = option_map_or (λ rest. bytes_eq (trim rest) end) (past_front name text) false
 
--- just this name stands on a line between these brackets, with white space around it or not
+-- just this name is on a line between these brackets, with white space around it or not
 abbrev pub is_head : List ℕ → List ℕ → List ℕ → List ℕ → Bool
 is_head begin name end line = option_map_or (λ rest. ends_head name end (trim rest)) (past_front begin (bare line)) false
 
@@ -51,7 +51,7 @@ abbrev pub scenario_lines : Bool → List (List ℕ) → List (List ℕ)
 scenario_lines was [] = []
 scenario_lines was (line ∷ rest) = if is_asked was line then scenario_lines true rest else as_step line ∷ scenario_lines false rest
 
--- a step stands before one that is set up
+-- a step is before one that is set up
 abbrev pub is_mixed : List (List ℕ) → Bool
 is_mixed [] = false
 is_mixed (line ∷ rest) = (is_step line && list_any is_setup rest) || is_mixed rest

@@ -1,4 +1,4 @@
--- What is told of callers at the end of an order.
+-- What is reported of callers at the end of an order.
 use Rattle.std.specs.Prelude.{ℕ, zero, suc, ◌==◌, Bool, List, [], ◌∷◌, ◌++◌, codes, length, Option, Some, None, is_some, if◌then◌else◌, option_map, slice_get, slice_index, slice_index_or}
 use Rattle.std.specs.Fmt.{decimal, signed_decimal}
 use Rattle.std.specs.List.{list_any}
@@ -130,6 +130,9 @@ elements_text board s =
 abbrev pub pending_text : State → List ℕ
 pending_text s = lines_below (pending_line s Oob) line_limit ++ lines_below (pending_line s Inband) line_limit
 
--- what is told where callers and kernel stand so
+-- rule: The state of an end is reported: who is stuck, who waits for what, each caller's answers, recorded owners,
+--   counts, bits, bytes, pending events.
+--   clauses: outcomes_of
+-- what is reported where callers and kernel stand so
 abbrev pub told_text : Callers → Seen → List ℕ
 told_text c seen = callers_text c seen.made seen.answers seen.state ++ (elements_text c.board seen.state ++ pending_text seen.state)

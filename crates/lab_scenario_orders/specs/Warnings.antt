@@ -33,6 +33,10 @@ has_answer who answer n text = option_map_or (λ rest. begins (codes " -> ") res
 abbrev pub is_always : List Tally → List ℕ → List ℕ → ℕ → Bool
 is_always outcomes who answer n = list_all (λ outcome. some_line (has_answer who answer n) (string_bytes outcome.told)) outcomes
 
+-- rule: A report warns of each step that has one refusal in all orders, where nothing was cut off, and of each caller
+--   that begins a wait after its last `finish`.
+--   also: Warnings.waits_after
+--   clauses: write_report
 -- the refusal that a thread is answered there in each
 abbrev pub refused_alike : List Tally → List ℕ → ℕ → Option Refusal
 refused_alike outcomes who n = find (λ refusal. is_always outcomes who (name_of refusal) n) kernel_refusals

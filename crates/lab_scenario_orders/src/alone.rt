@@ -229,9 +229,9 @@ fn ask_told<B: BankMaker>(
 }
 
 /// Goes through all orders of callers over a bank for what is asked alone: callers of whom `never` asks no answer are taken
-/// as one wherever their answers alone differ, so there are fewer moments. How many outcomes there are isn't told. It goes
+/// as one wherever their answers alone differ, so there are fewer moments. How many outcomes there are isn't reported. It goes
 /// no further than where a number of steps leads to more than `most` moments. `Memory` where memory couldn't grow, `Count`
-/// where more orders lead to one state than a count can tell.
+/// where more orders lead to one state than a count can hold.
 pub fn ask_alone<B: BankMaker>(
     alloc: Global,
     callers: &Callers,

@@ -1,4 +1,4 @@
-//! What calls can be answered, as it is told.
+//! What calls can be answered, as it is written.
 ghost use Rattle.std.specs.Prelude.{◌≡◌, IfOk, find, map, option_map};
 ghost use Rattle.std.specs.List.{list_all, list_any};
 ghost use Rattle.std.specs.Str.{bytes_eq};
@@ -54,7 +54,7 @@ fn are_digits(text: &[u8]) -> bool
     text.iter().all(|byte| byte.is_ascii_digit() || (*byte >= b'a' && *byte <= b'f'))
 }
 
-// Whether a text tells of bytes.
+// Whether a text is of bytes.
 fn is_bytes(text: &str) -> bool
     ensures { result ≡ is_bytes text.now }
 {
@@ -64,7 +64,7 @@ fn is_bytes(text: &str) -> bool
     }
 }
 
-// What stands before the first blank, and what behind it.
+// What comes before the first blank, and what after it.
 fn around_blank(text: &str) -> Option<(&str, &str)>
     ensures { option_map (λ parts. (parts.0.now, parts.1.now)) result ≡ around_space text.now }
 {
@@ -84,7 +84,7 @@ fn is_more(text: &str) -> bool
     }
 }
 
-// Whether a text tells to whom a mutex was handed.
+// Whether a text says to whom a mutex was handed.
 fn is_handed(text: &str) -> bool
     ensures { result ≡ is_handed text.now }
 {
@@ -94,14 +94,14 @@ fn is_handed(text: &str) -> bool
     }
 }
 
-// Whether a text tells how a wait ended.
+// Whether a text says how a wait ended.
 fn is_end_of_wait(text: &str) -> bool
     ensures { result ≡ is_end_of_wait text.now }
 {
     text == "done" || text == "timed out" || is_numbered("bits ", text) || is_bytes(text)
 }
 
-// Whether an answer of this kind can be told so.
+// Whether an answer of this kind can be written so.
 fn is_told_of(kind: ReplyKind, text: &str) -> bool
     ensures { result ≡ is_told_of kind text.now }
 {

@@ -20,7 +20,7 @@ pub struct Asked {
     pub against: Option<usize>,
 }
 
-/// Goes through all orders of the callers over a bank, as `outcomes_of` does, and tells the first outcome that is
+/// Goes through all orders of the callers over a bank, as `outcomes_of` does, and names the first outcome that is
 /// against what is asked.
 pub fn ask_all<B: BankMaker>(
     alloc: Global,

@@ -33,9 +33,9 @@ use toml::{Table, Value};
 pub struct Never {
     /// The text that says so.
     pub text: String,
-    /// The caller, as it is told: `T1`.
+    /// The caller, as it is written: `T1`.
     pub who: String,
-    /// Its answer, as it is told: `timed out`.
+    /// Its answer, as it is written: `timed out`.
     pub answer: String,
 }
 
@@ -96,7 +96,7 @@ pub enum AskFault {
     Memory,
 }
 
-/// Whether a thread is told so.
+/// Whether a thread is named so.
 pub(crate) fn is_named(alloc: Global, who: &str, number: u16) -> Result<bool, AllocError>
     ensures { IfOk result (λ named. named ≡ bytes_eq (caller_text number) who.now) }
 {
@@ -193,7 +193,7 @@ fn read_table(alloc: Global, callers: &Callers, table: &Table) -> Result<Ask, As
     }
 }
 
-// What a document asks in which nothing stands but `[ask]`.
+// What a document asks in which nothing is but `[ask]`.
 fn read_document(alloc: Global, callers: &Callers, document: &Table) -> Result<Ask, AskFault>
     ensures asks { IfOk result (λ ask. IsSomeAnd (ask_table (table_view document.now)) (λ table. Asks table ask)) }
     ensures who { IfOk result (λ ask. AreOfCallers callers.now.callers.items ask.never.items) }
@@ -278,7 +278,7 @@ pub fn read_ask(alloc: Global, callers: &Callers, bytes: &[u8]) -> Result<Ask, A
     ensures who { IfOk result (λ ask. AreOfCallers callers.now.callers.items ask.never.items) }
     ensures watches { IfOk result (λ ask. AreWatches callers.now.board ask.watches.items) }
 
-    // A fault of a key is told with the first line that sets it.
+    // A fault of a key is reported with the first line that sets it.
     ensures placed { IfErr result (IsPlaced bytes.now) }
 
     // It is refused only for what is wrong with it, or for want of memory.
@@ -323,7 +323,7 @@ impl Question for Stuck {
     }
 }
 
-// What is told of a thread, be it stuck or not.
+// What is reported of a thread, be it stuck or not.
 fn past_stuck(text: &[u8]) -> &[u8]
     ensures { result.now ≡ past_stuck text.now }
 {
@@ -371,7 +371,7 @@ fn has_any(never: &[Never], told: &[u8]) -> bool
     never.iter().any(|one| some_line(one, told))
 }
 
-/// Whether an outcome of which this is told is against what is asked: a caller is stuck where none may be, or a thread
+/// Whether an outcome of which this is reported is against what is asked: a caller is stuck where none may be, or a thread
 /// waits where none may, or a caller has an answer, from one arrow to the next, that is just one that it may never have.
 pub fn is_against(ask: &Ask, told: &str) -> bool
     ensures { result ≡ is_against ask.now told.now }

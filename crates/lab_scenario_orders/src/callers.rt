@@ -107,7 +107,7 @@ fn parted(all: Vec<Step>, count: usize) -> Result<(Vec<Step>, Vec<Step>), AllocE
     }
 }
 
-// Steps with others behind them.
+// Steps with others after them.
 fn joined(steps: Vec<Step>, others: Vec<Step>) -> Result<Vec<Step>, AllocError>
     ensures { IfOk result (λ all. all.items ≡ steps.items ++ others.items) }
 {

@@ -12,7 +12,7 @@ use evl_base::Board;
 use std::alloc::{AllocError, Global};
 use strsim::levenshtein;
 
-// What stands before the first `and` in a text, and behind it.
+// What comes before the first `and` in a text, and after it.
 fn around_and(text: &str) -> Option<(&str, &str)>
     ensures written { IfSome result (λ parts. text.now ≡ parts.0.now ++ (codes " and " ++ parts.1.now)) }
     ensures first { IfSome result (λ parts. IsSingle parts.0.now) }
@@ -24,7 +24,7 @@ fn around_and(text: &str) -> Option<(&str, &str)>
     }
 }
 
-// The texts between which `and` stands.
+// The texts between which `and` is.
 fn texts_of(alloc: Global, text: &str) -> Result<Vec<&str>, AllocError>
     ensures written { IfOk result (λ texts. joined (map (λ one. one.now) texts.items) ≡ text.now) }
     ensures parted { IfOk result (λ texts. All IsSingle (map (λ one. one.now) texts.items)) }

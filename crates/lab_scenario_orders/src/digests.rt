@@ -50,7 +50,7 @@ fn with_queue<C>(digest: u64, kernel: &KernelOf<C, Global>, on: Awaited) -> u64 
     all
 }
 
-// A digest with how each thread of a board stands more.
+// A digest with the state of each thread of a board added.
 fn with_threads<C>(digest: u64, kernel: &KernelOf<C, Global>, count: u16) -> u64 {
     let mut all = digest;
     for number in 0..count {

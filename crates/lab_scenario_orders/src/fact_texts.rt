@@ -9,7 +9,7 @@ use evl_base::{FlagId, LineNo, MutexId, SemId, Stage, ThreadId, Way, XbufId};
 use evl_kernel::Awaited;
 use evl_scenario::number_of_text;
 
-// What stands before the first blank, and what behind it.
+// What comes before the first blank, and what after it.
 fn around_blank(text: &str) -> Option<(&str, &str)>
     ensures { option_map (λ parts. (parts.0.now, parts.1.now)) result ≡ around_space text.now }
 {
@@ -33,7 +33,7 @@ fn word_in(text: &str) -> Option<u32>
     u32::try_from(number_of_text(text)?).ok()
 }
 
-// A thread, as it is told.
+// A thread, as it is written.
 fn thread_in(text: &str) -> Option<ThreadId>
     ensures { result ≡ thread_in text.now }
 {

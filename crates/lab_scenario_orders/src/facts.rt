@@ -15,7 +15,7 @@ pub enum Relation {
     Above,
 }
 
-/// A fact of a kernel that its readers tell.
+/// A fact of a kernel that its readers say.
 #[derive(Clone, Copy, Drop)]
 pub enum Fact {
     /// This thread is picked.

@@ -1,4 +1,4 @@
-//! Lines of what is told.
+//! Lines of what is reported.
 ghost use Rattle.std.specs.Prelude.{◌≡◌, ◌++◌, OnOk, string_bytes};
 ghost use Rattle.lab_scenario_orders.specs.Told.{lines_below};
 
@@ -6,19 +6,19 @@ use evl_kernel::Awaited;
 use std::alloc::AllocError;
 use std::fmt;
 
-/// Lines that are told one by one.
+/// Lines that are reported one by one.
 pub(crate) trait Lines {
     ghost use Rattle.std.specs.Prelude.{ℕ, List};
 
     /// The line of a number, or nothing.
     ghost line: { Self → ℕ → List ℕ };
 
-    /// Writes the line of a number behind a text.
+    /// Writes the line of a number after a text.
     fn put(&self, text: &mut String, number: u16) -> Result<(), AllocError>
         ensures { OnOk result (string_bytes text.new ≡ string_bytes text.old ++ line self.now number) };
 }
 
-/// Writes the lines of all numbers below one behind a text.
+/// Writes the lines of all numbers below one after a text.
 pub(crate) fn put_lines<L: Lines>(
     text: &mut String,
     lines: &L,

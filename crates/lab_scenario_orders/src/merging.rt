@@ -10,7 +10,7 @@ use crate::moments::{Moment, are_same, are_same_numbers};
 use evl_kernel::KernelOf;
 use std::alloc::Global;
 
-// Whether the steps at these places lead to a kernel that stands like one over the same callbacks.
+// Whether the steps at these places lead to a kernel that is like one over the same callbacks.
 fn is_led_alike<B: BankMaker>(
     alloc: Global,
     callers: &Callers,
@@ -31,7 +31,7 @@ fn is_led_alike<B: BankMaker>(
     }
 }
 
-// Whether the steps of one moment lead to a kernel that stands like the one at hand at another.
+// Whether the steps of one moment lead to a kernel that is like the one at hand at another.
 fn do_trails_meet<B: BankMaker>(
     alloc: Global,
     callers: &Callers,

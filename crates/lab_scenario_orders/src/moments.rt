@@ -18,9 +18,9 @@ pub struct Moment {
     /// The places of the steps that weren't refused, in the order in which they were made: a refusal leaves the kernel
     /// as it was.
     pub(crate) trail: Vec<usize>,
-    /// A digest of how the kernel stands.
+    /// A digest of how the kernel is.
     pub(crate) standing: u64,
-    /// Of each question about moments whether the kernel stands as it looks for.
+    /// Of each question about moments whether the kernel is as it looks for.
     pub(crate) noted: Vec<bool>,
     /// Of each caller whether it is held there: its thread can make no step.
     pub(crate) held: Vec<bool>,
@@ -92,7 +92,7 @@ fn made_with(
     Ok(all)
 }
 
-// Writes an answer behind what was answered so far.
+// Writes an answer after what was answered so far.
 fn tell(told: &mut String, answer: &StepAnswer) -> Result<(), AllocError>
     ensures { OnOk result (string_bytes told.new ≡ answer_line (string_bytes told.old) answer.now.0) }
 {
@@ -101,7 +101,7 @@ fn tell(told: &mut String, answer: &StepAnswer) -> Result<(), AllocError>
     Ok(())
 }
 
-// The same text, and an answer behind it.
+// The same text, and an answer after it.
 fn told_with(alloc: Global, text: &str, answer: &StepAnswer) -> Result<String, AllocError>
     ensures { IfOk result (λ told. string_bytes told ≡ answer_line text.now answer.now.0) }
 {
@@ -121,7 +121,7 @@ fn copied_texts(alloc: Global, texts: &[String]) -> Result<Vec<String>, AllocErr
     Ok(copied)
 }
 
-// The same texts once more, with an answer behind that of a caller.
+// The same texts once more, with an answer after that of a caller.
 fn answers_with(
     alloc: Global,
     answers: &[String],
@@ -137,7 +137,7 @@ fn answers_with(
     Ok(all)
 }
 
-// The same places, and that of a step behind them that wasn't refused.
+// The same places, and that of a step after them that wasn't refused.
 fn trail_with(
     alloc: Global,
     trail: &[usize],
@@ -154,8 +154,8 @@ fn trail_with(
     Ok(all)
 }
 
-/// The moment after a step of a caller that has made so many, with what it was answered, where the kernel stands as a
-/// digest tells and as is noted, and who is held there.
+/// The moment after a step of a caller that has made so many, with what it was answered, where the kernel is as a
+/// digest says and as is noted, and who is held there.
 pub(crate) fn moment_after(
     alloc: Global,
     before: &Moment,

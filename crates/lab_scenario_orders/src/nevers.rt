@@ -15,7 +15,7 @@ use evl_scenario::field;
 use std::alloc::{AllocError, Global};
 use toml::{Table, Value};
 
-// Whether a caller is told so.
+// Whether a caller is named so.
 fn is_name(alloc: Global, callers: &[Caller], who: &str) -> Result<bool, AllocError>
     ensures { IfOk result (λ named. named ≡ is_caller_text callers.now who.now) }
 {
@@ -42,7 +42,7 @@ fn never_of(alloc: Global, text: &str, who: &str, answer: &str) -> Result<Never,
     Ok(Never { text, who, answer })
 }
 
-// What stands before the first arrow in a text, and behind it.
+// What comes before the first arrow in a text, and after it.
 fn around_arrow(text: &str) -> Option<(&str, &str)>
     ensures arrow { IfSome result (λ parts. text.now ≡ parts.0.now ++ (codes "->" ++ parts.1.now)) }
     ensures first { IfSome result (λ parts. HasSubslice parts.0.now (codes "->") → ⊥) }
@@ -54,7 +54,7 @@ fn around_arrow(text: &str) -> Option<(&str, &str)>
     }
 }
 
-// The caller and the answer in a text: just one arrow stands between them.
+// The caller and the answer in a text: just one arrow is between them.
 fn parts_of(text: &str) -> Option<(&str, &str)>
     ensures parted { IfSome result (λ parts. IsParted text.now parts.0.now parts.1.now) }
     ensures single { IfSome result (λ parts. HasSubslice parts.1.now (codes "->") → ⊥) }
@@ -75,7 +75,7 @@ fn parts_of(text: &str) -> Option<(&str, &str)>
     }
 }
 
-// The answer that the text with this number stands for.
+// The answer that the text with this number means.
 fn read_never(
     alloc: Global,
     callers: &Callers,

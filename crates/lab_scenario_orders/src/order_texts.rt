@@ -29,7 +29,7 @@ pub enum OrderFault {
     Memory,
 }
 
-// Whether the caller with this number is told so.
+// Whether the caller with this number is named so.
 fn is_caller_at(
     alloc: Global,
     callers: &Callers,
@@ -44,7 +44,7 @@ fn is_caller_at(
     }
 }
 
-// The number of the caller that is told so.
+// The number of the caller that is named so.
 fn caller_of(alloc: Global, callers: &Callers, who: &str) -> Result<Option<u16>, AllocError>
     ensures within { IfOk result (λ found. IfSome found (λ n. n < length callers.now.callers.items)) }
     ensures name { IfOk result (λ found. IfSome found (λ n. caller_name callers.now.callers.items n ≡ Some who.now)) }
@@ -58,7 +58,7 @@ fn caller_of(alloc: Global, callers: &Callers, who: &str) -> Result<Option<u16>,
     Ok(None)
 }
 
-// The callers that these words tell.
+// The callers that these words name.
 fn read_words(alloc: Global, callers: &Callers, words: &[&str]) -> Result<Vec<u16>, OrderFault>
     ensures names { IfOk result (λ order. map (caller_name callers.now.callers.items) order.items ≡ map (λ word. Some word) (map (λ word. word.now) words.now)) }
     ensures callers { IfOk result (λ order. All (λ n. n < length callers.now.callers.items) order.items) }
@@ -78,7 +78,7 @@ fn read_words(alloc: Global, callers: &Callers, words: &[&str]) -> Result<Vec<u1
     Ok(order)
 }
 
-/// The order that a text tells: callers with single blanks between them, as `T1 T2 T1`. `Name` where a word isn't one,
+/// The order that a text names: callers with single blanks between them, as `T1 T2 T1`. `Name` where a word isn't one,
 /// `Memory` where memory couldn't grow.
 pub fn read_order(alloc: Global, callers: &Callers, text: &str) -> Result<Vec<u16>, OrderFault>
     ensures names { IfOk result (λ order. map (caller_name callers.now.callers.items) order.items ≡ map (λ word. Some word) (words_of text.now)) }

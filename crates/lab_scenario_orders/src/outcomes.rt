@@ -29,7 +29,7 @@ use std::alloc::{AllocError, Global};
 /// The outcomes of the orders of callers, each once, those of the shortest orders first.
 #[derive(Drop)]
 pub struct Outcomes {
-    /// What is told of each: lines of the callers that wait, which begin with `stuck: ` where they have a step more;
+    /// What is reported of each: lines of the callers that wait, which begin with `stuck: ` where they have a step more;
     /// what each caller was answered; and what there is at the end. How many orders end so, and the first of them that
     /// was found.
     pub all: Vec<Tally>,
@@ -45,7 +45,7 @@ pub struct Outcomes {
     pub whole: bool,
 }
 
-// What is told of a moment, with the kernel as it stands there.
+// What is reported of a moment, with the kernel as it is there.
 fn told_by<B: BankMaker>(
     alloc: Global,
     kernel: &KernelOf<B::Made, Global>,
@@ -59,7 +59,7 @@ fn told_by<B: BankMaker>(
     told_of(alloc, kernel, callers, moment)
 }
 
-/// What is told of a moment, where it is an end. `AllocError` where memory couldn't grow.
+/// What is reported of a moment, where it is an end. `AllocError` where memory couldn't grow.
 pub(crate) fn told_there<B: BankMaker>(
     alloc: Global,
     callers: &Callers,
@@ -164,7 +164,7 @@ fn outcomes_at<B: BankMaker>(
     Ok(all)
 }
 
-// The moment before the first caller's step, with what is noted of a kernel that stands there.
+// The moment before the first caller's step, with what is noted of a kernel that is there.
 fn start_at<C>(
     alloc: Global,
     kernel: &KernelOf<C, Global>,
@@ -243,8 +243,8 @@ fn ends_of<B: BankMaker>(
 }
 
 /// The outcomes of all orders of the callers over a bank, and what is asked of each moment. It goes no further than where a number of steps leads to more
-/// than `most` moments, and tells then that it isn't whole. `Memory` where memory couldn't grow, `Count` where more
-/// orders lead to one state than a count can tell.
+/// than `most` moments, and says then that it isn't whole. `Memory` where memory couldn't grow, `Count` where more
+/// orders lead to one state than a count can hold.
 pub fn outcomes_of<B: BankMaker>(
     alloc: Global,
     callers: &Callers,
@@ -282,7 +282,7 @@ pub fn outcomes_of<B: BankMaker>(
     }
 }
 
-/// Whether somebody can't go on where just this is told of an outcome.
+/// Whether somebody can't go on where just this is reported of an outcome.
 pub fn is_stuck(told: &str) -> bool
     ensures { result ≡ some_line is_stuck_line told.now }
 {

@@ -1,4 +1,4 @@
-//! What is told of all orders, as text.
+//! What is reported of all orders, as text.
 ghost use Rattle.std.specs.Prelude.{[], ◌≡◌, ◌++◌, IfOk, OnOk, codes, flat_map, if◌then◌else◌, map, string_bytes};
 ghost use Rattle.std.specs.Str.Lines.{lines};
 ghost use Rattle.lab_scenario_orders.specs.Reports.{comment, counts_text, found_text, head_text, number_text, order_text, orders_text, outcome_text, outcomes_text, reach_text, report_text, state_at, state_text, states_text, watch_line, way_text, who_text};
@@ -84,7 +84,7 @@ fn put_order(text: &mut String, callers: &[Caller], order: &[u16]) -> Result<(),
     text.push_str("\n")
 }
 
-// Writes what is told of an outcome.
+// Writes what is reported of an outcome.
 fn put_head(
     alloc: Global,
     text: &mut String,
@@ -151,7 +151,7 @@ fn put_counts(text: &mut String, outcomes: &Outcomes) -> Result<(), AllocError>
     put_cut(text, outcomes.whole)
 }
 
-// Writes what is told of a question about moments by whether a moment as it looks for was found.
+// Writes what is reported of a question about moments by whether a moment as it looks for was found.
 fn put_found(text: &mut String, when: When, is_found: bool) -> Result<(), AllocError>
     ensures { OnOk result (string_bytes text.new ≡ string_bytes text.old ++ found_text when is_found) }
 {
@@ -173,7 +173,7 @@ fn put_found(text: &mut String, when: When, is_found: bool) -> Result<(), AllocE
     }
 }
 
-// Writes of which moments it is told, where longer orders were cut off and none was found.
+// Writes of which moments it is reported, where longer orders were cut off and none was found.
 fn put_reach(text: &mut String, is_found: bool, is_whole: bool) -> Result<(), AllocError>
     ensures { OnOk result (string_bytes text.new ≡ string_bytes text.old ++ reach_text is_found is_whole) }
 {
@@ -218,7 +218,7 @@ fn put_way<B: BankMaker>(
     }
 }
 
-// Writes what is told of a question about moments, with the first order to a moment as it looks for.
+// Writes what is reported of a question about moments, with the first order to a moment as it looks for.
 fn put_state<B: BankMaker>(
     alloc: Global,
     text: &mut String,
@@ -240,7 +240,7 @@ fn put_state<B: BankMaker>(
     }
 }
 
-// Writes what is told of the question with this place, if there is one.
+// Writes what is reported of the question with this place, if there is one.
 fn put_state_at<B: BankMaker>(
     alloc: Global,
     text: &mut String,
@@ -268,7 +268,7 @@ fn put_state_at<B: BankMaker>(
     }
 }
 
-// Writes what is told of the questions about moments.
+// Writes what is reported of the questions about moments.
 fn put_states<B: BankMaker>(
     alloc: Global,
     text: &mut String,
@@ -302,7 +302,7 @@ fn put_outcomes<B: BankMaker>(
 }
 
 /// Warnings, then what is asked of moments, each with the first order to one as it looks for, and then all outcomes, each with how many
-/// orders lead to it, and the shortest and first of them. Each order is told as a scenario too, and all else in comments,
+/// orders lead to it, and the shortest and first of them. Each order is reported as a scenario too, and all else in comments,
 /// so that each part of the text from `# state` or `# outcome` on can be played. `AllocError` where memory couldn't grow.
 pub fn write_report<B: BankMaker>(
     alloc: Global,

@@ -15,7 +15,7 @@ pub(crate) trait Question {
         ensures { result ≡ holds self.now text.now };
 }
 
-// Whether something holds of what stands behind some line feed.
+// Whether something holds of what comes after some line feed.
 fn later_line<Q: Question>(question: &Q, text: &[u8]) -> bool
     ensures { result ≡ later_line (Q.holds question.now) text.now }
 {
@@ -36,7 +36,7 @@ pub(crate) fn some_line<Q: Question>(question: &Q, text: &[u8]) -> bool
     question.asks(text) || later_line(question, text)
 }
 
-/// What stands behind the first text in the second, if that begins with it.
+/// What comes after the first text in the second, if that begins with it.
 pub(crate) fn behind<'a>(front: &[u8], text: &'a [u8]) -> Option<&'a [u8]>
     ensures { option_map (λ rest. rest.now) result ≡ text_behind front.now text.now }
 {
@@ -50,7 +50,7 @@ pub(crate) fn begins(front: &[u8], text: &[u8]) -> bool
     behind(front, text).is_some()
 }
 
-/// What stands behind this front part of a text, as text.
+/// What comes after this front part of a text, as text.
 pub fn past<'a>(front: &str, text: &'a str) -> Option<&'a str>
     ensures { option_map (λ rest. rest.now) result ≡ past_front front.now text.now }
 {
@@ -60,7 +60,7 @@ pub fn past<'a>(front: &str, text: &'a str) -> Option<&'a str>
     }
 }
 
-/// Whether behind the digits that a text begins with it says that somebody waits.
+/// Whether after the digits that a text begins with it says that somebody waits.
 pub(crate) fn waits_behind_number(text: &[u8]) -> bool
     ensures { result ≡ waits_behind_number text.now }
 {
@@ -94,7 +94,7 @@ pub(crate) fn stands_here(answer: &[u8], text: &[u8]) -> bool
     }
 }
 
-/// Whether this answer stands somewhere in the rest of the line.
+/// Whether this answer is somewhere in the rest of the line.
 pub(crate) fn is_answered(answer: &[u8], text: &[u8]) -> bool
     ensures { result ≡ is_answered answer.now text.now }
 {

@@ -14,13 +14,13 @@ pub struct Split {
     pub scenario: String,
     /// How many steps are set up.
     pub setup: usize,
-    /// Whether a step stands before one that is set up.
+    /// Whether a step is before one that is set up.
     pub is_mixed: bool,
     /// The tables `[ask]`.
     pub ask: String,
 }
 
-/// A line without the comment behind it and the spaces around it.
+/// A line without the comment after it and the spaces around it.
 pub(crate) fn bare(line: &str) -> &str
     ensures { result.now ≡ bare line.now }
 {
@@ -40,7 +40,7 @@ fn ends_head(text: &str, name: &str, end: &str) -> bool
     }
 }
 
-// Whether just this name stands on a line between these brackets, with blanks around it or not.
+// Whether just this name is on a line between these brackets, with blanks around it or not.
 fn is_head(line: &str, begin: &str, name: &str, end: &str) -> bool
     ensures { result ≡ is_head begin.now name.now end.now line.now }
 {
@@ -136,7 +136,7 @@ fn setups_of(lines: &[&str]) -> usize
     count
 }
 
-// Whether a step stands before one that is set up.
+// Whether a step is before one that is set up.
 fn is_mixed(lines: &[&str]) -> bool
     ensures { result ≡ is_mixed (map (λ line. line.now) lines.now) }
 {
@@ -150,7 +150,7 @@ fn is_mixed(lines: &[&str]) -> bool
     false
 }
 
-/// Splits the text of callers. A line is `[[setup]]`, `[[step]]` or `[ask]` where nothing else stands on it but blanks,
+/// Splits the text of callers. A line is `[[setup]]`, `[[step]]` or `[ask]` where nothing else is on it but blanks,
 /// within the brackets too, and a comment; a table `[ask]` goes on until another table begins. `AllocError` where memory
 /// couldn't grow.
 pub fn split_text(alloc: Global, text: &str) -> Result<Split, AllocError>

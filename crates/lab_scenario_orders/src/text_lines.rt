@@ -12,7 +12,7 @@ pub(crate) fn lines_of(alloc: Global, text: &str) -> Result<Vec<&str>, AllocErro
     text.lines().collect(alloc)
 }
 
-/// Puts a line behind a text.
+/// Puts a line after a text.
 pub(crate) fn put_line(text: &mut String, line: &str) -> Result<(), AllocError>
     ensures { OnOk result (string_bytes text.new ≡ string_bytes text.old ++ (line.now ++ line_feed)) }
 {

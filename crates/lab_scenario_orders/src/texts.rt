@@ -14,7 +14,7 @@ use std::alloc::Global;
 pub enum TextFault {
     /// The scenario in it can't be read; the steps that are set up are counted too.
     Scenario(Fault),
-    /// A step stands before one that is set up.
+    /// A step is before one that is set up.
     Mixed,
     /// There are more steps than the history may have entries.
     Limit,
@@ -31,7 +31,12 @@ fn text_of(bytes: &[u8]) -> Result<&str, TextFault>
     }
 }
 
-/// The callers of a text: a scenario, in which `[[setup]]` stands for a step that comes first.
+// rule: The callers are the threads of the steps that are not set up, each with all its steps; the history has room for
+//   all. A text is refused only if it is not UTF-8, a step comes before one that is set up, its scenario is refused
+//   (with that fault) or has more steps than its limit, or memory ran out.
+//   clauses: read_callers; Driven::callers
+//   rows: a_step_before_the_setup_is_told
+/// The callers of a text: a scenario, in which `[[setup]]` means a step that comes first.
 pub fn read_callers(alloc: Global, bytes: &[u8]) -> Result<Callers, TextFault>
     // The history has room for all steps.
     ensures room { IfOk result (λ callers. length callers.setup.items + length callers.steps.items ≤ callers.limit) }

@@ -1,4 +1,4 @@
-//! What is told of callers at the end of an order.
+//! What is reported of callers at the end of an order.
 ghost use Rattle.std.specs.Prelude.{◌≡◌, ◌≤◌, ◌++◌, [], OnOk, IfOk, length, map, slice_index_or, string_bytes};
 ghost use Rattle.lab_scenario_orders.specs.Told.{answered_text, awaited_at, callers_text, elements_text, flags_line, has_more, is_caller, lines_below, mutex_line, pending_text, sem_line, stuck_text, unpicked_text, waiting_text, waits_text, xbuf_line, xbufs_text};
 
@@ -413,7 +413,7 @@ fn put_pending<C>(text: &mut String, kernel: &KernelOf<C, Global>) -> Result<(),
     put_lines(text, &Pending { kernel, stage }, LINES as u16)
 }
 
-/// What is told of an end: lines `stuck: ` of the callers that have a step more, which wait; lines of the others that
+/// What is reported of an end: lines `stuck: ` of the callers that have a step more, which wait; lines of the others that
 /// wait; what each caller was answered; who else waits; recorded owners, counts, bits and bytes; and the events that
 /// are pending.
 pub(crate) fn told_of<C>(

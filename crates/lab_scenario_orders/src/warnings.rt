@@ -57,7 +57,7 @@ impl<'a> Question for HasAnswer<'a> {
     }
 }
 
-// Whether it has it in an outcome of which this is told.
+// Whether it has it in an outcome of which this is reported.
 fn has_answer(told: &str, who: &str, answer: &str, place: usize) -> bool
     ensures { result ≡ some_line (has_answer who.now answer.now place) told.now }
 {

@@ -172,7 +172,7 @@ fn watches_at(
     }
 }
 
-// These with others behind them.
+// These with others after them.
 fn joined(watches: Vec<Watch>, others: Vec<Watch>) -> Result<Vec<Watch>, AskFault>
     ensures items { IfOk result (λ all. all.items ≡ watches.items ++ others.items) }
     ensures memory { IfErr result (λ e. e ≡ AskFault.Memory) }

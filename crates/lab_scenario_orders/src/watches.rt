@@ -38,14 +38,14 @@ fn is_noted_by(when: When, is_so: bool) -> bool
     }
 }
 
-// Whether a kernel stands as is looked for: the facts are so, or, where they are asked for at each moment, they aren't.
+// Whether a kernel is as is looked for: the facts are so, or, where they are asked for at each moment, they aren't.
 fn is_noted<C>(kernel: &KernelOf<C, Global>, watch: &Watch) -> bool
     ensures { result ≡ is_noted kernel.now.history.state watch.now }
 {
     is_noted_by(watch.when, are_all_so(kernel, watch.claims.as_slice()))
 }
 
-/// Of each of these whether a kernel stands as is looked for.
+/// Of each of these whether a kernel is as is looked for.
 pub(crate) fn noted<C>(
     alloc: Global,
     kernel: &KernelOf<C, Global>,

@@ -108,7 +108,7 @@ fn step_kernel<B: BankMaker>(
     }
 }
 
-// A moment, if there is one, with the kernel that stands there at hand.
+// A moment, if there is one, with the kernel that is there at hand.
 fn held_at<C: Handler>(
     next: Option<Moment>,
     kernel: KernelOf<C, Global>,

@@ -17,8 +17,8 @@ use Rattle.lab_schedules.specs.declared.locking.Tried.TheVariants as tried
 use Rattle.lab_schedules.specs.declared.places.Phase.{Phase}
 use Rattle.lab_schedules.specs.declared.places.Phase.TheVariants.{Between, Due, At, Runs, Sleeps, Waits, Over}
 use Rattle.lab_schedules.specs.declared.places.Place.{Place}
-use Rattle.lab_jobs.specs.declared.events.Stretch.{Stretch}
-use Rattle.lab_jobs.specs.declared.events.What.TheVariants as what
+use Rattle.lab_schedules.specs.declared.events.Stretch.{Stretch}
+use Rattle.lab_schedules.specs.declared.events.What.TheVariants as what
 use Rattle.lab_schedules.specs.declared.words.Owner.{Owner}
 use Rattle.lab_schedules.specs.declared.words.Word.{Word}
 use Rattle.lab_schedules.specs.Acts.{act_in, after_attempt, await_date, awaited, did, do_act, end_call, end_run, end_wait, get_until, leave, next_act, rest_until, run, sleep, start, tried_to, wake}

@@ -15,7 +15,7 @@ use Rattle.lab_schedules.specs.declared.locking.Tried.TheVariants as tried
 use Rattle.lab_schedules.specs.declared.places.Phase.{Phase}
 use Rattle.lab_schedules.specs.declared.places.Phase.TheVariants.{Between, Due, At, Runs, Sleeps, Waits, Over}
 use Rattle.lab_schedules.specs.declared.places.Place.{Place}
-use Rattle.lab_jobs.specs.declared.events.What.TheVariants as what
+use Rattle.lab_schedules.specs.declared.events.What.TheVariants as what
 use Rattle.lab_schedules.specs.Locks.{Attempt, attempt, lock, unlock}
 use Rattle.lab_schedules.specs.Places.{at, at_first, behind_job, further}
 use Rattle.lab_schedules.specs.Plays.{Played, called, is_oob_thread, now, state, thread_of, told, with_place}
@@ -112,6 +112,9 @@ abbrev pub next_act : Played → ℕ → Place → Task → Option Act → Playe
 next_act p task place is None = finish_job p task place
 next_act p task place is (Some one) = do_act p task place is one
 
+-- rule: A job is finished at the end of its last computation, if nothing but its end follows, else with its last act. A
+--   sleep until now or before takes no time; a job whose release has come begins at once.
+--   clauses: Play::act
 abbrev pub act_in : Played → ℕ → Place → Task → Phase → Played
 act_in p task place is Between = await_job p task place is
 act_in p task place is (Due date) = start p task place

@@ -8,7 +8,7 @@ use Rattle.lab_tasks.specs.declared.sets.Rules.{Rules}
 use Rattle.lab_tasks.specs.declared.sets.Task.{Task}
 use Rattle.lab_schedules.specs.declared.places.Phase.TheVariants.{Runs}
 use Rattle.lab_schedules.specs.declared.places.Place.{Place}
-use Rattle.lab_jobs.specs.declared.events.Stretch.{Stretch}
+use Rattle.lab_schedules.specs.declared.events.Stretch.{Stretch}
 use Rattle.lab_schedules.specs.Acts.{date_after, end_run}
 use Rattle.lab_schedules.specs.Places.{at, wakes_of}
 use Rattle.lab_schedules.specs.Plays.{Played, called, hardware, is_oob_thread, now, place_at, state, thread_of, with_place}
@@ -72,6 +72,10 @@ abbrev pub with_second : Played → Option ℕ → Option ℕ
 with_second p None = None
 with_second p (Some date) = earlier (Some date) (next_second p)
 
+-- rule: Time passes by one tick, to the least of: the end of the computation, the clock's next date, the next
+--   interrupt, the end of the run, the end of the slice or the budget, a date of an in-band task, and where there are
+--   quota groups the next whole second.
+--   clauses: Play::{compute, pause}
 -- until which date time passes, while a task computes for so long, or nobody does
 abbrev pub passes_to : Rules → Played → Option (ℕ × ℕ) → Option ℕ
 passes_to rules p computing = with_second p (end_of rules p computing)
@@ -95,6 +99,10 @@ abbrev pub left_over : Played → ℕ → Place → ℕ → ℕ → Played
 left_over p task place acts left =
     if left == 0 then end_run p task place acts else with_place p task (at place (Runs left))
 
+-- rule: Time that passes while a task computes is given to its job, and to no other; as much is taken off what it has
+--   left.
+--   also: Laws.ComputingIsCounted
+--   clauses: Play::computed; computing_is_counted
 unfoldable pub computed : Played → ℕ → Place → ℕ → ℕ → ℕ → Played
 computed p task place rest from acts =
     left_over (noted p task place.job from) task place acts (rest - (now p - from))

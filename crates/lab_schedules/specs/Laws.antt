@@ -2,7 +2,7 @@
 use Rattle.std.specs.Prelude.{ℕ, ◌≡◌, ◌+◌, ◌-◌, ◌==◌, ◌&&◌, Bool, true, false, List, [], ◌∷◌, Option, Some, None, slice_get, if◌then◌else◌}
 use Rattle.lab_tasks.specs.declared.sets.Rules.{Rules}
 use Rattle.lab_schedules.specs.declared.places.Place.{Place}
-use Rattle.lab_jobs.specs.declared.events.Stretch.{Stretch}
+use Rattle.lab_schedules.specs.declared.events.Stretch.{Stretch}
 use Rattle.lab_schedules.specs.Choices.{doer}
 use Rattle.lab_schedules.specs.Dates.{computed}
 use Rattle.lab_schedules.specs.Places.{rest_of}

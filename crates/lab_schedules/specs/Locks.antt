@@ -64,6 +64,11 @@ abbrev pub lock_word : Played → ThreadId → MutexId → Option Word → Attem
 lock_word p thread mutex None = refuse p refusal.Unknown
 lock_word p thread mutex (Some word) = lock_owned p thread mutex word word.owner
 
+-- rule: A free mutex without a ceiling is locked only by its word, one with a ceiling by `raise`, a taken one by
+--   `claim`; it is unlocked by its word where nobody waits and there is no ceiling, else by `release`. A refused act,
+--   and a wait that ended at its deadline, is printed, and the job goes on.
+--   also: Locks.unlock
+--   clauses: Play::{lock, unlock}
 -- a lock by a thread that is in-band is refused
 unfoldable pub lock : Played → ThreadId → MutexId → Attempt
 lock p thread mutex =

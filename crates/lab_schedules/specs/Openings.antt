@@ -93,6 +93,10 @@ pub record Ends (p : Played) (all : Rules) (s : Schedule) : Type 0 where
 abbrev pub Finishes : List Step → Rules → ℕ → Played → Schedule → Type 0
 Finishes setup rules limit p s = (q : Played) × PlaysTo setup rules limit p s.end q × Ends q rules s
 
+-- rule: What a whole play answers is what the definition computes of setup, tasks and callbacks, unless it ends since
+--   the history is full, as it then is.
+--   also: Openings.played
+--   clauses: play_tasks
 -- A schedule is what comes of its task set, unless it ends since its history is full, as it then is.
 pub record IsSchedule (set : TaskSet) (bank : List Handler) (s : Schedule) : Type 0 where
   pub rules : s.rules ≡ set.rules

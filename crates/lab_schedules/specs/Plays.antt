@@ -10,9 +10,9 @@ use Rattle.evl_sched.specs.Threads.{is_oob, stage_of}
 use Rattle.evl_scenario.specs.declared.steps.Step.{Step}
 use Rattle.evl_shell.specs.Runs.{Moment, Turn, turn}
 use Rattle.lab_schedules.specs.declared.places.Place.{Place}
-use Rattle.lab_jobs.specs.declared.events.Event.{Event}
-use Rattle.lab_jobs.specs.declared.events.Stretch.{Stretch}
-use Rattle.lab_jobs.specs.declared.events.What.{What}
+use Rattle.lab_schedules.specs.declared.events.Event.{Event}
+use Rattle.lab_schedules.specs.declared.events.Stretch.{Stretch}
+use Rattle.lab_schedules.specs.declared.events.What.{What}
 use Rattle.lab_schedules.specs.declared.words.Word.{Word}
 use Rattle.lab_schedules.specs.Places.{nowhere}
 

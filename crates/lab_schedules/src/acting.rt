@@ -3,11 +3,11 @@
 ghost use Rattle.std.specs.Prelude.{◌≡◌, IfOk, OnOk};
 ghost use Rattle.lab_schedules.specs.Acts.{act_at, await_date, await_job, did, do_act, end_call, end_run, end_wait, get_until, finish_job, leave, rest_until, run, sleep, start, tried_to, wake};
 
+use crate::What;
 use crate::calling::{Halt, Play, thread_of};
 use crate::locking::Tried;
 use crate::places::{Phase, Place};
 use evl_base::{Call, Spares, Stage, Way};
-use lab_jobs::What;
 use lab_tasks::{Act, Task};
 use std::alloc::Global;
 

@@ -4,10 +4,10 @@ ghost use Rattle.lab_schedules.specs.Plays.{answer, called, is_oob_thread, now, 
 
 use crate::places::{Phase, Place};
 use crate::words::Word;
+use crate::{Event, Stretch, What};
 use evl_base::{Call, Refusal, Reply, Stage, ThreadId, XbufId};
 use evl_plans::PlannedKernel;
 use evl_shell::wants_memory;
-use lab_jobs::{Event, Stretch, What};
 use std::alloc::{AllocError, AllocFailed, Global};
 use std::marker::Model;
 

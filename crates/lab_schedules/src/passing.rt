@@ -4,11 +4,11 @@ ghost use Rattle.lab_schedules.specs.Dates.{acts_of, computed, computes_to, earl
 ghost use Rattle.lab_schedules.specs.Plays.{now};
 ghost use Rattle.lab_schedules.specs.Turns.{computing, pausing};
 
+use crate::Stretch;
 use crate::calling::{HARDWARE, Halt, Play, thread_of};
 use crate::places::{Phase, Place};
 use crate::schedules::End;
 use evl_base::Call;
-use lab_jobs::Stretch;
 use lab_tasks::Rules;
 
 // The nanoseconds of a second.

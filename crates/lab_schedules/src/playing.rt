@@ -283,14 +283,20 @@ impl Play {
     }
 }
 
-// The schedule of a play that has ended so, if memory was there; here alone a play is dropped.
+// Lets a play go, its kernel as the plans do.
+fn leave(play: Play) {
+    let Play { kernel, .. } = play;
+    kernel.leave();
+}
+
+// The schedule of a play that has ended so, if memory was there; here alone a play is let go.
 fn ended(play: Play, rules: Rules, end: Result<End, AllocError>) -> Result<Schedule, AllocError>
     ensures { IfOk result (λ s. (end ≡ Ok s.end) × Ends play rules s) }
 {
     match end {
         Ok(end) => Ok(schedule_of(play, rules, end)),
         Err(refused) => {
-            drop(play);
+            leave(play);
             drop(rules);
             Err(refused)
         }

@@ -1,9 +1,9 @@
 //! What comes of a task set.
 ghost use Rattle.std.specs.Prelude.{◌≡◌, IfOk};
-ghost use Rattle.lab_jobs.specs.Jobs.{jobs_of};
+ghost use Rattle.lab_schedules.specs.Jobs.{jobs_of};
 
+use crate::{Event, Job, Stretch, jobs_of};
 use evl_plans::PlannedKernel;
-use lab_jobs::{Event, Job, Stretch, jobs_of};
 use lab_tasks::Rules;
 use std::alloc::{AllocError, Global};
 
@@ -39,6 +39,12 @@ pub struct Schedule {
 }
 
 impl Schedule {
+    /// Lets it go, its kernel as the plans do.
+    pub fn leave(self) {
+        let Schedule { kernel, .. } = self;
+        kernel.leave();
+    }
+
     /// What came of each job that has started, and of each task's next one that was released before the end: by tasks,
     /// and by their numbers.
     pub fn jobs(&self, alloc: Global) -> Result<Vec<Job>, AllocError>

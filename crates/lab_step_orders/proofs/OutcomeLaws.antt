@@ -1,4 +1,4 @@
--- Sums over ends and over outcomes, and why outcomes can't be told.
+-- Sums over ends and over outcomes, and why outcomes can't be reported.
 use Rattle.std.proofs.Common.{◌≡◌, ℕ, ◌+◌, ◌*◌, ◌≤◌, List, [], ◌∷◌, length, refl, arith, inl, inr}
 use Rattle.std.specs.Prelude.{sum_by}
 use Rattle.std.proofs.lemmas.List.Sums.{sum_by-cons}
@@ -19,7 +19,7 @@ weight_of_ones {M} state (node ∷ nodes) =
     let all : sum_by (λ n. n.count) (node ∷ nodes) ≡ node.count + sum_by (λ n. n.count) nodes = sum_by-cons (λ (n : Node M). n.count) node nodes in
     omega (arith, more, all, weight_of_ones state nodes)
 
--- of a number of steps there are more runs, or more orders of fewer, than a count can tell
+-- of a number of steps there are more runs, or more orders of fewer, than a count can hold
 pub too_many_runs : (c : Crew) (most : ℕ) (e : OrdersError) → (e ≡ Count → (k : ℕ) × (k ≤ most) × (count_limit ≤ length (runs (machine c) (first_seen c) k))) → CanNotTell c e
 too_many_runs c most Memory f = tt
 too_many_runs c most Count f = let r = f refl in (r.0, inl r.2)

@@ -1,4 +1,4 @@
--- A number behind those of the callers makes no turn.
+-- A number after those of the callers makes no turn.
 use Rattle.std.proofs.Common.{◌≡◌, ℕ, zero, suc, ◌≤◌, true, false, ne_eqb, List, [], ◌∷◌, length, refl, arith}
 use Rattle.std.specs.Prelude.{Option, Some, None, slice_get, slice_index, slice_index_or}
 use Rattle.std.proofs.lemmas.Bool.{ltb-true}

@@ -196,7 +196,7 @@ set_there [] i a lt = absurd (omega arith)
 set_there (x ∷ xs) zero a lt = refl
 set_there (x ∷ xs) (suc i) a lt = set_there xs i a (omega arith)
 
--- a world lies over a word that callers own as this tells
+-- a world lies over a word that these callers own
 record LiesOver (n word : ℕ) (own : ℕ → Bool) (w : MutexWorld) : Type 0 where
   pub events : List (Event MutexKind)
   pub run : Run (Happens mutex_steps) (opened_mutex n) events w

@@ -26,7 +26,7 @@ mapped_at f [] i r d lt is = absurd (omega arith)
 mapped_at f (x ∷ xs) zero r d lt is = ap f (sym is)
 mapped_at f (x ∷ xs) (suc i) r d lt is = mapped_at f xs i r d (omega arith) is
 
--- an element of a list, whatever stands for those that aren't there
+-- an element of a list, whatever is given for those that aren't there
 pub index_is : {A : Type 0} (xs : List A) (i : ℕ) (r d : A) → i < length xs → r ≡ get_or xs i r → r ≡ get_or xs i d
 index_is [] i r d lt is = absurd (omega arith)
 index_is (x ∷ xs) zero r d lt is = is

@@ -326,7 +326,7 @@ module _ (c : Crew) (gates mutexes : List Shared) (k : ℕ) where
   held_may s false (Some (Turns t)) all turn e = subst May (same_Some (with_core EndsVisit t) turn e) (all (Turns t) refl)
   held_may s false (Some (Visits visit)) all turn e = changes_may (ended_by visit) (visit_turn c s k visit) (visit_may s visit (all (Visits visit) refl)) turn e
 
-  -- where it stands as it may
+  -- where its place is as it may be
   right_may : (s : State) (way : CoreUse) (core : Option Taken) (w : Option Waiting) (place : Place) → PlaceMay place → (call : Option WordCall) (turn : Turn) → turn_of c s k way core place (ahead_at c gates mutexes k w place call) ≡ Some turn → May turn
   right_may s way core w place may call turn e = by (has_core core k) e where
     by : (b : Bool) → (if b then held_turn c s k (is_done core) (ahead_at c gates mutexes k w place call) else begun_turn c s k way (is_some core) place (ahead_at c gates mutexes k w place call)) ≡ Some turn → May turn

@@ -66,7 +66,7 @@ module _ (c w : Crew) (board : w.board ≡ c.board) (same : map calls_of w.calle
         subst (λ (u : Seen). LeadsFree s u) is
         ((long_after s k turn long, subst (λ (o : Option Taken). Holds c (after c s k (with_core change turn)) o) (sym none) tt), k ∷ [], whole_makes s k turn change e same)
 
-    -- or keeps its caller the core behind the visit
+    -- or one that keeps its caller the core after the visit
     ending : (turn : Turn) → begun_turn c s.state k Whole false here (next_ahead c s k) ≡ Some turn → turn.core ≡ Same → IsAnswered turn → k < length c.callers.items → after c s k (with_core Ends turn) ≡ t → LeadsFree s t
     ending turn e same answers lt is =
         subst (λ (u : Seen). LeadsFree s u) is ((long_after s k turn long, (lt, begins_after c s k turn answers)), k ∷ [], whole_makes s k turn Ends e same)

@@ -117,7 +117,7 @@ module _ (c w : Crew) (board : w.board ≡ c.board) (same : map calls_of w.calle
       subst (λ (n : ℕ). list_all (λ k. is_none (go (alike c w) s k)) (numbers_below n) ≡ true) (sym (count_is c w board same))
       (all_so (λ k. is_none (go c s k)) (λ k. is_none (go (alike c w) s k)) (λ k e. ap (λ (o : Option Seen). is_none o) (stands_whole never s k at (none_is (go c s k) e))) (numbers_below (length c.callers.items)) over)
 
--- ---- where they begin, and what is told
+-- ---- where they begin, and what is reported
 
 same_list : {B : Type 0} (b : B) (xs : List CrewCaller) → map (λ x. b) xs ≡ replicate (length xs) b
 same_list b [] = refl

@@ -35,7 +35,7 @@ use Rattle.lab_step_orders.specs.declared.steps.WhatIf.{WhatIf}
 
 -- ---- lists
 
--- an order of callers one behind the other
+-- one order of callers after the other
 pub led_on : {S : Type 0} (m : Machine S) (order more : List ℕ) (s t u : S) → led_along m s order ≡ Some t → led_along m t more ≡ Some u → led_along m s (order ++ more) ≡ Some u
 led_on {S} m [] more s t u one other = subst (λ (z : S). led_along m z more ≡ Some u) (sym (same_Some s t one)) other
 led_on {S} m (k ∷ order) more s t u one other =
@@ -79,7 +79,7 @@ begins_there (x ∷ xs) (suc k) = begins_there xs k
 abbrev pub cored : Seen → Option Taken → Seen
 cored s o = record s { core = o }
 
--- with the core taken by this one, and behind its visit
+-- with the core taken by this caller, and after its visit
 abbrev pub taken_by : Seen → ℕ → Seen
 taken_by s k = cored s (Some (record { who = k; is_done = false }))
 
@@ -104,7 +104,7 @@ module _ (c : Crew) (s : Seen) (k : ℕ) where
   pub gives : slice_index_or s.places k Begins ≡ Begins → after c s k (core_turn Gives Begins) ≡ cored s None
   gives e = ap (λ (p : Place). after c s k (core_turn Gives p)) (sym e) ∙ stays Gives
 
-  -- behind a turn that answers its caller begins
+  -- after a turn that answers, its caller begins
   pub begins_after : (turn : Turn) → IsAnswered turn → slice_index_or (after c s k turn).places k Begins ≡ Begins
   begins_after turn is = ap (λ (next : Then). get_or (set s.places k (place_after next)) k Begins) is.1 ∙ begins_there s.places k
 
@@ -158,7 +158,7 @@ module _ (c : Crew) (right : c.what_if ≡ None) where
         taking Lasts h = ap (λ (b : Bool). if b then None else take_turn Lasts false (slice_index_or s.places k Begins)) early
         taking Tries h = ap (λ (b : Bool). if b then None else take_turn Tries false (slice_index_or s.places k Begins)) early
 
-  -- behind the take its visit, and the give
+  -- after the take, its visit and the give
   pub visit_leads : (s : Seen) (k : ℕ) (visit : Asked) (turn : Turn) → next_ahead c s k ≡ Some (Visits visit) → visit_turn c s.state k visit ≡ Some turn
       → (order : List ℕ) × (led_along (machine c) (taken_by s k) order ≡ Some (cored (after c s k turn) None))
   visit_leads s k visit turn a e = by (ended_by visit) refl (gives_or_ends visit) where

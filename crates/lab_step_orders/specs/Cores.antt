@@ -77,7 +77,7 @@ begun_turn c s k way taken place (Some (Visits visit)) = visit_begun c s k way t
 
 -- ---- and one that has it
 
--- a call of the kernel alone gives the core, too; behind a step on a mutex the give is a turn of its own
+-- a call of the kernel alone gives the core, too; after a step on a mutex the give is a turn of its own
 abbrev pub ended_by : Asked → CoreChange
 ended_by (asked.Step place) = Gives
 ended_by asked.Finish = Gives
@@ -91,6 +91,12 @@ held_turn c s k false None = None
 held_turn c s k false (Some (Turns turn)) = Some (with_core Ends turn)
 held_turn c s k false (Some (Visits visit)) = option_map (with_core (ended_by visit)) (visit_turn c s k visit)
 
--- the turn of a caller that stands here and for whom this is ahead
+-- rule: A visit is one turn while nobody has the core; or it takes the core by a turn before it, and after a step at a
+--   mutex's word gives it by one of its own. If another has the core the take is waited for, or the call is `CoreBusy`.
+--   also: Cores.{visit_begun, held_turn}
+--   clauses: step_outcomes_of
+--   rows: core_is_taken_and_given_by_turns; finish_without_a_wait_finds_the_core_taken;
+--   who_finds_the_core_taken_gives_up
+-- the turn of a caller that is here and for whom this is ahead
 abbrev pub turn_of : Crew → State → ℕ → CoreUse → Option Taken → Place → Option Ahead → Option Turn
 turn_of c s k way core place ahead = if has_core core k then held_turn c s k (is_done core) ahead else begun_turn c s k way (is_some core) place ahead

@@ -33,6 +33,12 @@ is_on c stage g = any_below (is_one_on c stage g) (length c.callers.items)
 abbrev pub at_word : (Shared → Bool) → List Shared → ℕ → Bool
 at_word test words i = option_map_or test (slice_get words i) false
 
+-- rule: For each question about moments the first order to one as it looks for is reported, a shortest one; if none is,
+--   no moment of any run that was gone through is so. Facts are functions of the words, of who holds them, of the
+--   callers' stages and of who has the core.
+--   also: Facts.is_noted; Outcomes.{asked, each}; Reports.states_text
+--   clauses: step_outcomes_of; write_step_report
+--   rows: a_mutex_is_claimed_while_its_claimer_has_the_core; nobody_meets_another_stage_in_a_stax
 abbrev pub is_so : Crew → Seen → StepFact → Bool
 is_so c s (HoldsStax who stax) = at_word (λ shared. holds shared who.0) s.gates stax.0
 is_so c s (HeldOn stax stage) = at_word (is_on c stage) s.gates stax.0

@@ -14,7 +14,7 @@ use Rattle.lab_step_orders.specs.declared.steps.Visit.{Visit}
 abbrev pub shared_of : SharedWord → Shared
 shared_of shared = record { word = shared.word; held = shared.held.items }
 
--- what a moment stands for
+-- what a moment means
 abbrev pub seen_of : Crew → Moment → Seen
 seen_of c moment = record {
   gates = map shared_of moment.gates.items;

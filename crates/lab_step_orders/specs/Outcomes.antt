@@ -22,7 +22,7 @@ staxes_text gates = lines_below (stax_line gates) (length gates)
 abbrev pub mutexes_text : List Shared → List ℕ
 mutexes_text mutexes = lines_below (mutex_line mutexes) (length mutexes)
 
--- what is told where callers and words stand so: who is stuck, who waits with no call left, what each caller with calls was
+-- what is reported where callers and words stand so: who is stuck, who waits with no call left, what each caller with calls was
 -- answered, and how the words stand
 abbrev pub told_text : Crew → Seen → List ℕ
 told_text c s =
@@ -30,7 +30,7 @@ told_text c s =
     ++ (lines_below (resting_line c s.made s.waits s.state) (length c.callers.items)
     ++ (lines_below (caller_line c s.answers) (length c.callers.items) ++ (staxes_text s.gates ++ mutexes_text s.mutexes)))
 
--- this order leads from here to where nobody can make a step, and just this is told there
+-- this order leads from here to where nobody can make a step, and just this is reported there
 pub record LeadsTo (c : Crew) (s : Seen) (told order : List ℕ) : Type 0 where
   pub end : Seen
   pub leads : led_along (machine c) s order ≡ Some end
@@ -54,16 +54,24 @@ pub record AreRisen (k : ℕ) (outcomes : List Tally) : Type 0 where
   pub rise : AreRising outcomes
   pub below : All (λ n. n ≤ k) (lengths outcomes)
 
--- Why outcomes can't be told: memory ran out; or more runs of so many steps, or more orders of fewer, than a count can tell.
+-- Why outcomes can't be reported: memory ran out; or more runs of so many steps, or more orders of fewer, than a count can hold.
 abbrev pub CanNotTell : Crew → OrdersError → Type 0
 CanNotTell c Memory = Unit {0}
 CanNotTell c Count = (k : ℕ) × ((count_limit ≤ length (runs (machine c) (first_seen c) k)) ⊎ (count_limit ≤ length (orders (machine c) (first_seen c) k)))
 
+-- rule: Outcomes of the callers' atomic steps are reported as those of a scenario's callers. Orders are merged only if
+--   words, holders, places, waits, answers and who has the core are the same, and the kernels are alike. An end's
+--   report says who is stuck, who waits with no call left, each caller's answers, and the words. There are none only
+--   for want of memory, or if more runs or orders than a count holds are there.
+--   also: Outcomes.{CanNotTell, told_text, distinct, lead, rise, count, gone, whole, cut, more}
+--   clauses: step_outcomes_of
+--   rows: three_that_enter_a_stax_end_in_seventeen_ways; two_rounds_of_three_callers_are_counted;
+--   two_that_enter_a_stax_may_race; who_never_finishes_waits_at_last
 -- The outcomes of all orders of the callers' steps.
 pub record AreOutcomes (c : Crew) (most : ℕ) (found : StepOutcomes) : Type 0 where
-  -- whatever is counted of what is told: the outcomes, each as often as its count says, give what all orders give
+  -- whatever is counted of what is reported: the outcomes, each as often as its count says, give what all orders give
   pub counted : (f : List ℕ → ℕ) → told_weight f found.all.items ≡ total (λ s. f (told_text c s)) (orders (machine c) (first_seen c) found.steps)
-  -- no two are told alike
+  -- no two are reported alike
   pub distinct : AreDistinct found.all.items
   -- the order of each leads there from the first moment on, and nobody can make a step more; the shortest stand first
   pub lead : LeadThere c (first_seen c) found.all.items

@@ -149,7 +149,15 @@ first_ahead c gates mutexes k wait FinishLockMutex = finish_mutex mutexes wait
 first_ahead c gates mutexes k wait (Kernel place) = Visits (asked.Step place)
 first_ahead c gates mutexes k wait (Finish keep) = finish_wait wait keep (holds_some gates k || holds_some mutexes k)
 
--- What is ahead of a caller that stands here in this call. A caller has found a word only where there is a stax
+-- rule: Each call is a program of atomic steps: `try_lock_stax` a look and an exchange of the word that it found;
+--   `unlock_stax` a step that leaves and, where the last one out finds the mark, one that clears it; the fast ways of a
+--   mutex one exchange. A call that goes through the core's lock is a visit: the kernel's step as `Replays` computes
+--   it, and what that does to the mutex's word, in one turn. The visit that ends a wait comes once that is over; a
+--   waiting caller's other calls are `Busy`, but on staxes. A local refusal is a turn without a step.
+--   also: Programs.first_ahead; Visits.{visit_turn, state_after}
+--   clauses: step_outcomes_of
+--   rows: deadline; mutex_2; mutex_3; mutex_3_twice; two_mutexes; two_that_try_a_mutex_end_in_three_ways
+-- What is ahead of a caller that is here in this call. A caller has found a word only where there is a stax
 abbrev pub ahead_at : Crew → List Shared → List Shared → ℕ → Option Waiting → Place → Option WordCall → Option Ahead
 ahead_at c gates mutexes k wait Begins call = option_map (first_ahead c gates mutexes k wait) call
 ahead_at c gates mutexes k wait (Found stax old) call = option_map (λ g. Turns (exchange_turn (limit_of c stax.0) (stage_of c k) stax old g)) (slice_get gates stax.0)

@@ -61,7 +61,7 @@ core_word Same turn = if is_some turn.visit then codes "visit" else step_word tu
 abbrev pub turn_word : Turn → List ℕ
 turn_word turn = core_word turn.core turn
 
--- a turn of a caller, behind what parts it from the one before
+-- a turn of a caller, after what parts it from the one before
 abbrev pub turn_text : List ℕ → ℕ → Turn → List ℕ
 turn_text mark k turn = mark ++ (codes "T" ++ (decimal k ++ (codes " " ++ turn_word turn)))
 
@@ -78,7 +78,7 @@ turns_text c n s (k ∷ order) = option_map_or (λ turn. turn_text (mark_at n) k
 abbrev pub order_text : Crew → List ℕ → List ℕ
 order_text c order = codes "# order:" ++ (turns_text c 0 (first_seen c) order ++ line_feed)
 
--- how many orders lead to an outcome, what is told of it, and the first of them
+-- how many orders lead to an outcome, what is reported of it, and the first of them
 abbrev pub outcome_text : Crew → ℕ → Tally → List ℕ
 outcome_text c n outcome =
     codes "# outcome " ++ (decimal n ++ (codes ": " ++ (number_text outcome.count (codes "order") ++ (line_feed
@@ -116,5 +116,10 @@ abbrev pub states_text : Crew → Bool → ℕ → List StepWatch → List First
 states_text c whole place [] firsts = []
 states_text c whole place (watch ∷ rest) firsts = state_at c whole place watch firsts ++ states_text c whole (place + 1) rest firsts
 
+-- rule: The report has the counts and, of each outcome, what is reported and the first of its orders: who makes each
+--   turn, and by which step.
+--   also: Reports.{outcome_text, turns_text}
+--   clauses: write_step_report
+--   rows: a_report_tells_each_step
 abbrev pub report_text : Crew → StepOutcomes → List ℕ
 report_text c found = counts_text found ++ (states_text c found.whole 0 c.watches.items found.firsts.items ++ outcomes_text c 1 found.all.items)

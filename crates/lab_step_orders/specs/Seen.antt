@@ -23,7 +23,7 @@ use Rattle.lab_step_orders.specs.declared.steps.Waiting.{Waiting}
 use Rattle.lab_step_orders.specs.declared.steps.WordStep.{WordStep}
 use Rattle.lab_step_orders.specs.declared.steps.WordStep.TheVariants.{AtGate, AtMutex}
 
--- the words; of each caller where it stands, how many of its calls are over, what it was answered and for what it waits; who
+-- the words; of each caller where it is, how many of its calls are over, what it was answered and for what it waits; who
 -- has the core, and the records of the kernel
 pub record Seen : Type 0 where
   pub gates : List Shared
@@ -66,7 +66,7 @@ mutexes_after k None mutexes = mutexes
 mutexes_after k (Some (AtGate stax step)) mutexes = mutexes
 mutexes_after k (Some (AtMutex mutex step)) mutexes = changed_at (mutex_after k step) mutex.0 mutexes
 
--- behind an answer the next call begins
+-- after an answer the next call begins
 abbrev pub place_after : Then → Place
 place_after (Stands place) = place
 place_after (Answers answer) = Begins

@@ -1,4 +1,4 @@
--- What each order of atomic steps keeps: behind each gate and each mutex a world of its own stands at every moment.
+-- What each order of atomic steps keeps: each gate and each mutex has a world of its own at every moment.
 use Rattle.std.specs.Prelude.{ℕ, ◌≡◌, ◌≤◌, Bool, true, List, [], length, replicate, Option, Some, None, if◌then◌else◌, slice_get}
 use Rattle.std.specs.List.{list_all}
 use mathlib.Core.Option.{some}
@@ -32,7 +32,7 @@ abbrev pub opened_mutex : ℕ → MutexWorld
 opened_mutex seats = record { word = 0; log = []; views = replicate seats (mutex_newcomer seats) }
 
 -- A gate's world lies over the gate i: from the opening of a gate with a seat for each caller events lead there, each an
--- atomic step that its seat may make; it stands, with this word, and each seat holds the gate just where its caller does.
+-- atomic step that its seat may make; it is consistent, with this word, and each seat holds the gate just where its caller does.
 pub record LiesAtGate (c : Crew) (i : ℕ) (g : Shared) (w : GateWorld) : Type 0 where
   pub events : List (Event GateKind)
   pub run : Run (Happens gate_steps) (opened_gate (limit_of c i) (length c.callers.items)) events w
@@ -53,7 +53,12 @@ pub record LiesAtMutex (callers : ℕ) (m : Shared) (w : MutexWorld) : Type 0 wh
   pub sized : (k : ℕ) (v : MutexView) → get_elem? w.views k ≡ some v → v.held.seats ≡ callers
   pub seats : (k : ℕ) (v : MutexView) → get_elem? w.views k ≡ some v → owns v.held.role ≡ holds m k
 
--- Wherever steps lead, some world of a gate stands behind each stax, and some world of a mutex behind each mutex.
+-- rule: Wherever steps lead, each word and what the callers hold of it are those of a world of a gate or mutex after
+--   events that its seats may make, from its opening. So callers of both stages never hold one stax, and at most one
+--   has a mutex.
+--   also: StepLaws.{NoStaxIsShared, OneHasTheMutex}
+--   clauses: words_stand; no_stax_is_shared; one_has_the_mutex
+-- Wherever steps lead, each stax has some world of a gate, and each mutex some world of a mutex.
 abbrev pub WordsStand : Type 0
 WordsStand = (c : Crew) (r : Order Seen) → IsCrew c → IsRun (machine c) (first_seen c) r
     → ((i : ℕ) (g : Shared) → slice_get r.at.gates i ≡ Some g → (w : GateWorld) × LiesAtGate c i g w)

@@ -1,4 +1,4 @@
--- What is told of callers and of the words at the end of an order.
+-- What is reported of callers and of the words at the end of an order.
 use Rattle.std.specs.Prelude.{ℕ, zero, suc, ◌-◌, ◌==◌, Bool, true, false, List, [], ◌++◌, Option, Some, None, codes, if◌then◌else◌, length, nat_lt, slice_get, slice_index, slice_index_or}
 use Rattle.std.specs.Fmt.{decimal, signed_decimal}
 use Rattle.std.specs.Option.{option_map_or}
@@ -68,7 +68,7 @@ abbrev pub mark_text : Bool → List ℕ
 mark_text true = codes ", claimed\n"
 mark_text false = codes "\n"
 
--- all that a stax's word tells; the stage is that of the last ones in it where nobody is
+-- all that a stax's word says; the stage is that of the last ones in it where nobody is
 abbrev pub stax_text : ℕ → ℕ → List ℕ
 stax_text i word = codes "stax " ++ (decimal i ++ (codes ": " ++ (stage_text (stage_in word) ++ (codes ", held by " ++ (decimal (count_in word) ++ mark_text (mark_in word))))))
 

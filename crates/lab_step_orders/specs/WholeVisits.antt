@@ -26,10 +26,14 @@ pub record AreWhole (c w : Crew) : Type 0 where
 abbrev pub NobodyGivesUp : Crew → Type 0
 NobodyGivesUp c = (k made : ℕ) → use_of c k made ≢ Tries
 
--- an order ends where this is told
+-- an order ends where this is reported
 abbrev pub EndsSo : Crew → List ℕ → Type 0
 EndsSo c told = (order : List ℕ) × LeadsTo c (first_seen c) told order
 
+-- rule: If callers make the right steps, each outcome of whole visits is one of visits that take the core by a turn of
+--   their own; where none of these gives up, they have no other.
+--   clauses: visits_are_whole
+--   rows: core_is_taken_and_given_by_turns
 -- Of callers that make the right steps: each outcome of whole visits is one of any visits; and where nobody gives up, they have no other.
 abbrev pub VisitsAreWhole : Type 0
 VisitsAreWhole = (c w : Crew) (told : List ℕ) → AreWhole c w → c.what_if ≡ None

@@ -26,7 +26,7 @@ gate_kind stage Leave = leaves
 gate_kind stage Claim = claims
 gate_kind stage Unclaim = unclaims
 
--- and which steps of the mutex's world, one behind the other
+-- and which steps of the mutex's world, one after the other
 abbrev pub mutex_kinds : MutexStep → List MutexKind
 mutex_kinds Try = tries ∷ []
 mutex_kinds Unlock = unlocks ∷ []
@@ -44,6 +44,10 @@ gate_view limit stage held = view_of [] [] (hold limit (if held then Some stage 
 abbrev pub mutex_view : Bool → MutexView
 mutex_view held = view_of [] [] (role_of 0 (if held then Owner else Bystander))
 
+-- rule: A step changes one word, and what its caller holds of it, as the world of that gate or mutex says.
+--   also: Words.mutex_after
+--   clauses: step_outcomes_of
+--   rows: orders_of_later_marks_are_counted; orders_with_a_mark_are_counted
 -- a gate of this limit after a step of the caller k, which is on this stage
 abbrev pub gate_after : ℕ → Stage → ℕ → GateStep → Shared → Shared
 gate_after limit stage k step g = record {

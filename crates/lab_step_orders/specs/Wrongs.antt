@@ -11,7 +11,7 @@ use Rattle.lab_step_orders.specs.declared.steps.WhatIf.TheVariants.{OfferDropsMa
 use Rattle.lab_step_orders.specs.declared.steps.WordStep.{WordStep}
 use Rattle.lab_step_orders.specs.declared.steps.WordStep.TheVariants.{AtMutex}
 
--- an offer tells of nobody who still waits
+-- an offer says of no thread that it still waits
 abbrev pub offered : WordStep → WordStep
 offered (AtMutex mutex (Offer next more)) = AtMutex mutex (Offer next false)
 offered step = step
@@ -49,6 +49,9 @@ step_made None step = step
 step_made (Some what) None = None
 step_made (Some what) (Some step) = stepped_wrong what step
 
+-- rule: A wrong step that is asked for takes the place of the right one.
+--   clauses: step_outcomes_of
+--   rows: offer_without_its_mark_loses_a_waiter; wait_without_its_mark_is_lost
 -- a turn that makes a step, as callers make it
 abbrev pub made_so : Option WhatIf → Turn → Turn
 made_so None turn = turn

@@ -82,7 +82,7 @@ pub(crate) fn with_core(change: CoreChange, turn: Turn) -> Turn
     }
 }
 
-/// The same of a turn that there may be.
+/// As `with_core`, of a turn that there may be.
 pub(crate) fn with_core_if(change: CoreChange, turn: Option<Turn>) -> Option<Turn>
     ensures { result ≡ option_map (cores.with_core change) turn }
 {

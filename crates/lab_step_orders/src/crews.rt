@@ -50,6 +50,8 @@ fn all_fit(limits: &[u16]) -> bool
 }
 
 impl Crew {
+    // rule: Staxes have limits of 1 to 1000, and there are at most 256 callers; otherwise `Range`.
+    //   rows: limits_are_those_of_a_board
     /// Callers over a board. `Range` where a stax's limit isn't within 1 and 1000, or where there are more callers than a
     /// board has threads.
     pub fn new(

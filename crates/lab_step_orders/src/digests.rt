@@ -14,7 +14,7 @@ fn with_number(digest: u64, number: u64) -> u64 {
     (digest ^ number).wrapping_mul(FACTOR)
 }
 
-// A digest with some words more; who holds them is told by the answers.
+// A digest with some words more; who holds them follows from the answers.
 fn with_words(digest: u64, words: &[SharedWord]) -> u64 {
     let mut all = digest;
     for shared in words {
@@ -23,7 +23,7 @@ fn with_words(digest: u64, words: &[SharedWord]) -> u64 {
     all
 }
 
-// What tells a place from others, mostly.
+// What distinguishes a place from others, mostly.
 fn of_place(place: Place) -> u64 {
     match place {
         Place::Begins => 0,
@@ -33,7 +33,7 @@ fn of_place(place: Place) -> u64 {
     }
 }
 
-// What tells who has the core.
+// What says who has the core.
 fn of_core(core: Option<Taken>) -> u64 {
     match core {
         Some(taken) => u64::from(taken.who) + if taken.is_done { 65_536 } else { 1 },

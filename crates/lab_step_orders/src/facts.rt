@@ -158,7 +158,7 @@ fn is_noted(crew: &Crew, moment: &Moment, watch: &StepWatch) -> bool
     )
 }
 
-/// The same of the question with this place.
+/// As `is_noted`, of the question with this place.
 pub(crate) fn is_noted_at(crew: &Crew, place: usize, moment: &Moment) -> bool
     ensures { result ≡ is_noted_at crew.now place (seen_of crew.now moment.now) }
 {

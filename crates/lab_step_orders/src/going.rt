@@ -10,12 +10,13 @@ use crate::cores::{
     core_turn, ended_by, has_core, is_done, is_early, take_turn, use_of, with_core, with_core_if,
 };
 use crate::crews::Crew;
-use crate::kernels::{NoPlans, leave, led};
+use crate::kernels::{NoPlans, led};
 use crate::moments::{Moment, moment_after};
 use crate::programs::{ahead_at, next_call};
 use crate::steps::{Ahead, Asked, CoreChange, CoreUse, Place, Turn};
 use crate::visits::visit_turn;
 use crate::wrongs::made_so;
+use evl_shell::leave;
 use std::alloc::{AllocError, Global};
 
 // What is ahead of a caller.

@@ -14,6 +14,7 @@ use evl_kernel::KernelOf;
 use evl_pipeline::Handler;
 use evl_plans::Planned;
 use evl_scenario::Step;
+use evl_shell::leave;
 use lab_scenario_orders::BankMaker;
 use std::alloc::{AllocError, Global};
 
@@ -201,11 +202,6 @@ fn opened<B: BankMaker>(
     }
 }
 
-/// Lets a kernel go. All that goes with it is proved here once, and not wherever a kernel is done with.
-pub(crate) fn leave<C: Handler>(kernel: KernelOf<C, Global>) {
-    drop(kernel);
-}
-
 // Leads a kernel along what is set up and these visits.
 fn lead<C: Handler>(
     alloc: Global,
@@ -270,7 +266,7 @@ pub(crate) fn goes_on<C>(kernel: &KernelOf<C, Global>, who: u16) -> bool
     kernel.waits(ThreadId(who)) && !kernel.finished(ThreadId(who))
 }
 
-// Whether these visits lead to a kernel that stands like one over the same callbacks.
+// Whether these visits lead to a kernel that is like one over the same callbacks.
 fn is_led_alike<B: BankMaker>(
     alloc: Global,
     crew: &Crew,

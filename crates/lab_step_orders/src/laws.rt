@@ -2,7 +2,7 @@
 ghost use Rattle.lab_step_orders.specs.StepLaws.{NoStaxIsShared, OneHasTheMutex, WordsStand};
 ghost use Rattle.lab_step_orders.specs.WholeVisits.{VisitsAreWhole};
 
-/// Wherever the callers' steps lead, a world of `evl_words` stands behind each word: events of its seats lead there, each
+/// Wherever the callers' steps lead, each word has a world of `evl_words`: events of its seats lead there, each
 /// an atomic step that its seat may make.
 pub fn words_stand()
     ensures { WordsStand }

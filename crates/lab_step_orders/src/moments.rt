@@ -26,7 +26,7 @@ pub struct Moment {
     /// The word of each stax, and of each mutex.
     pub gates: Vec<SharedWord>,
     pub mutexes: Vec<SharedWord>,
-    /// Where each caller stands in its call.
+    /// Where each caller is in its call.
     pub(crate) places: Vec<Place>,
     /// How many calls of each caller are over.
     pub(crate) made: Vec<usize>,
@@ -206,7 +206,7 @@ fn mutexes_after(
     }
 }
 
-// Where a caller stands behind a turn.
+// Where a caller is after a turn.
 fn place_after(then: Then) -> Place
     ensures { result ≡ place_after then }
 {
@@ -262,7 +262,7 @@ fn made_after(
     Ok(all)
 }
 
-// Writes an answer behind what was answered so far.
+// Writes an answer after what was answered so far.
 fn tell(told: &mut String, answer: Answer) -> Result<(), AllocError>
     ensures { OnOk result (string_bytes told.new ≡ answer_line (string_bytes told.old) answer) }
 {
@@ -271,7 +271,7 @@ fn tell(told: &mut String, answer: Answer) -> Result<(), AllocError>
     Ok(())
 }
 
-// What a caller was answered, behind a turn.
+// What a caller was answered, after a turn.
 fn told_after(alloc: Global, text: &str, then: Then) -> Result<String, AllocError>
     ensures { IfOk result (λ told. string_bytes told ≡ answers_after then text.now) }
 {
@@ -310,7 +310,7 @@ fn answers_after(
     Ok(all)
 }
 
-// For what a caller waits behind a turn.
+// For what a caller waits after a turn.
 fn wait_after(wait: Option<Waiting>, change: WaitChange) -> Option<Waiting>
     ensures { result ≡ wait_after change wait }
 {
@@ -337,7 +337,7 @@ fn waits_after(
     Ok(all)
 }
 
-// The visits, with that of a turn behind them.
+// The visits, with that of a turn after them.
 fn trail_after(
     alloc: Global,
     trail: &[Visited],
@@ -436,8 +436,8 @@ fn is_same_core(one: Option<Taken>, other: Option<Taken>) -> bool
     }
 }
 
-/// Whether two moments are the same: the words and who holds them, where each caller stands, for what it waits, its
-/// answers, who has the core, and how the kernel stands.
+/// Whether two moments are the same: the words and who holds them, where each caller is, for what it waits, its
+/// answers, who has the core, and how the kernel is.
 pub(crate) fn are_same(alloc: Global, crew: &Crew, one: &Moment, other: &Moment) -> bool
     ensures { result ≡ true → seen_of crew.now one.now ≡ seen_of crew.now other.now }
 {

@@ -20,7 +20,7 @@ use std::alloc::{AllocError, Global};
 /// The outcomes of the orders of callers' steps, each once, those of the shortest orders first.
 #[derive(Drop)]
 pub struct StepOutcomes {
-    /// What is told of each: what each caller was answered, and how each stax and each mutex stands at the end. How many
+    /// What is reported of each: what each caller was answered, and how each stax and each mutex is at the end. How many
     /// orders end so, and the first of them that was found.
     pub all: Vec<Tally>,
     /// Of each question about moments the first order that leads to one as it looks for.
@@ -138,8 +138,8 @@ fn ends_of(alloc: Global, crew: &Crew, most: usize) -> Result<Explored<Moment>, 
 }
 
 /// The outcomes of all orders of the callers' atomic steps. It goes no further than where a number of steps leads to
-/// more than `most` moments, and tells then that it isn't whole. `Memory` where memory couldn't grow, `Count` where more
-/// orders lead to one state than a count can tell.
+/// more than `most` moments, and says then that it isn't whole. `Memory` where memory couldn't grow, `Count` where more
+/// orders lead to one state than a count can hold.
 pub fn step_outcomes_of(
     alloc: Global,
     crew: &Crew,

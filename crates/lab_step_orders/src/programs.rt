@@ -108,7 +108,7 @@ fn try_stax(limit: u16, stage: Stage, stax: StaxId, caller: u16, gate: &SharedWo
     }
 }
 
-// What the exchange of a word is answered where this one stands.
+// What the exchange of a word is answered where this one is.
 fn exchanged(limit: u16, stage: Stage, old: u64, word: u64) -> Answer
     ensures { result ≡ turns.exchanged limit stage old word }
 {
@@ -456,7 +456,7 @@ fn first_ahead(
     }
 }
 
-/// What is ahead of a caller that stands here in this call, if anything is.
+/// What is ahead of a caller that is here in this call, if anything is.
 pub(crate) fn ahead_at(
     crew: &Crew,
     gates: &[SharedWord],

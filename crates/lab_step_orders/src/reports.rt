@@ -1,4 +1,4 @@
-//! What is told of all orders, as text.
+//! What is reported of all orders, as text.
 ghost use Rattle.std.specs.Prelude.{[], ◌≡◌, ◌++◌, ◌<◌, IfOk, IfSome, OnOk, codes, decimal, flat_map, if◌then◌else◌, length, map, string_bytes};
 ghost use Rattle.std.specs.Str.Lines.{lines};
 ghost use Rattle.lab_step_orders.specs.Moments.{IsMoment, seen_of};
@@ -84,7 +84,7 @@ fn put_turn(text: &mut String, mark: &str, caller: u16, turn: Turn) -> Result<()
     write!(text, "{mark}T{caller} {word}")
 }
 
-// What parts a turn from the one before: nothing but a blank stands before the first.
+// What parts a turn from the one before: nothing but a blank comes before the first.
 fn mark_at(index: usize) -> &'static str
     ensures { result.now ≡ reports.mark_at index }
 {
@@ -190,7 +190,7 @@ fn put_number(text: &mut String, count: u128, word: &str) -> Result<(), AllocErr
     }
 }
 
-// Writes what is told of an outcome, and the first order that leads there.
+// Writes what is reported of an outcome, and the first order that leads there.
 fn put_outcome(
     alloc: Global,
     text: &mut String,
@@ -255,7 +255,7 @@ fn put_outcomes(
 }
 
 /// The report of all outcomes: what came of the questions about moments; how many orders lead to each outcome, what is
-/// told of it, and the first of its orders as steps. Each line begins with `# `. `AllocError` where memory couldn't grow.
+/// reported of it, and the first of its orders as steps. Each line begins with `# `. `AllocError` where memory couldn't grow.
 pub fn write_step_report(
     alloc: Global,
     crew: &Crew,

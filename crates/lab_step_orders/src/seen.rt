@@ -1,7 +1,7 @@
 //! What contracts know of callers and words at one moment.
 use std::marker::Model;
 
-/// The words; of each caller where it stands in its call, how many calls are over, what it was answered and for what it
+/// The words; of each caller where it is in its call, how many calls are over, what it was answered and for what it
 /// waits; who has the core, and the records of the kernel: for contracts alone, no program makes one.
 #[derive(Drop)]
 pub struct SeenSteps {}

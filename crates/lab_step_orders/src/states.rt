@@ -1,4 +1,4 @@
-//! What is told of questions about moments, as text.
+//! What is reported of questions about moments, as text.
 ghost use Rattle.std.specs.Prelude.{◌≡◌, ◌++◌, OnOk, string_bytes};
 ghost use Rattle.lab_scenario_orders.specs.Reports.{found_text, reach_text};
 ghost use Rattle.lab_scenario_orders.specs.WatchTexts.{when_key};
@@ -23,7 +23,7 @@ fn when_key(when: When) -> &'static str
     }
 }
 
-// Writes what is told of a question by whether a moment as it looks for was found.
+// Writes what is reported of a question by whether a moment as it looks for was found.
 fn put_found(text: &mut String, when: When, is_found: bool) -> Result<(), AllocError>
     ensures { OnOk result (string_bytes text.new ≡ string_bytes text.old ++ found_text when is_found) }
 {
@@ -45,7 +45,7 @@ fn put_found(text: &mut String, when: When, is_found: bool) -> Result<(), AllocE
     }
 }
 
-// Writes of which moments it is told, where longer orders were cut off and none was found.
+// Writes of which moments it is reported, where longer orders were cut off and none was found.
 fn put_reach(text: &mut String, is_found: bool, is_whole: bool) -> Result<(), AllocError>
     ensures { OnOk result (string_bytes text.new ≡ string_bytes text.old ++ reach_text is_found is_whole) }
 {
@@ -73,7 +73,7 @@ fn put_watch(
     put_reach(text, is_found, is_whole)
 }
 
-// Writes what is told of a question, with the first order to a moment as it looks for.
+// Writes what is reported of a question, with the first order to a moment as it looks for.
 fn put_state(
     alloc: Global,
     text: &mut String,
@@ -94,7 +94,7 @@ fn put_state(
     }
 }
 
-// Writes what is told of the question with this place, if there is one.
+// Writes what is reported of the question with this place, if there is one.
 fn put_state_at(
     alloc: Global,
     text: &mut String,
@@ -112,7 +112,7 @@ fn put_state_at(
     }
 }
 
-/// Writes what is told of the questions about moments, each with the first order that leads to one as it looks for.
+/// Writes what is reported of the questions about moments, each with the first order that leads to one as it looks for.
 pub(crate) fn put_states(
     alloc: Global,
     text: &mut String,

@@ -23,7 +23,7 @@ pub enum MutexStep {
     Win,
     /// It claims one that another has.
     Mark,
-    /// It offers the mutex to the next owner, and tells whether more threads wait.
+    /// It offers the mutex to the next owner, and says whether more threads wait.
     Offer(u16, bool),
     Free,
     /// It finds the mutex offered to itself, and accepts it.
@@ -69,7 +69,7 @@ pub enum WordStep {
     AtMutex(MutexId, MutexStep),
 }
 
-/// Where a caller stands in its next call.
+/// Where a caller is in its next call.
 #[derive(Clone, Copy, PartialEq, Eq)]
 pub enum Place {
     /// Before its first step.
@@ -113,7 +113,7 @@ pub struct Taken {
 pub enum CoreUse {
     /// The visit is one turn, which waits until nobody has the core.
     Whole,
-    /// A turn before it takes the core, and waits until nobody has it; one behind it gives the core.
+    /// A turn before it takes the core, and waits until nobody has it; one after it gives the core.
     Lasts,
     /// The same, but the call is answered `CoreBusy` where another has the core.
     Tries,

@@ -1,4 +1,4 @@
-//! What is told of callers and words at the end of an order.
+//! What is reported of callers and words at the end of an order.
 ghost use Rattle.std.specs.Prelude.{◌≡◌, ◌++◌, [], IfOk, OnOk, length, map, slice_index_or, string_bytes};
 ghost use Rattle.evl_words.specs.MutexBits.{number_in};
 ghost use Rattle.lab_step_orders.specs.Moments.{seen_of, shared_of};
@@ -6,27 +6,28 @@ ghost use Rattle.lab_step_orders.specs.Outcomes.{mutexes_text, staxes_text, told
 ghost use Rattle.lab_step_orders.specs.Told.{caller_line, has_calls, has_left, lines_below, mark_text, mutex_text, owner_text, resting_line, stax_text, stuck_line, waits_text};
 
 use crate::crews::Crew;
-use crate::kernels::{NoPlans, goes_on, leave, led};
+use crate::kernels::{NoPlans, goes_on, led};
 use crate::moments::Moment;
 use crate::shared::SharedWord;
 use crate::steps::Waiting;
 use crate::words::{count_in, mark_in, stage_in};
 use evl_kernel::KernelOf;
+use evl_shell::leave;
 use std::alloc::{AllocError, Global};
 
-// Lines that are told one by one.
+// Lines that are reported one by one.
 trait Lines {
     ghost use Rattle.std.specs.Prelude.{ℕ, List};
 
     /// The line of a number, or nothing.
     ghost line: { Self → ℕ → List ℕ };
 
-    /// Writes the line of a number behind a text.
+    /// Writes the line of a number after a text.
     fn put(&self, text: &mut String, number: usize) -> Result<(), AllocError>
         ensures { OnOk result (string_bytes text.new ≡ string_bytes text.old ++ line self.now number) };
 }
 
-// Writes the lines of all numbers below one behind a text.
+// Writes the lines of all numbers below one after a text.
 fn put_lines<L: Lines>(text: &mut String, lines: &L, count: usize) -> Result<(), AllocError>
     ensures { OnOk result (string_bytes text.new ≡ string_bytes text.old ++ lines_below (L.line lines.now) count) }
 {
@@ -304,8 +305,8 @@ fn put_rests(
     put
 }
 
-/// What is told of an end: who is stuck, who waits with no call left, what each caller was answered, and how each stax
-/// and each mutex stands.
+/// What is reported of an end: who is stuck, who waits with no call left, what each caller was answered, and how each stax
+/// and each mutex is.
 pub(crate) fn told_of(alloc: Global, crew: &Crew, moment: &Moment) -> Result<String, AllocError>
     ensures { IfOk result (λ told. string_bytes told ≡ told_text crew.now (seen_of crew.now moment.now)) }
 {

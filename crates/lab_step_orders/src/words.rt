@@ -20,7 +20,7 @@ const STAGE_BIT: u64 = 1 << 30;
 
 const CLAIM_MARK: u64 = 1 << 31;
 
-// An offer in a mutex's word; the owner's number stands in its bits 0 to 15.
+// An offer in a mutex's word; the owner's number is in its bits 0 to 15.
 const OFFER_BIT: u64 = 1 << 30;
 
 /// How many hold a gate with this word.
@@ -41,7 +41,7 @@ pub fn stage_in(word: u64) -> Stage
     }
 }
 
-/// Whether the claim mark stands.
+/// Whether the claim mark is set.
 pub fn mark_in(word: u64) -> bool
     ensures { result ≡ mark_in word }
 {

@@ -6,7 +6,7 @@ ghost use Rattle.lab_step_orders.specs.Wrongs.{left_so, made_so, offered, step_m
 use crate::calls::Answer;
 use crate::steps::{MutexStep, Place, Then, Turn, WhatIf, WordStep};
 
-// An offer tells of nobody who still waits.
+// An offer says of no thread that it still waits.
 fn offered(step: WordStep) -> WordStep
     ensures { result ≡ offered step }
 {

@@ -25,7 +25,7 @@ pub prefixed_more : (calls : List CallerCall) (call : WordCall) (n : ℕ) (step 
 prefixed_more calls call n step (Ok rest) = ap (λ (xs : List CallerCall). Ok xs) (sym (append_assoc calls (made_by step call ∷ []) rest))
 prefixed_more calls call n step (Err fault) = refl
 
--- the element at a place, with what is before it and behind it
+-- the element at a place, with what is before it and after it
 split_at : {A : Type 0} (xs : List A) (i : ℕ) (x : A) → i < length xs → x ≡ get_or xs i x → (drop i xs ≡ x ∷ drop (i + 1) xs) × (take (i + 1) xs ≡ take i xs ++ x ∷ [])
 split_at {A} xs i x within at =
     (drop_more xs i x within ∙ ap (λ (y : A). y ∷ drop (i + 1) xs) (sym at), take_more xs i x within ∙ ap (λ (y : A). take i xs ++ y ∷ []) (sym at))

@@ -1,4 +1,4 @@
--- What holds of each element of a list by its place, with one more behind them; and the rest of a list.
+-- What holds of each element of a list by its place, with one more after them; and the rest of a list.
 use Rattle.std.proofs.Common.{◌≡◌, ℕ, zero, suc, ◌-◌, List, [], ◌∷◌, ◌++◌, length, take, drop, refl, sym, subst, ap, ◌∙◌, arith}
 use Rattle.std.specs.Prelude.{Some, slice_get}
 use Rattle.std.proofs.lemmas.Option.{same_Some}
@@ -11,7 +11,7 @@ one_more P (z ∷ xs) n x long p each zero y e = each zero y e
 one_more P (z ∷ xs) n x long p each (suc k) y e =
     one_more (λ m. P (suc m)) xs (length xs) x refl (subst (λ (m : ℕ). P m x) (sym long) p) (λ j w at. each (suc j) w at) k y e
 
--- what stands behind so many elements is the whole rest
+-- as many elements as are left are the whole rest
 take_whole : {A : Type 0} (xs : List A) → take (length xs) xs ≡ xs
 take_whole [] = refl
 take_whole {A} (x ∷ xs) = ap (λ (ys : List A). x ∷ ys) (take_whole xs)

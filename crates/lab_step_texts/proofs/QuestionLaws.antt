@@ -24,7 +24,7 @@ joined_more between [] one rest = refl
 joined_more between (first ∷ []) one rest = refl
 joined_more between (first ∷ (next ∷ done)) one rest = ap (λ text. first ++ (between ++ text)) (joined_more between (next ∷ done) one rest)
 
--- the same of what a loop has
+-- the parts that a loop has, and one more
 pub parts_more : (between : List ℕ) (done all : List (Bor (List ℕ))) (one : Bor (List ℕ)) (rest behind text : List ℕ) → all ≡ done ++ one ∷ [] → rest ≡ one.now ++ (between ++ behind)
     → joined_by between (map (λ one. one.now) done ++ rest ∷ []) ≡ text → joined_by between (map (λ one. one.now) all ++ behind ∷ []) ≡ text
 parts_more between done all one rest behind text more split before =
@@ -64,7 +64,7 @@ drop_one [] i d lt = absurd (omega arith)
 drop_one (x ∷ xs) zero d lt = refl
 drop_one (x ∷ xs) (suc i) d lt = drop_one xs i d (omega arith)
 
--- the same of what a loop has
+-- what a loop asks, and its next line more
 pub asked_next : {A : Type 0} (f : A → List ℕ) (lines : List A) (i : ℕ) (d : A) (was is : Bool) (o : Option When) (all next : List StepWatch) → i < length lines
     → is ≡ is_asked was (f (get_or lines i d)) → o ≡ when_asked is (f (get_or lines i d)) → (now : List StepWatch) × (next ≡ all ++ now) × LineAsks o (f (get_or lines i d)) now
     → ((later : List StepWatch) → AreAsked was (map f (drop i lines)) later → AreAsked false (map f lines) (all ++ later))
@@ -143,7 +143,7 @@ pub listed_unread : {A : Type 0} (r : Result A NotAsked) (texts : List (List ℕ
 listed_unread (Ok a) texts text parted h = tt
 listed_unread (Err why) texts text parted h = unread_in texts text parted why h
 
--- one text stands between brackets and quotes
+-- one text is between brackets and quotes
 pub one_listed : (value quoted one other : List ℕ) → value ≡ codes "[\"" ++ quoted → quoted ≡ one ++ codes "\"]" → value ≡ codes "[\"" ++ (other ++ codes "\"]") → other ≡ one
 one_listed value quoted one other front end is =
     append_cancel_right other one (codes "\"]") (sym (append_cancel_left (codes "[\"") quoted (other ++ codes "\"]") (sym front ∙ is)) ∙ end)

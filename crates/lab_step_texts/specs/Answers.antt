@@ -1,4 +1,4 @@
--- What calls on words can be answered, as it is told.
+-- What calls on words can be answered, as it is written.
 use Rattle.std.specs.Prelude.{ℕ, ◌+◌, Bool, false, not, ◌&&◌, ◌||◌, List, [], ◌∷◌, codes, find, Option, string_bytes}
 use Rattle.std.specs.List.{list_any}
 use Rattle.std.specs.Str.{bytes_eq}
@@ -44,7 +44,7 @@ can_be answer call = list_any (bytes_eq answer) (answers_of call) || list_any (�
 abbrev pub can_come : Bool → List ℕ → WordCall → Bool
 can_come wrong answer call = can_be answer call || (wrong && list_any (bytes_eq answer) (wrong_answers call))
 
--- one of these callers, numbered from k, is told so, and a call of its can be answered so
+-- one of these callers, numbered from k, is named so, and a call of its can be answered so
 abbrev pub can_have : Bool → List ℕ → List ℕ → ℕ → List CrewCaller → Bool
 can_have wrong who answer k [] = false
 can_have wrong who answer k (caller ∷ rest) = (bytes_eq (caller_text k) who && list_any (can_come wrong answer) caller.calls.items) || can_have wrong who answer (k + 1) rest

@@ -70,12 +70,12 @@ is_plain_call (call.Release mutex) = false
 is_plain_call (call.Raise mutex) = false
 is_plain_call _ = true
 
--- such a call stands at this place
+-- such a call is at this place
 abbrev pub kernel_call : Call → ℕ → Result WordCall StepFault
 kernel_call (call.Finish keep) place = Ok (Finish keep)
 kernel_call made place = if is_plain_call made then Ok (Kernel place) else Err Core
 
--- the call that a step of this caller is, behind these steps
+-- the call that a step of this caller is, after these steps
 abbrev pub call_in : List CallersStep → ℕ → Act → Result WordCall StepFault
 call_in before who (act.TryLockStax stax named) = Ok (TryLockStax stax)
 call_in before who (act.UnlockStax pass) = stax_call (lock_named who (string_bytes pass) None before)
@@ -95,7 +95,7 @@ call_of threads before step = if nat_lt step.who.0 threads then call_in before s
 abbrev pub made_by : CallersStep → WordCall → CallerCall
 made_by step call = record { who = step.who; call = call }
 
--- the calls of steps behind others, or the number of the first that is none, counted from n, and why
+-- the calls of steps after others, or the number of the first that is none, counted from n, and why
 abbrev pub with_call : Result WordCall StepFault → ℕ → CallersStep → Result (List CallerCall) (ℕ × StepFault) → Result (List CallerCall) (ℕ × StepFault)
 with_call (Err fault) n step rest = Err (n, fault)
 with_call (Ok call) n step (Ok calls) = Ok (made_by step call ∷ calls)
@@ -105,7 +105,7 @@ abbrev pub calls_from : ℕ → ℕ → List CallersStep → List CallersStep �
 calls_from threads n before [] = Ok []
 calls_from threads n before (step ∷ rest) = with_call (call_of threads before step) n step (calls_from threads (n + 1) (before ++ step ∷ []) rest)
 
--- those behind so many steps, which are numbered from 1
+-- those after so many steps, which are numbered from 1
 abbrev pub calls_behind : ℕ → ℕ → List CallersStep → Result (List CallerCall) (ℕ × StepFault)
 calls_behind threads setup steps = calls_from threads (setup + 1) (take setup steps) (drop setup steps)
 
@@ -150,7 +150,7 @@ kernel_step step = record { who = step.who; call = called step.act }
 abbrev pub is_of : ℕ → CallersStep → Bool
 is_of k step = step.who.0 == k
 
--- a step may be set up behind these: its thread is one of a board of so many, and none of these attached it
+-- a step may be set up after these: its thread is one of a board of so many, and none of these attached it
 abbrev pub may_attach : ℕ → List CallersStep → CallersStep → Bool
 may_attach threads before step = (nat_lt step.who.0 threads && is_some (stage_set step.act)) && not (list_any (is_of step.who.0) before)
 

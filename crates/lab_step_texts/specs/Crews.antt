@@ -63,6 +63,15 @@ pub record AreExtras (text : List ℕ) (extras : Extras) : Type 0 where
   pub ways : extras.ways.items ≡ ways_part text
   pub what_if : extras.what_if ≡ wrong_part text
 
+-- rule: A text is one of callers but for what is set up, what is asked, how steps come by the core, and a wrong step.
+--   Its callers are the board's threads, each with the calls that its steps are; a pass unlocks what its caller's last
+--   step before with that name went to. It is refused only for the first step that is no call on words, for one that is
+--   set up and is no `attach`, for more steps than the limit, for a mutex with another way, for the first line of
+--   `[what_if]` that names no wrong step or a second one, for the first that sets `lasts` outside a step or once more
+--   in one, or where it is no text of callers (for that fault).
+--   also: Crews.IsRefused; Calls.{call_of, unattached, stage_in}; Extras.{plain_part, strange_line, stray_line,
+--   ways_part, wrong_part}; Kinds.asks_steps
+--   clauses: read_steps; asks_steps; StepFault::words
 -- the crew of a text: that of its text of callers
 pub record IsReadAs (text : List ℕ) (crew : Crew) : Type 0 where
   pub clear : strange_line text ≡ None

@@ -18,7 +18,7 @@ abbrev pub way_set : List ℕ → Option CoreUse
 way_set line =
     if is_set_to (codes "lasts") (codes "true") line then Some Lasts else if is_set_to (codes "lasts") (codes "false") line then Some Tries else None
 
--- how each step comes by the core, those behind a line and those before it
+-- how each step comes by the core, those after a line and those before it
 abbrev pub ways_on : List CoreUse → List ℕ → List CoreUse
 ways_on ways line = if is_step line then ways ++ Whole ∷ [] else option_map_or (λ way. slice_set ways (length ways - 1) way) (way_set line) ways
 
@@ -26,7 +26,7 @@ abbrev pub ways_from : List CoreUse → List (List ℕ) → List CoreUse
 ways_from ways [] = ways
 ways_from ways (line ∷ rest) = ways_from (ways_on ways line) rest
 
--- a step goes on behind a line, and has no `lasts` so far; another line sets it elsewhere, or once more
+-- a step goes on after a line, and has no `lasts` so far; another line sets it elsewhere, or once more
 abbrev pub is_open : Bool → List ℕ → Bool
 is_open was line = if is_table line then is_step line else was && not (is_some (way_set line))
 
@@ -53,7 +53,7 @@ wrong_set line =
     else if is_set_to (codes "leave_keeps_mark") (codes "true") line then Some LeaveKeepsMark
     else None
 
--- the last wrong step that these lines ask for, behind one that was asked for
+-- the last wrong step that these lines ask for, after one that was asked for
 abbrev pub wrong_on : Option WhatIf → Bool → List ℕ → Option WhatIf
 wrong_on what is line = if is then option_or (wrong_set line) what else what
 

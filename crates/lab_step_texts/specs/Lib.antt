@@ -6,5 +6,7 @@ pub mod Extras
 pub mod FactTexts
 pub mod Faults
 pub mod Kinds
+pub mod Lines
 pub mod Near
 pub mod Questions
+pub mod Shown

@@ -46,11 +46,11 @@ joined_by between [] = []
 joined_by between (text ∷ []) = text
 joined_by between (text ∷ (next ∷ rest)) = text ++ (between ++ joined_by between (next ∷ rest))
 
--- this stands nowhere in a text
+-- this is nowhere in a text
 abbrev pub IsWithout : List ℕ → List ℕ → Type 0
 IsWithout between text = HasSubslice text between → ⊥
 
--- a text is parted into these wherever this stands
+-- a text is parted into these wherever this is
 pub record IsParted (between text : List ℕ) (texts : List (List ℕ)) : Type 0 where
   pub written : joined_by between texts ≡ text
   pub single : All (IsWithout between) texts
@@ -75,7 +75,7 @@ pub record IsNoFacts (text : List ℕ) : Type 0 where
   pub parted : IsParted (codes " and ") text texts
   pub strange : has_strange texts ≡ true
 
--- a value is this between brackets and quotes, and no such end stands in it
+-- a value is this between brackets and quotes, and no such end is in it
 pub record IsListed (value text : List ℕ) : Type 0 where
   pub written : value ≡ codes "[\"" ++ (text ++ codes "\"]")
   pub whole : IsWithout (codes "\"]") text

@@ -1,4 +1,4 @@
-//! What calls on words can be answered, as it is told.
+//! What calls on words can be answered, as it is written.
 ghost use Rattle.std.specs.Prelude.{◌≡◌, IfOk, is_some, map, not, option_map, string_bytes};
 ghost use Rattle.std.specs.List.{list_any};
 ghost use Rattle.std.specs.Str.{bytes_eq};
@@ -76,7 +76,7 @@ fn wrong_answers(call: WordCall) -> &'static [&'static str]
     }
 }
 
-// What stands behind the first text in the second, if that begins with it.
+// What comes after the first text in the second, if that begins with it.
 fn behind<'a>(front: &[u8], text: &'a [u8]) -> Option<&'a [u8]>
     ensures { option_map (λ rest. rest.now) result ≡ text_behind front.now text.now }
 {
@@ -135,7 +135,7 @@ fn can_any(wrong: bool, answer: &str, calls: &[WordCall]) -> bool
     calls.iter().any(|call| can_come(wrong, answer, *call))
 }
 
-// Whether a thread is told so.
+// Whether a thread is named so.
 fn is_named(alloc: Global, who: &str, number: usize) -> Result<bool, AllocError>
     ensures { IfOk result (λ named. named ≡ bytes_eq (caller_text number) who.now) }
 {
@@ -143,7 +143,7 @@ fn is_named(alloc: Global, who: &str, number: usize) -> Result<bool, AllocError>
     Ok(name.as_str() == who)
 }
 
-// Whether one of these callers is told so, and a call of its can be answered so.
+// Whether one of these callers is named so, and a call of its can be answered so.
 fn can_have(
     alloc: Global,
     wrong: bool,

@@ -106,7 +106,7 @@ fn with_states(ask: Ask, watches: Vec<Watch>) -> Ask
     }
 }
 
-// The same of bytes without the lines of questions, with the crew's questions.
+// As `with_states`, of bytes without the lines of questions, with the crew's questions.
 fn read_joined(alloc: Global, crew: &Crew, callers: &Callers, bytes: &[u8]) -> Result<Ask, AskFault>
     ensures asks { IfOk result (λ ask. (read : Ask) × IsSomeAnd (option_and_then ask_table (parse_document (ask_part bytes.now))) (λ table. Asks table read) × AreJoined crew.now read ask) }
     ensures placed { IfErr result (IsPlaced bytes.now) }
@@ -138,7 +138,7 @@ fn unasked_of(alloc: Global, text: &str) -> Result<String, AllocError>
 pub fn read_step_ask(alloc: Global, crew: &Crew, bytes: &[u8]) -> Result<Ask, AskFault>
     ensures asks { IfOk result (IsAskOf bytes.now crew.now) }
 
-    // A fault of a key is told with the first line that sets it.
+    // A fault of a key is reported with the first line that sets it.
     ensures placed { IfErr result (IsPlaced (unasked_part bytes.now)) }
 
     // It is refused only for what is wrong with it, for a question that isn't on a line of its own, or for want of memory.

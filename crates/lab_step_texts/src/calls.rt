@@ -18,7 +18,7 @@ pub struct CallerCall {
     pub call: WordCall,
 }
 
-// What a name stands for.
+// What a name means.
 #[derive(Clone, Copy, PartialEq, Eq)]
 pub(crate) enum Lock {
     Stax(StaxId),
@@ -126,7 +126,7 @@ fn is_plain_call(call: &Call) -> bool
     }
 }
 
-// The call that a call of the kernel is, which stands at this place.
+// The call that a call of the kernel is, which is at this place.
 fn kernel_call(call: &Call, place: usize) -> Result<WordCall, StepFault>
     ensures { result ≡ texts.kernel_call call.now place }
 {
@@ -142,7 +142,7 @@ fn kernel_call(call: &Call, place: usize) -> Result<WordCall, StepFault>
     }
 }
 
-// The call that a step of this caller is, behind these steps.
+// The call that a step of this caller is, after these steps.
 fn call_in(before: &[CallersStep], who: ThreadId, act: &Act) -> Result<WordCall, StepFault>
     ensures { result ≡ texts.call_in before.now who.0 act.now }
 {
@@ -170,7 +170,7 @@ fn call_of(threads: u16, before: &[CallersStep], step: &CallersStep) -> Result<W
     }
 }
 
-/// The calls of the steps behind so many that are set up, by threads of a board of so many; or the number, from 1, of the
+/// The calls of the steps after so many that are set up, by threads of a board of so many; or the number, from 1, of the
 /// first that is no call on words.
 pub(crate) fn calls_of(
     alloc: Global,

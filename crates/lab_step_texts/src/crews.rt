@@ -67,7 +67,7 @@ fn is_any(steps: &[CallersStep], who: ThreadId) -> bool
     steps.iter().any(|step| step.who.0 == who.0)
 }
 
-// Whether a step may be set up behind these.
+// Whether a step may be set up after these.
 fn may_attach(threads: u16, before: &[CallersStep], step: &CallersStep) -> bool
     ensures { result ≡ texts.may_attach threads before.now step.now }
 {
@@ -93,7 +93,7 @@ fn first_of(setup: &[CallersStep], who: u16) -> Option<&CallersStep>
     setup.iter().find(|step| step.who.0 == who)
 }
 
-// The stage of a thread behind what is set up.
+// The stage of a thread after what is set up.
 fn stage_in(setup: &[CallersStep], who: u16) -> Stage
     ensures { result ≡ stage_in who setup.now }
 {

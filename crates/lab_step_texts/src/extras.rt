@@ -48,7 +48,7 @@ fn is_step(line: &str) -> bool
     }
 }
 
-// How a step comes by the core in which this line stands, if it says so.
+// How a step comes by the core in which this line is, if it says so.
 fn way_set(line: &str) -> Option<CoreUse>
     ensures { result ≡ way_set line.now }
 {
@@ -138,7 +138,7 @@ fn wrong_in(lines: &[&str]) -> Option<WhatIf>
     what
 }
 
-// Whether nothing stands on a line but a comment.
+// Whether nothing is on a line but a comment.
 fn is_empty(line: &str) -> bool
     ensures { result ≡ is_empty line.now }
 {
@@ -177,7 +177,7 @@ fn is_table(line: &str) -> bool
     begins(b"[", bare(line).as_bytes())
 }
 
-// Whether a step goes on behind a line that has no `lasts` so far.
+// Whether a step goes on after a line that has no `lasts` so far.
 fn is_open(was: bool, line: &str) -> bool
     ensures { result ≡ is_open was line.now }
 {

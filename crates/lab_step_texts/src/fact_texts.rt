@@ -9,7 +9,7 @@ use evl_scenario::number_of_text;
 use lab_scenario_orders::past;
 use lab_step_orders::{StepClaim, StepFact};
 
-// What stands before the first blank, and what behind it.
+// What comes before the first blank, and what after it.
 fn around_blank(text: &str) -> Option<(&str, &str)>
     ensures { option_map (λ parts. (parts.0.now, parts.1.now)) result ≡ around_space text.now }
 {
@@ -26,7 +26,7 @@ fn half_in(text: &str) -> Option<u16>
     u16::try_from(number_of_text(text)?).ok()
 }
 
-// A thread, as it is told.
+// A thread, as it is written.
 fn thread_in(text: &str) -> Option<ThreadId>
     ensures { result ≡ facts.thread_in text.now }
 {

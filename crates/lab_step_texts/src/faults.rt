@@ -40,7 +40,7 @@ impl StepFault {
 /// A text of a question that isn't facts.
 #[derive(Clone, Copy, PartialEq, Eq)]
 pub struct Unread {
-    /// The key at which it stands.
+    /// The key at which it is.
     pub when: When,
     /// Its number among the texts there, from 1.
     pub number: usize,
@@ -96,7 +96,7 @@ impl Unread {
 pub enum StepsFault {
     /// It can't be read as one of callers; the steps that are set up are counted too.
     Text(Fault),
-    /// A step stands before one that is set up.
+    /// A step is before one that is set up.
     Mixed,
     /// A mutex of the board nests, or has a ceiling.
     Mutex,

@@ -28,7 +28,7 @@ pub(crate) enum NotAsked {
     Memory,
 }
 
-// What stands before the first `=`, and what behind it.
+// What comes before the first `=`, and what after it.
 fn around_equals(text: &str) -> Option<(&str, &str)>
     ensures { option_map (λ parts. (parts.0.now, parts.1.now)) result ≡ keys.around_equals text.now }
 {
@@ -60,7 +60,7 @@ fn when_set(line: &str) -> Option<When>
     }
 }
 
-// The same of a line that is in a table `[ask]` or not.
+// As `when_set`, of a line that is in a table `[ask]` or not.
 fn when_asked(is_in: bool, line: &str) -> Option<When>
     ensures { result ≡ when_asked is_in line.now }
 {
@@ -77,7 +77,7 @@ fn value_set(line: &str) -> Option<&str>
     }
 }
 
-// What stands before and behind a text in another one.
+// What is before and after a text in another one.
 fn around<'a>(text: &'a str, between: &str) -> Option<(&'a str, &'a str)>
     requires { 0 < length between.now }
     ensures written { IfSome result (λ parts. text.now ≡ parts.0.now ++ (between.now ++ parts.1.now)) }
@@ -100,7 +100,7 @@ fn behind<'a>(text: &'a str, front: &str) -> Option<&'a str>
     }
 }
 
-// What stands before this end of a text.
+// What comes before this end of a text.
 fn before<'a>(text: &'a str, end: &str) -> Option<&'a str>
     ensures { MatchOption result ((front : List ℕ) → text.now ≡ front ++ end.now → ⊥) (λ front. text.now ≡ front.now ++ end.now) }
 {
@@ -110,7 +110,7 @@ fn before<'a>(text: &'a str, end: &str) -> Option<&'a str>
     }
 }
 
-// What stands within the brackets of a list and its first and last quotes.
+// What is within the brackets of a list and its first and last quotes.
 fn listed(value: &str) -> Option<&str>
     ensures listed { IfSome result (λ texts. IsListed value.now texts.now) }
     ensures none { IfNone result ((texts : List ℕ) → IsListed value.now texts → ⊥) }
@@ -128,7 +128,7 @@ fn listed(value: &str) -> Option<&str>
     }
 }
 
-// The texts between which this stands.
+// The texts between which this is.
 fn pieces<'a>(alloc: Global, text: &'a str, between: &str) -> Result<Vec<&'a str>, AllocError>
     requires { 0 < length between.now }
     ensures { IfOk result (λ texts. IsParted between.now text.now (map (λ one. one.now) texts.items)) }
@@ -282,7 +282,7 @@ fn line_fault(when: When, number: usize, why: NotAsked) -> StepsFault
     }
 }
 
-// These with others behind them.
+// These with others after them.
 fn joined(watches: Vec<StepWatch>, others: Vec<StepWatch>) -> Result<Vec<StepWatch>, AllocError>
     ensures { IfOk result (λ all. all.items ≡ watches.items ++ others.items) }
 {
@@ -293,7 +293,7 @@ fn joined(watches: Vec<StepWatch>, others: Vec<StepWatch>) -> Result<Vec<StepWat
     Ok(all)
 }
 
-// These with the questions of a line behind them that sets a key for this.
+// These with the questions of a line after them that sets a key for this.
 fn with_questions(
     alloc: Global,
     board: &Board,
@@ -318,7 +318,7 @@ fn with_questions(
     }
 }
 
-// These with the questions of a line behind them.
+// These with the questions of a line after them.
 fn with_line(
     alloc: Global,
     board: &Board,

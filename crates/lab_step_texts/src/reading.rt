@@ -89,7 +89,7 @@ fn check_extras(extras: &Extras) -> Result<(), StepsFault>
     }
 }
 
-/// The callers of a text, with their calls on words: a text of callers, in which `[[setup]]` stands for a step that comes
+/// The callers of a text, with their calls on words: a text of callers, in which `[[setup]]` means a step that comes
 /// first, `lasts` in a step says how it comes by the core, and a table `[what_if]` names a wrong step.
 pub fn read_steps(alloc: Global, bytes: &[u8]) -> Result<Crew, StepsFault>
     ensures crew { IfOk result (IsReadAs bytes.now) }

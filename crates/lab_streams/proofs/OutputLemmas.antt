@@ -60,7 +60,7 @@ module _ (E : Type 0) (Is : Output → Type 0) (old quiet spoken : Option (List 
   said_of line None (Ok s) is says ends = absurd says
   said_of line words (Err e) is says ends = tt
 
-  -- and once it is told
+  -- and once it is written
   pub told : (text : List ℕ) (was : Result Bool E) (r : Result ℕ E) → Is (refuses 2 text) → OnOk was (Appends quiet spoken text) → IfOk r (λ s. (s ≡ 2) × (is_ok was ≡ true))
       → IfOk r (Writes Is old old quiet spoken)
   told text (Ok b) (Ok s) is says ends = record { output = refuses 2 text; is = is; printed = Appends-nil old; said = says; ended = ends.0 }
@@ -84,7 +84,7 @@ told_kinded E Is old quiet spoken name kind other fault was r same is says ends 
     told_of E Is old quiet spoken (line_about name) (kinded_words other fault) was r is
     (subst (λ (k : TextKind). OnOk was (IsSomeAnd (kinded_words k fault) (λ w. Appends quiet spoken (line_about name w)))) same says) ends
 
--- once it is told
+-- once it is written
 pub once_told : (E : Type 0) (P : Type 0) (was : Result Bool E) (r : Result ℕ E) → OnOk was P → IfOk r (λ s. (s ≡ 2) × (is_ok was ≡ true)) → OnOk r P
 once_told E P (Ok b) (Ok s) is ends = is
 once_told E P (Err d) (Ok s) is ends = let no = ends.1 in cc

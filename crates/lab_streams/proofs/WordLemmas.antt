@@ -17,7 +17,7 @@ module _ (E : Type 0) where
   read t (Some false) h = ap is_true (sym h)
   read t None h = sym (false_from_ne_true _ (λ is. h.1.0 ((bytes_eq-Decides t (codes "true")).0 is)))
 
-  -- whether such a word stands there, as it is read
+  -- whether such a word is there, as it is read
   pub reads_flag : (o : Option Text) (r : Option Bool) → (o ≡ None → r ≡ None) → ((t : Text) → o ≡ Some t → ReadsOne {E = E} ParsesBool t r) → unwrap_or r false ≡ option_map_or is_true o false
   reads_flag None r none some = ap (λ (o : Option Bool). unwrap_or o false) (none refl)
   reads_flag (Some t) r none some = read t r (some t refl)

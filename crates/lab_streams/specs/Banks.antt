@@ -14,6 +14,11 @@ use Rattle.lab_streams.specs.declared.texts.Unread.{Unread}
 use Rattle.lab_streams.specs.declared.texts.Unread.TheVariants as unread
 use Rattle.lab_streams.specs.declared.texts.Unread.TheVariants.{NoFile, TooLong}
 
+-- rule: A bank's callbacks are what its text asks for, without a file the program's. A file that cannot be read, or
+--   whose text is no bank, is refused on standard error with its path and why, exactly; then nothing is printed and the
+--   answer is 2.
+--   also: Banks.{SaysRefused, bank_fault_words}
+--   clauses: read_plans
 -- the callbacks of a bank's file, of which nobody knows the text, or the program's where none is named
 abbrev pub IsBank : Option (List ℕ) → List Handler → Type 0
 IsBank None bank = bank ≡ program_bank

@@ -33,6 +33,11 @@ place_text name fault.Board = Some (place_line name 1 1 (codes "a line with the 
 place_text name fault.TooLong = Some (place_line name 1 1 (codes "a scenario of at most 1048576 bytes is wanted"))
 place_text name fault.Memory = None
 
+-- rule: A text of lines that cannot be read is refused by `check`, `play`, `draw`, `live`, `orders` and `convert` with
+--   one line, FILE:LINE:BYTE: what is wanted (FILE is `lab` at `draw` and `live`). The line is the first that cannot be
+--   read.
+--   also: Lines.place_text
+--   clauses: tell_place; play_given; drive_given; tell_given
 -- of a text of lines that can't be read just that is said
 abbrev pub SaysUnread : List ℕ → List ℕ → List ℕ → Type 0
 SaysUnread name text said = (e : LinesFault) × IsUnread text e × IsSomeAnd (place_text name e) (λ line. said ≡ line)
@@ -60,7 +65,7 @@ Converts as_lines name text output =
     ⊎ ((e : Unlined) × IsUnlined (scenario_of None text) e
     × IsSomeAnd (unlined_words (kind_of text) e) (λ words. output ≡ refuses 2 (line_about name words)))
 
--- of lines in which a step is set up neither form tells that: they are for `lab orders`
+-- of lines in which a step is set up neither form says that: they are for `lab orders`
 abbrev pub set_up_words : List ℕ
 set_up_words = codes "has a line with setup: a text for lab orders"
 
@@ -76,6 +81,12 @@ ConvertsText asked name text output =
     ⊎ (((meant : Meant) × IsRead text meant × ConvertsMeant asked.lines name meant output)
     ⊎ ((said : List ℕ) × SaysUnread name text said × (output ≡ refuses 2 said)))
 
+-- rule: `lab convert` prints a text of lines as the scenario that it means, any other scenario, without what it
+--   expects, as the text of lines that means it, unless the other form is asked for; either is read as exactly its
+--   board, limit and steps. With 2 it says why the text is refused (one in which steps are set up too), or why it is
+--   not written.
+--   also: Lines.{ConvertsText, ConvertsMeant, Converts, IsForm}
+--   clauses: convert; convert_text; converting_of
 -- of a file, by what was read of it
 abbrev pub ConvertsRead : Converting → List ℕ → Reading → Output → Type 0
 ConvertsRead asked name = OfRead (ConvertsText asked name) name

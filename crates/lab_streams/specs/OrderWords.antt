@@ -1,4 +1,4 @@
--- What the words behind `orders` ask for, by what was found of them.
+-- What the words after `orders` ask for, by what was found of them.
 use Rattle.std.specs.Prelude.{◌≡◌, codes, true, false, Some, None}
 use Rattle.clap.specs.Words.{first_value}
 use Rattle.clap.specs.declared.parser.matches.Found.{Found}
@@ -6,13 +6,13 @@ use Rattle.lab_streams.specs.Words.{is_set, number_at}
 use Rattle.lab_streams.specs.declared.words.Shown.{Shown}
 use Rattle.lab_streams.specs.declared.words.Shown.TheVariants.{Report, Json, Outcome, State, Alone, Order, Answers}
 
--- none of these words stands there
+-- none of these words is there
 pub record IsPlain (found : Found) : Type 0 where
   pub json : is_set found (codes "json") ≡ false
   pub ask : is_set found (codes "ask") ≡ false
   pub order : first_value found (codes "order") ≡ None
 
--- this is printed of all orders, or this order alone is asked for, by the first of these words that stands there
+-- this is printed of all orders, or this order alone is asked for, by the first of these words that is there
 abbrev pub Shows : Found → Shown → Type 0
 Shows found Json = is_set found (codes "json") ≡ true
 Shows found Alone = (is_set found (codes "json") ≡ false) × (is_set found (codes "ask") ≡ true)

@@ -4,6 +4,14 @@ use Rattle.lab_streams.specs.Texts.{IsAllOf}
 use Rattle.lab_streams.specs.declared.texts.Unread.{Unread}
 use Rattle.lab_streams.specs.declared.texts.Unread.TheVariants.{NoFile, TooLong, Memory}
 
+-- rule: At most 67,108,865 bytes are read of a file, and of a text in the input. A text that is gone through has at
+--   most 67,108,864, and in the input it is all of it. One that has more, or cannot be read, is refused by each part
+--   with a line that has its name and why, exactly, and 2 (the input only if it has more); so is a bank's file, and a
+--   folder's trace. For want of memory no such line is said: the part ends early, and the program with 4.
+--   also: Readings.{IsReadOf, unread_words}; Outputs.OfRead; Plays.{TellsFile, unstored_words}; Checks.TellsFile;
+--   Lives.SaysUnopened; Banks.unread_line
+--   clauses: read_text: bound, few, file, input, long; read_source; tell_unread; tell_unstored; tell_failure: failed,
+--   memory
 -- the most bytes that a text may have
 abbrev pub most_bytes : ℕ
 most_bytes = 67108864

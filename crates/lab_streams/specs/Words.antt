@@ -1,4 +1,4 @@
--- What the words behind `draw`, `play`, `live` and `orders` ask for, by what was found of them.
+-- What the words after `draw`, `play`, `live` and `orders` ask for, by what was found of them.
 use Rattle.std.specs.Prelude.{◌≡◌, ℕ, List, codes, Bool, true, false, if◌then◌else◌, Option, Some, None, option_and_then}
 use Rattle.std.specs.Option.{option_map_or}
 use Rattle.std.specs.Str.{bytes_eq}
@@ -12,11 +12,11 @@ use Rattle.lab_streams.specs.declared.words.Way.TheVariants.{Down, Across, Fitti
 use Rattle.lab_streams.specs.declared.words.Telling.{Telling}
 use Rattle.lab_streams.specs.declared.words.Telling.TheVariants.{Trace, Json, Against}
 
--- a word that takes no value stands there
+-- a word that takes no value is there
 abbrev pub is_set : Found → List ℕ → Bool
 is_set found id = option_map_or (λ text. bytes_eq text (codes "true")) (one_text found id) false
 
--- the number behind a word
+-- the number after a word
 abbrev pub number_at : Found → List ℕ → Option ℕ
 number_at found id = option_and_then number_of (one_text found id)
 
@@ -24,7 +24,7 @@ number_at found id = option_and_then number_of (one_text found id)
 abbrev pub form_of : Found → Form
 form_of found = if is_set found (codes "perfetto") then Events else Svg
 
--- the way that a picture goes, by the word that stands there
+-- the way that a picture goes, by the word that is there
 abbrev pub way_of : Found → Way
 way_of found =
     if is_set found (codes "down") then Down

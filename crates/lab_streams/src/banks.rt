@@ -25,7 +25,7 @@ const NO_ACCEPTS: &str = "accepts: a number from 1 to 18446744073709551615 is wa
 
 const NO_ROWS: &str = "do: a list of at most four rows is wanted";
 
-// Tells that a bank's file can't be read.
+// Says that a bank's file can't be read.
 fn tell_no_file<E: Stream>(err: &mut E, path: &str) -> io::Result<()>
     ensures line { OnOk result (Appends (E.contents err.old) (E.contents err.new) (no_bank_line path.now)) }
     ensures early { IfErr result (EndsEarly false false (E.has_failed err.new)) }
@@ -33,7 +33,7 @@ fn tell_no_file<E: Stream>(err: &mut E, path: &str) -> io::Result<()>
     writeln!(err, "lab: no file {path}")
 }
 
-// Tells what is wrong in a bank.
+// Says what is wrong in a bank.
 fn tell_words<E: Stream>(err: &mut E, path: &str, words: &str) -> io::Result<()>
     ensures line { OnOk result (Appends (E.contents err.old) (E.contents err.new) (bank_line path.now words.now)) }
     ensures early { IfErr result (EndsEarly false false (E.has_failed err.new)) }
@@ -41,7 +41,7 @@ fn tell_words<E: Stream>(err: &mut E, path: &str, words: &str) -> io::Result<()>
     writeln!(err, "lab: {path}: {words}")
 }
 
-// Tells why a bank's file isn't read. Want of memory isn't told: it is this function's own error.
+// Says why a bank's file isn't read. Want of memory isn't reported: it is this function's own error.
 fn tell_unread<E: Stream>(err: &mut E, path: &str, why: Unread) -> io::Result<()>
     ensures line { OnOk result (IsSomeAnd (unread_line path.now why) (λ line. Appends (E.contents err.old) (E.contents err.new) line)) }
     ensures early { IfErr result (EndsEarly false false (E.has_failed err.new)) }
@@ -53,7 +53,7 @@ fn tell_unread<E: Stream>(err: &mut E, path: &str, why: Unread) -> io::Result<()
     }
 }
 
-// Tells which row of a callback can't be read.
+// Says which row of a callback can't be read.
 fn tell_row<E: Stream>(err: &mut E, path: &str, number: usize, row: usize) -> io::Result<()>
     ensures line { OnOk result (IsSomeAnd (bank_fault_words (BankFault.Callback number (Part.Row row))) (λ words. Appends (E.contents err.old) (E.contents err.new) (bank_line path.now words))) }
     ensures early { IfErr result (EndsEarly false false (E.has_failed err.new)) }
@@ -64,7 +64,7 @@ fn tell_row<E: Stream>(err: &mut E, path: &str, number: usize, row: usize) -> io
     )
 }
 
-// Tells what is wrong in a callback, by these words.
+// Says what is wrong in a callback, by these words.
 fn tell_callback<E: Stream>(err: &mut E, path: &str, number: usize, words: &str) -> io::Result<()>
     ensures line { OnOk result (Appends (E.contents err.old) (E.contents err.new) (bank_line path.now (codes "callback " ++ (decimal number ++ (codes ": " ++ words.now))))) }
     ensures early { IfErr result (EndsEarly false false (E.has_failed err.new)) }
@@ -72,7 +72,7 @@ fn tell_callback<E: Stream>(err: &mut E, path: &str, number: usize, words: &str)
     writeln!(err, "lab: {path}: callback {number}: {words}")
 }
 
-// Tells what is wrong in a callback.
+// Says what is wrong in a callback.
 fn tell_part<E: Stream>(err: &mut E, path: &str, number: usize, part: Part) -> io::Result<()>
     ensures line { OnOk result (IsSomeAnd (bank_fault_words (BankFault.Callback number part)) (λ words. Appends (E.contents err.old) (E.contents err.new) (bank_line path.now words))) }
     ensures early { IfErr result (EndsEarly false false (E.has_failed err.new)) }
@@ -85,7 +85,7 @@ fn tell_part<E: Stream>(err: &mut E, path: &str, number: usize, part: Part) -> i
     }
 }
 
-// Tells the fault of a bank. Want of memory isn't told: it is this function's own error.
+// Reports the fault of a bank. Want of memory isn't reported: it is this function's own error.
 fn tell_fault<E: Stream>(err: &mut E, path: &str, fault: BankFault) -> io::Result<()>
     ensures line { OnOk result (IsSomeAnd (bank_fault_words fault) (λ words. Appends (E.contents err.old) (E.contents err.new) (bank_line path.now words))) }
     ensures early { IfErr result (EndsEarly false false (E.has_failed err.new)) }
@@ -102,7 +102,7 @@ fn tell_fault<E: Stream>(err: &mut E, path: &str, fault: BankFault) -> io::Resul
     }
 }
 
-// The callbacks of a bank's text; none where it is at fault, which is told.
+// The callbacks of a bank's text; none where it is at fault, which is reported.
 fn read_text<E: Stream>(
     alloc: Global,
     path: &str,
@@ -124,7 +124,7 @@ fn read_text<E: Stream>(
     }
 }
 
-// The callbacks of a bank's file; none where it is at fault, which is told.
+// The callbacks of a bank's file; none where it is at fault, which is reported.
 fn read_file<R: Files + AllocGlobal, E: Stream>(
     rt: &R,
     path: &str,
@@ -158,7 +158,7 @@ fn own_plans(alloc: Global) -> io::Result<Option<Vec<Planned>>>
 }
 
 /// The callbacks of a bank's file, or the program's where none is named; none where the file is at fault, which is
-/// told.
+/// reported.
 pub fn read_plans<R: Files + AllocGlobal, E: Stream>(
     rt: &R,
     bank: Option<&str>,

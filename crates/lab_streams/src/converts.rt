@@ -29,7 +29,7 @@ const NO_BOARD: &str = "a line with the board is wanted, as board threads=2 sems
 // What is wanted of a text that means too long a scenario.
 const TOO_LONG: &str = "a scenario of at most 1048576 bytes is wanted";
 
-// Tells a fault at a line and a byte.
+// Reports a fault at a line and a byte.
 fn tell_at<W: Stream>(
     out: &mut W,
     name: &str,
@@ -45,8 +45,8 @@ fn tell_at<W: Stream>(
     Ok(true)
 }
 
-/// Tells why a text of lines can't be read, with the line, the byte, and what is wanted there. Want of memory isn't
-/// told: it is this function's own error.
+/// Says why a text of lines can't be read, with the line, the byte, and what is wanted there. Want of memory isn't
+/// reported: it is this function's own error.
 pub fn tell_place<W: Stream>(out: &mut W, name: &str, fault: &LinesFault) -> io::Result<bool>
     ensures answer { IfOk result (λ is_at_fault. is_at_fault ≡ true) }
     ensures line { OnOk result (IsSomeAnd (place_text name.now fault.now) (λ line. Appends (W.contents out.old) (W.contents out.new) line)) }
@@ -63,7 +63,7 @@ pub fn tell_place<W: Stream>(out: &mut W, name: &str, fault: &LinesFault) -> io:
     }
 }
 
-// Tells why a scenario of a kind isn't written in another form. Want of memory isn't told: it is this function's own
+// Says why a scenario of a kind isn't written in another form. Want of memory isn't reported: it is this function's own
 // error.
 fn tell_unlined<E: Stream>(
     err: &mut E,
@@ -123,7 +123,7 @@ fn convert_scenario<O: Stream, E: Stream>(
 }
 
 // Prints the scenario of a text of lines in a form, and answers the status. Where steps are set up it is refused, since
-// no form would tell that.
+// no form would say that.
 fn convert_meant<O: Stream, E: Stream>(
     alloc: Global,
     as_lines: bool,

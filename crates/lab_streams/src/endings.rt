@@ -25,7 +25,7 @@ pub fn put<O: Stream>(out: &mut O, bytes: &[u8]) -> io::Result<u8>
     Ok(0)
 }
 
-/// Tells the end of a play that is no fault.
+/// Reports the end of a play that is no fault.
 pub fn tell_done<E: Stream>(err: &mut E, name: &str) -> io::Result<bool>
     ensures answer { IfOk result (λ is_at_fault. is_at_fault ≡ false) }
     ensures line { OnOk result (Appends (E.contents err.old) (E.contents err.new) (line_about name.now (codes "done"))) }
@@ -35,7 +35,7 @@ pub fn tell_done<E: Stream>(err: &mut E, name: &str) -> io::Result<bool>
     Ok(false)
 }
 
-/// Tells why a text isn't played, or that it plays otherwise.
+/// Says why a text isn't played, or that it plays otherwise.
 pub fn tell_refused<E: Stream>(err: &mut E, name: &str, why: &str) -> io::Result<bool>
     ensures answer { IfOk result (λ is_at_fault. is_at_fault ≡ true) }
     ensures line { OnOk result (Appends (E.contents err.old) (E.contents err.new) (line_about name.now why.now)) }
@@ -45,10 +45,10 @@ pub fn tell_refused<E: Stream>(err: &mut E, name: &str, why: &str) -> io::Result
     Ok(true)
 }
 
-/// What is told of a text that is too long.
+/// What is reported of a text that is too long.
 pub const TOO_LONG: &str = "67108865 bytes or more; a text has at most 67108864";
 
-/// Tells why a text isn't read. Want of memory isn't told: it is this function's own error.
+/// Says why a text isn't read. Want of memory isn't reported: it is this function's own error.
 pub fn tell_unread<E: Stream>(err: &mut E, name: &str, why: Unread) -> io::Result<bool>
     ensures answer { IfOk result (λ is_at_fault. is_at_fault ≡ true) }
     ensures line { OnOk result (IsSomeAnd (unread_words why) (λ words. Appends (E.contents err.old) (E.contents err.new) (line_about name.now words))) }
@@ -61,7 +61,7 @@ pub fn tell_unread<E: Stream>(err: &mut E, name: &str, why: Unread) -> io::Resul
     }
 }
 
-// Tells which step of a scenario is at fault.
+// Says which step of a scenario is at fault.
 fn tell_step<E: Stream>(err: &mut E, name: &str, number: u32) -> io::Result<bool>
     ensures answer { IfOk result (λ is_at_fault. is_at_fault ≡ true) }
     ensures line { OnOk result (IsSomeAnd (fault_words (Fault.Step number)) (λ words. Appends (E.contents err.old) (E.contents err.new) (line_about name.now words))) }
@@ -71,7 +71,7 @@ fn tell_step<E: Stream>(err: &mut E, name: &str, number: u32) -> io::Result<bool
     Ok(true)
 }
 
-/// Tells the fault of a scenario. Want of memory isn't told: it is this function's own error.
+/// Reports the fault of a scenario. Want of memory isn't reported: it is this function's own error.
 pub fn tell_fault<E: Stream>(err: &mut E, name: &str, fault: Fault) -> io::Result<bool>
     ensures answer { IfOk result (λ is_at_fault. is_at_fault ≡ true) }
     ensures line { OnOk result (IsSomeAnd (fault_words fault) (λ words. Appends (E.contents err.old) (E.contents err.new) (line_about name.now words))) }
@@ -108,7 +108,7 @@ pub fn as_callers(kind: TextKind) -> TextKind
     }
 }
 
-// Tells for which part a text is. Want of memory isn't told: it is this function's own error.
+// Says for which part a text is. Want of memory isn't reported: it is this function's own error.
 fn tell_other<E: Stream>(err: &mut E, name: &str, words: &str, fault: Fault) -> io::Result<bool>
     ensures answer { IfOk result (λ is_at_fault. is_at_fault ≡ true) }
     ensures line { OnOk result (IsSomeAnd (option_map (λ said. words.now) (fault_words fault)) (λ words. Appends (E.contents err.old) (E.contents err.new) (line_about name.now words))) }
@@ -120,8 +120,8 @@ fn tell_other<E: Stream>(err: &mut E, name: &str, words: &str, fault: Fault) -> 
     }
 }
 
-/// Tells the fault of a text of a kind that was taken as a scenario: of another kind, for which part it is. Want of
-/// memory isn't told: it is this function's own error.
+/// Reports the fault of a text of a kind that was taken as a scenario: of another kind, for which part it is. Want of
+/// memory isn't reported: it is this function's own error.
 pub fn tell_fault_by<E: Stream>(
     err: &mut E,
     name: &str,

@@ -4,7 +4,7 @@ ghost use Rattle.lab_streams.specs.Endings as endings;
 
 use std::io;
 
-/// The status where a text or a bank is at fault: it is refused, isn't played to its end, or tells otherwise.
+/// The status where a text or a bank is at fault: it is refused, isn't played to its end, or says otherwise.
 pub const AT_FAULT: u8 = 2;
 
 /// The status where a trace differs from one that was kept.
@@ -46,7 +46,7 @@ pub fn status_of(is_at_fault: bool) -> u8
     if is_at_fault { AT_FAULT } else { 0 }
 }
 
-/// The status of a text that is refused, once that is told.
+/// The status of a text that is refused, once that is reported.
 pub fn refused(told: io::Result<bool>) -> io::Result<u8>
     ensures status { IfOk result (λ status. (status ≡ 2) × (is_ok told ≡ true)) }
     ensures early { IfErr result (λ e. told ≡ Err e) }

@@ -1,4 +1,4 @@
-//! What the words behind `draw`, `play`, `live` and `orders` ask for.
+//! What the words after `draw`, `play`, `live` and `orders` ask for.
 ghost use Rattle.std.specs.Prelude.{◌≡◌, codes, option_map, unwrap_or};
 ghost use Rattle.clap.specs.Words.{first_value, found_of};
 ghost use Rattle.lab_streams.specs.Words as words;
@@ -28,13 +28,13 @@ pub enum Way {
 pub struct Drawing {
     pub form: Form,
     pub way: Way,
-    /// How many lines are drawn at most; all where no number stands there.
+    /// How many lines are drawn at most; all where no number is there.
     pub upto: Option<u32>,
     /// The page of a picture that is long, from 1.
     pub page: u32,
 }
 
-/// What is told of a scenario that was played.
+/// What is reported of a scenario that was played.
 #[derive(Clone, Copy, PartialEq, Eq)]
 pub enum Telling<'a> {
     /// Its trace.
@@ -80,7 +80,7 @@ fn is_set(matches: &ArgMatches<'_>, id: &str) -> bool
     matches.get_one(id).unwrap_or(false)
 }
 
-// The number behind a word.
+// The number after a word.
 fn number_at(matches: &ArgMatches<'_>, id: &str) -> Option<u32>
     ensures { result ≡ words.number_at (found_of matches.now) id.now }
 {
@@ -124,7 +124,7 @@ pub enum Shown<'a> {
     State(u32),
     /// What came of what is asked alone: answers of callers of whom nobody asks are forgotten.
     Alone,
-    /// That of the order that this text tells.
+    /// That of the order that this text says.
     Order(&'a str),
     /// Which answers came at each step, and in how many orders each.
     Answers,
@@ -164,7 +164,7 @@ pub fn drawing_of(matches: &ArgMatches<'_>) -> Drawing
     }
 }
 
-// What is to be told of the scenarios that are played.
+// What is to be reported of the scenarios that are played.
 fn telling_of<'a>(matches: &ArgMatches<'a>) -> Telling<'a>
     ensures { AsksFor (found_of matches.now) result }
 {
@@ -177,6 +177,8 @@ fn telling_of<'a>(matches: &ArgMatches<'a>) -> Telling<'a>
     }
 }
 
+// rule: The part and its options are those that `clap` found in the command line.
+//   clauses: playing_of; drawing_of; driving_of; asked_of
 /// What `play` is asked for.
 pub fn playing_of<'a>(matches: &ArgMatches<'a>) -> Playing<'a>
     ensures bank { option_map (λ file. file.now) result.bank ≡ first_value (found_of matches.now) (codes "bank") }

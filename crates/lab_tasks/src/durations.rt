@@ -99,7 +99,7 @@ pub fn duration_of(text: &str) -> Result<u64, FaultKind> {
     }
 }
 
-/// The same of a TOML value: a text, or an integer of nanoseconds that isn't negative.
+/// As `duration_of`, of a TOML value: a text, or an integer of nanoseconds that isn't negative.
 pub fn duration_from(value: &Value) -> Result<u64, FaultKind> {
     match value {
         Value::String(text) => duration_of(text.as_str()),

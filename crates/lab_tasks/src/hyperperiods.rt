@@ -8,6 +8,7 @@ use crate::sets::Task;
 // A run of a longer hyperperiod is refused.
 const MOST: u64 = 10_000_000_000;
 
+// rule: The divisor that goes into the hyperperiod is the greatest of both.
 // The greatest number that divides both.
 fn common_divisor(one: u64, other: u64) -> u64
     ensures { IsGcd one other result }

@@ -1,4 +1,4 @@
--- In the text of a call no arrow stands, and no line feed.
+-- The text of a call has no arrow and no line feed.
 use Rattle.std.proofs.Common.{arith, ◌≡◌, ℕ, zero, suc, ◌<◌, ◌^◌, ◌/◌, ◌%◌, ◌==◌, nat_le, Bool, true, false, not, ◌&&◌, List, [], ◌∷◌, ◌++◌, length, codes, decimal, slice_index, if◌then◌else◌, Option, Some, None, inl, inr, refl, ◌∙◌}
 use Rattle.std.proofs.lemmas.Bool.{and_parts, cases_lt}
 use Rattle.std.proofs.lemmas.Bool.Decides.{nat_tests}
@@ -130,7 +130,7 @@ value_inner (a_bytes b) h = bytes_inner b.items h
 value_inner (a_until u) h = until_inner u h
 value_inner (a_truth b) h = truth_inner b
 
--- no equals sign stands in a value
+-- a value has no equals sign
 lacks_equals : (text : List ℕ) → list_all is_inner text ≡ true → Lacks 61 text
 lacks_equals [] h = refl
 lacks_equals (c ∷ rest) h =

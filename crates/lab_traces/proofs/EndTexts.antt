@@ -6,14 +6,14 @@ use Rattle.std.specs.Str.Pattern.{FindsTextSuffix, StripsSuffix}
 use Rattle.std.proofs.lemmas.Str.Pattern.{ends_text}
 use Rattle.lab_traces.specs.Parts.{before_end}
 
--- what stands before an end that was found
+-- what is before an end that was found
 pub before_end-found : (end text front : List ℕ) → StripsSuffix (FindsTextSuffix end) text front → Some front ≡ before_end end text
 before_end-found end text front found =
     let ends : true ≡ ends_with nat_eq text end = ends_text true end text (found.0, found.1, omega (arith, found.3), let P : ℕ → Type 0 = λ n. IsCharBoundary text (length text - n) in subst P (sym found.1.0) found.1.2) in
     let same : front ≡ take (length text - length end) text = found.2 ∙ ap (λ (n : ℕ). take (length text - n) text) found.1.0 in
     rw (← ends, same)
 
--- nothing stands before one that wasn't
+-- nothing is before one that wasn't
 pub before_end-missing : (end text : List ℕ) → FindsTextSuffix end text None → None ≡ before_end end text
 before_end-missing end text missing =
     let ends : false ≡ ends_with nat_eq text end = ends_text false end text missing in

@@ -99,7 +99,7 @@ step_line number step answer =
 pub step_fits : (number : Option ℕ) (step : Step) (answer : Result Reply Refusal) → NumberFits number → StepFits step → PartsFit (step_parts number step answer)
 step_fits number step answer fits step_is = record { number = fits; thread = step_is.0; call = call-no_arrow step.call step_is.1 }
 
--- ---- with a line feed behind them
+-- ---- with a line feed after them
 
 same_front : (a b c : List ℕ) → a ++ c ≡ b ++ c → a ≡ b
 same_front a b c h = append_cancel_right a b c h

@@ -23,7 +23,7 @@ lacks_digits : (c : ℕ) (ds : List ℕ) → is_no_digit c ≡ true → AllDigit
 lacks_digits c [] other h = refl
 lacks_digits c (d ∷ ds) other h = rw (other_digit c d other h.0, lacks_digits c ds other h.1) refl
 
--- no other byte stands in the digits of a number
+-- no other byte is among the digits of a number
 pub decimal-lacks : (c n : ℕ) → is_no_digit c ≡ true → n < 2 ^ 64 → Lacks c (decimal n)
 decimal-lacks c n other small = lacks_digits c (decimal n) other ((decimal_is_IsNumeral n small).0.1)
 

@@ -25,7 +25,7 @@ abbrev pub NumberFits : Option ℕ → Type 0
 NumberFits None = Unit {0}
 NumberFits (Some n) = n < 2 ^ 64
 
--- numbers that fit their fields, and a text of a call that no arrow stands in
+-- numbers that fit their fields, and a text of a call that no arrow is in
 pub record PartsFit (parts : EntryParts) : Type 0 where
   pub number : NumberFits parts.number
   pub thread : parts.thread < 2 ^ 16
@@ -39,7 +39,7 @@ step_parts number step answer = record { number = number; thread = step.who.0; c
 abbrev pub number_read : List ℕ → Option (Option ℕ)
 number_read text = if bytes_eq text (codes "-") then Some None else option_map Some (text_number text)
 
--- the thread behind a T
+-- the thread after a T
 abbrev pub thread_read : List ℕ → Option ℕ
 thread_read text = option_and_then (λ digits. number_below (2 ^ 16) (text_number digits)) (past_front (codes "T") text)
 

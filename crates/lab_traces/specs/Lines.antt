@@ -60,7 +60,7 @@ elements_read threads text =
     option_and_then (λ (flags, second).
     option_and_then (λ (xbufs, third). owners_read threads (sems, flags, xbufs) third) (counted_read (codes "xbufs=") second)) (counted_read (codes "flags=") first)) (counted_read (codes "sems=") text)
 
--- the board and the limit that a line tells
+-- the board and the limit that a line says
 abbrev pub board_read : List ℕ → Option BoardLine
 board_read text =
     option_and_then (λ (threads, rest). option_and_then (λ fits. elements_read fits rest) (number_below (2 ^ 16) (Some threads))) (counted_read (codes "board threads=") text)

@@ -22,7 +22,7 @@ handled_read text =
     else if bytes_eq text (codes "none") then Some false
     else None
 
--- a number behind a word, and what follows a space behind it
+-- a number after a word, and what follows a space after it
 abbrev pub counted_read : List ℕ → List ℕ → Option (ℕ × List ℕ)
 counted_read word text =
     option_and_then (λ rest.

@@ -36,6 +36,10 @@ read_of line = line_read line.text.now
 -- a line of a trace, without the line feed at its end
 pub record IsLine (line : List ℕ) : Type 0 where
   pub alone : Lacks 10 line
+  -- rule: The lines of a text are read in order, each by itself. The number of the first that is no line of a trace, or
+  --   ends without a line feed, is given.
+  --   clauses: read_lines: apart, refused, whole
+  --   rows: another_line_is_refused
   pub says : is_some (line_read line) ≡ true
 
 -- a text begins with no line of a trace: it has no line feed, or its first line is none

@@ -40,7 +40,7 @@ fn elements(threads: u16, text: &str) -> Option<BoardLine>
     owners(threads, counts, third)
 }
 
-/// The board and the limit that a line tells, without its line feed; none where the text is no such line.
+/// The board and the limit that a line says, without its line feed; none where the text is no such line.
 pub fn read_board(text: &str) -> Option<BoardLine>
     ensures { result ≡ board_read text.now }
 {

@@ -28,7 +28,7 @@ fn entry_number(text: &str) -> Option<Option<u64>>
     }
 }
 
-// The number of the thread behind a T.
+// The number of the thread after a T.
 fn thread(text: &str) -> Option<u16>
     ensures { result ≡ thread_read text.now }
 {

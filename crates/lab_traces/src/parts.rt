@@ -5,7 +5,7 @@ ghost use Rattle.lab_traces.specs.Parts.{around, before_end, Lacks};
 
 use evl_scenario::number_of_text;
 
-/// What stands before the first space, and what behind it.
+/// What comes before the first space, and what after it.
 pub fn around_blank(text: &str) -> Option<(&str, &str)>
     ensures { option_map (λ parts. (parts.0.now, parts.1.now)) result ≡ around_space text.now }
 {
@@ -15,7 +15,7 @@ pub fn around_blank(text: &str) -> Option<(&str, &str)>
     }
 }
 
-/// What stands before the first `>`, and what behind it.
+/// What comes before the first `>`, and what after it.
 pub fn around_point(text: &str) -> Option<(&str, &str)>
     ensures { option_map (λ parts. (parts.0.now, parts.1.now)) result ≡ around 62 text.now }
 {
@@ -46,7 +46,7 @@ pub fn behind<'a>(front: &str, text: &'a str) -> Option<&'a str>
     }
 }
 
-/// What stands before this end of a text.
+/// What comes before this end of a text.
 pub fn before<'a>(end: &str, text: &'a str) -> Option<&'a str>
     ensures { option_map (λ front. front.now) result ≡ before_end end.now text.now }
 {

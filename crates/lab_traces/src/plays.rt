@@ -19,7 +19,7 @@ fn handled(text: &str) -> Option<bool>
     }
 }
 
-// A number behind a word, and what follows a space behind it.
+// A number after a word, and what follows a space after it.
 pub(crate) fn counted<'a>(word: &str, text: &'a str) -> Option<(u64, &'a str)>
     ensures { option_map (λ parts. (parts.0, parts.1.now)) result ≡ counted_read word.now text.now }
 {

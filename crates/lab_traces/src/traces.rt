@@ -113,10 +113,10 @@ pub fn read_lines(alloc: Global, text: &str) -> Result<Vec<TraceLine<'_>>, Misre
     ensures says { IfOk result (λ lines. map read_of lines.items ≡ map says_some lines.items) }
     ensures whole { IfOk result (λ lines. whole_lines (map text_of lines.items) ≡ text.now) }
 
-    // Each is one line of a trace: no line feed stands in it.
+    // Each is one line of a trace: no line feed is in it.
     ensures apart { IfOk result (λ lines. All (λ line. IsLine (text_of line)) lines.items) }
 
-    // What stands at the line that is named is no line of a trace, and each before it is one.
+    // What is at the line that is named is no line of a trace, and each before it is one.
     ensures refused { IfErr result (λ e. (e ≡ Misread.Memory) ⊎ ((n : ℕ) × (e ≡ Misread.Line n) × IsMisread text.now n)) }
 {
     let mut lines = Vec::new(alloc);

@@ -95,7 +95,7 @@ abbrev pub merging_text : Option Stage → List ℕ
 merging_text None = []
 merging_text (Some stage) = codes ", which is pending " ++ (stage_text stage ++ codes " already: events of a line merge there\n")
 
--- what is said of it, behind the step
+-- what is said of it, after the step
 abbrev pub odd_text : Reason → State → Step → List ℕ
 odd_text Unpicked s step = picked_text (picked_instead s step)
 odd_text Unattached s step = codes ", and its thread is not attached\n"

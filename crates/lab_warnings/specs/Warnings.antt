@@ -119,7 +119,7 @@ is_begun _ = false
 abbrev pub begins_wait : ℕ → Entry → Bool
 begins_wait thread entry = (entry.caller.0 == thread) && is_begun entry.reply
 
--- the number of the last entry by which the thread began to wait, behind so many others; where there is none, the one that was found before
+-- the number of the last entry by which the thread began to wait, after so many others; where there is none, the one that was found before
 abbrev pub last_begun : ℕ → ℕ → ℕ → List Entry → ℕ
 last_begun thread found count [] = found
 last_begun thread found count (entry ∷ rest) = last_begun thread (if begins_wait thread entry then count + 1 else found) (count + 1) rest
@@ -217,7 +217,7 @@ step_lines name counts bank number s step t =
     ++ (installed_lines name counts bank number (callback_of step.call)
     ++ flat_map (entry_lines name counts number (spurious_so_far s step.call) t.after.state) (entry_in step t))
 
--- of the steps from a moment on, behind so many others, in order
+-- of the steps from a moment on, after so many others, in order
 abbrev pub steps_lines : List ℕ → Counts → List Handler → ℕ → ℕ → Moment → List Step → List ℕ
 steps_lines name counts bank count limit m [] = []
 steps_lines name counts bank count limit m (step ∷ rest) =
@@ -244,6 +244,15 @@ script_lines name bank script =
     then run_lines name (counts_of script.board) bank script.limit (beginning (opening script.board bank)) script.steps
     else []
 
+-- rule: The warnings of a dry run are a function of file name, callbacks and text: of each step in order why it is odd
+--   before it is made, what the installed callback's plan names and the board lacks, that it is refused, that its
+--   line's event was spurious; then the first step that finds the history full, each unfinished wait, each event
+--   pending at the end. It answers whether there is one. Without a scenario, over more than 64 callbacks, or after want
+--   of memory nothing is added.
+--   also: Reasons.is_odd
+--   clauses: warnings; Planned::told
+--   rows: a_dry_run_warns; callbacks_of_what_is_not_there_are_warned_of; each_odd_step_is_warned_of;
+--   nothing_is_warned_of_a_plain_scenario
 -- of what a text is read as; of no script nothing
 unfoldable pub warnings_of : List ℕ → List Handler → Result Script Fault → List ℕ
 warnings_of name bank (Ok script) = script_lines name bank script

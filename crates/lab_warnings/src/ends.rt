@@ -77,7 +77,10 @@ fn warn_of_wait(
     if !kernel.kernel().waits(thread) {
         return Ok(());
     }
-    let number = begun_at(kernel.kernel().history(), thread);
+    let number = match kernel.kernel().history().to_vec(*told.allocator()) {
+        Ok(entries) => begun_at(entries.as_slice(), thread),
+        Err(_) => return Err(AllocError),
+    };
     write_place(told, name, number)?;
     write_wait(told, kernel, thread)
 }
@@ -150,8 +153,8 @@ pub fn warn_of_end(
 ) -> Result<(), AllocError>
     ensures { OnOk result (string_bytes told.new ≡ string_bytes told.old ++ end_lines name.now threads asked kernel.now.history.entries kernel.now.history.state) }
 {
-    let entries = kernel.kernel().history();
-    warn_of_limit(told, name, entries.len(), asked)?;
+    let entries = kernel.kernel().history().len();
+    warn_of_limit(told, name, entries, asked)?;
     warn_of_waits(told, name, kernel, threads)?;
     warn_of_pending(told, name, kernel, Stage::Oob)?;
     warn_of_pending(told, name, kernel, Stage::Inband)?;

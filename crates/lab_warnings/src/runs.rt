@@ -32,7 +32,7 @@ fn look(
 }
 
 // Plays a scenario over a copy of these callbacks, and warns of what is seen. Over more callbacks than a kernel has
-// nothing is told.
+// nothing is reported.
 fn play(
     alloc: Global,
     told: &mut String,
@@ -48,7 +48,7 @@ fn play(
     match PlannedKernel::new(alloc, board, own, limit) {
         Ok(mut kernel) => {
             let looked = look(told, name, counts, bank, &mut kernel, steps);
-            drop(kernel);
+            kernel.leave();
             looked
         }
         Err(Refusal::Range) => Ok(()),
@@ -66,7 +66,7 @@ fn end_of(fault: Fault) -> Result<(), AllocError>
     }
 }
 
-// Plays a text over these callbacks, and warns of what is seen. Of a text that is no scenario nothing is told.
+// Plays a text over these callbacks, and warns of what is seen. Of a text that is no scenario nothing is reported.
 fn run(
     alloc: Global,
     told: &mut String,
@@ -88,10 +88,10 @@ fn run(
     }
 }
 
-/// Writes a line for each warning of a dry run behind what was told, and answers whether there is one: of each step in
+/// Writes a line for each warning of a dry run after what was written, and answers whether there is one: of each step in
 /// order why it is odd, what its callback names that the board lacks, and that it is refused or spurious; then a full
 /// history, unfinished waits, and events that are pending in the end. Of no scenario, and over more than 64 callbacks,
-/// nothing is told. `AllocError` where memory couldn't grow; then nothing is told either.
+/// nothing is reported. `AllocError` where memory couldn't grow; then nothing is reported either.
 pub fn warnings(
     alloc: Global,
     name: &str,

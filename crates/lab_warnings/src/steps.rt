@@ -1,5 +1,5 @@
 //! The warnings of steps, as they are made.
-ghost use Rattle.std.specs.Prelude.{◌≡◌, ◌++◌, drop, flat_map, length, map, string_bytes, OnOk};
+ghost use Rattle.std.specs.Prelude.{◌≡◌, ◌++◌, drop, flat_map, length, map, string_bytes, IfOk, OnOk};
 ghost use Rattle.evl_plans.specs.Told as plans;
 ghost use Rattle.evl_shell.specs.Moments.{moment};
 ghost use Rattle.evl_shell.specs.Runs.{turn};
@@ -14,7 +14,7 @@ use evl_base::Entry;
 use evl_plans::{Planned, PlannedKernel};
 use evl_scenario::Step;
 use evl_shell::wants_memory;
-use std::alloc::AllocError;
+use std::alloc::{AllocError, Global};
 
 // Warns of a step that is odd for this reason.
 fn warn_of_reason(
@@ -115,10 +115,17 @@ fn entry_count(kernel: &PlannedKernel) -> usize
 }
 
 // The entries of a kernel from an index on.
-fn entries_since(kernel: &PlannedKernel, start: usize) -> &[Entry]
-    ensures { result.now ≡ drop start kernel.now.history.entries }
+fn entries_since(
+    alloc: Global,
+    kernel: &PlannedKernel,
+    start: usize,
+) -> Result<Vec<Entry>, AllocError>
+    ensures { IfOk result (λ since. since.items ≡ drop start kernel.now.history.entries) }
 {
-    kernel.kernel().history().get(start..).unwrap_or(&[])
+    match kernel.kernel().history().entries_from(alloc, start) {
+        Ok(since) => Ok(since),
+        Err(_) => Err(AllocError),
+    }
 }
 
 // Makes a step.
@@ -152,7 +159,8 @@ fn take_step(
     let start = entry_count(kernel);
     let before = spurious_so_far(kernel, &step.call);
     make_step(kernel, step)?;
-    let since = entries_since(kernel, start);
+    let since = entries_since(*told.allocator(), kernel, start)?;
+    let since = since.as_slice();
     warn_of_entries(told, name, counts, number, before, kernel, since)?;
     Ok(())
 }

@@ -34,7 +34,7 @@ impl<B: Allocator> Drop for Refusing<B> {
     }
 }
 
-// Counts a request, and tells whether it is the one to be refused: the count goes down past 0, and never comes back to
+// Counts a request, and says whether it is the one to be refused: the count goes down past 0, and never comes back to
 // it.
 fn refuses(left: &Cell<u64>) -> bool {
     let granted = left.get();

@@ -1,6 +1,6 @@
 //! Rows of steps as data.
 
-/// Steps, each by the caller or the seat of a number, what it does, and what it is told.
+/// Steps, each by the caller or the seat of a number, what it does, and what it is answered.
 macro_rules! steps {
     ($($who:literal $act:expr => $told:expr),* $(,)?) => { [$(($who, $act, $told)),*] };
 }

@@ -37,7 +37,7 @@ fn is_made_over<M: Making>(memory: &Refusing<LocalHeap>, boxes: Global) -> Optio
     }
 }
 
-// The same over a heap of this size, of which the request behind so many is refused.
+// Whether it is made over a heap of this size, of which the request after so many is refused.
 fn is_made<M: Making>(alloc: Global, size: usize, granted: u64) -> Option<bool> {
     match LocalHeap::new(alloc, size) {
         Ok(heap) => is_made_over::<M>(&Refusing::after(heap, granted), alloc),

@@ -21,6 +21,11 @@ use Rattle.test_hosts.specs.declared.texts.Texts.{Texts}
 abbrev pub IsPlayedSo : List Handler → Texts → Type 0
 IsPlayedSo bank texts = trace_of bank None (string_bytes texts.scenario) ≡ Ok (string_bytes texts.trace)
 
+-- rule: A run of host threads comes back, for every interleaving, with the scenario and the trace of one legal history
+--   of its board, in which nobody calls but its callers. The scenario, played over the program's bank, writes just that
+--   trace.
+--   also: Texts.{AreTextsOfCallers, AreTextsOfRun, IsPlayedSo}
+--   clauses: run_hosts; texts_of
 -- the two texts of a history: the scenario of its calls, and its trace, over this board without its stage exclusion locks
 pub record AreTextsOf (board : Board) (h : History) (texts : Texts) : Type 0 where
   pub scenario : string_bytes texts.scenario ≡ scenario_text (script_of_history (without_staxes board) 1000000 h.entries)

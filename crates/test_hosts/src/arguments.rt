@@ -3,7 +3,7 @@ use crate::runs::Order;
 use crate::texts::LIMIT;
 use evl_base::MAX_THREADS;
 
-/// A run of calls by chance, and whether its texts are told.
+/// A run of calls by chance, and whether its texts are printed.
 #[derive(Clone, Copy)]
 pub struct Run {
     pub order: Order,
@@ -24,7 +24,7 @@ pub struct Asked {
     pub run: Option<Run>,
 }
 
-// The limit and the rounds, where they are named, and the words behind them.
+// The limit and the rounds, where they are named, and the words after them.
 fn read_more(words: &[String]) -> Option<(u32, u32, &[String])> {
     match words {
         [limit, rounds, rest @ ..] => {
@@ -39,7 +39,7 @@ fn read_more(words: &[String]) -> Option<(u32, u32, &[String])> {
 }
 
 // `stress SEED THREADS CHOICES`, then `LIMIT ROUNDS` where the history is to be shorter or the callers are to move, and
-// `tell` behind them where the texts are to be told: 1 to 255 threads, since a board has one more. Nothing where the
+// `tell` after them where the texts are to be printed: 1 to 255 threads, since a board has one more. Nothing where the
 // words are others.
 fn read_run(words: &[String]) -> Option<Run> {
     let [word, seed, threads, choices, rest @ ..] = words else {

@@ -147,7 +147,7 @@ impl<C: Handler, A: Allocator> Session<'_, C, A> {
     }
 }
 
-// Keeps in mind that a wait is over, where the answer tells.
+// Keeps in mind that a wait is over, where the answer says.
 fn ends(tools: &mut Tools, answer: &Result<Reply, Refusal>) {
     if answer.is_ok() {
         tools.is_waiting = false;

@@ -14,7 +14,7 @@ const TIMERS: u16 = 4;
 
 const THREADS: u16 = 9;
 
-// The callback that posts this line; it doesn't stand on the line, so that it doesn't post itself on and on.
+// The callback that posts this line; it isn't on the line, so that it doesn't post itself on and on.
 const POSTING: u8 = 4;
 
 const POSTED: u16 = 4;

@@ -21,7 +21,7 @@ impl<C: Handler, A: Allocator> Session<'_, C, A> {
         }
     }
 
-    // Goes to a stage before it enters, and keeps in mind at which it is then, if the answer tells.
+    // Goes to a stage before it enters, and keeps in mind at which it is then, if the answer says.
     fn learns_stage<R: Wait>(&mut self, rt: &R)
         ensures { self.new ≡ self.old }
     {

@@ -1,4 +1,4 @@
-//! What is told of each call at a mutex or a stax, so that the calls of each can be put into one order afterwards.
+//! What is reported of each call at a mutex or a stax, so that the calls of each can be put into one order afterwards.
 use evl_base::{Refusal, Stage};
 use evl_machine::{Begun, Ended};
 use evl_words::{MutexPass, StaxPass};
@@ -21,7 +21,7 @@ pub enum Step {
 }
 
 impl Step {
-    /// Its word in what is told.
+    /// Its word in what is reported.
     pub fn name(self) -> &'static str {
         match self {
             Step::Try => "try",

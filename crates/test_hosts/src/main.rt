@@ -1,4 +1,4 @@
-//! Runs host threads on one machine: with calls of all kinds by chance, whose history is told as a scenario and its trace;
+//! Runs host threads on one machine: with calls of all kinds by chance, whose history is made a scenario and its trace;
 //! or the callers of a text, again and again, with what each was answered.
 //! What names no source is this profile's own.
 #![tactic(auto)]

@@ -97,7 +97,7 @@ impl Own {
         None
     }
 
-    /// Keeps a pass. Where there is no memory for it, what it stands for stays held.
+    /// Keeps a pass. Where there is no memory for it, what it is for stays held.
     pub fn keep_stax(&mut self, pass: StaxPass) {
         let _ = self.staxes.push(pass);
     }

@@ -43,7 +43,7 @@ impl<C: Handler, A: Allocator> Player<C, A> {
 }
 
 /// A caller at work on its machine, what all host threads share, and what it has. To a contract it is the machine: the
-/// caller belongs to it, and its callbacks answer as they were told.
+/// caller belongs to it, and its callbacks answer by their plans.
 #[derive(Drop)]
 pub struct Playing<'m, C: Handler, A: Allocator> {
     pub machine: &'m MachineOf<C, A>,

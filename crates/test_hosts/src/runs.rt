@@ -64,6 +64,8 @@ impl Order {
     }
 }
 
+// rule: As many callers come back from their host threads, each of the same machine.
+//   clauses: hands_of; all_work; callers_of; all_call: machine
 // A hand for each caller, in their order.
 fn hands_of<C: Handler, A: Allocator>(
     alloc: Global,
@@ -98,7 +100,7 @@ fn hands_of<C: Handler, A: Allocator>(
     Ok(hands)
 }
 
-// The callers of some hands, in their order; what the hands tell of their calls comes to the others' tellings.
+// The callers of some hands, in their order; what the hands report of their calls comes to the others' reports.
 fn callers_of<C: Handler, A: Allocator>(
     alloc: Global,
     machine: &MachineOf<C, A>,
@@ -145,7 +147,7 @@ fn all_rounds<C: Handler + Send, R: Threads + Wait + Sync>(
     Ok(hands)
 }
 
-// All callers do what their host threads are for, and come back, with what they tell of their calls.
+// All callers do what their host threads are for, and come back, with what they report of their calls.
 fn all_call<C: Handler + Send, R: Threads + Wait + Sync>(
     rt: &R,
     alloc: Global,
@@ -210,7 +212,7 @@ fn failure_of(watch: &Watch) -> Option<Failure> {
     }
 }
 
-// All callers do what their host threads are for, and come back with what they tell of their calls. `Differs` where a
+// All callers do what their host threads are for, and come back with what they say of their calls. `Differs` where a
 // mutex's word didn't say what is recorded.
 fn called<C: Handler + Send, R: Threads + Wait + Sync>(
     rt: &R,

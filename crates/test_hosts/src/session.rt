@@ -13,7 +13,7 @@ use std::sync::Wait;
 use std::thread;
 
 /// A caller at work on its machine, the watch that all callers share, and what its host thread has beside it. To a
-/// contract it is the machine: the caller belongs to it, and its callbacks answer as they were told.
+/// contract it is the machine: the caller belongs to it, and its callbacks answer by their plans.
 #[derive(Drop)]
 pub struct Session<'m, C: Handler, A: Allocator> {
     pub machine: &'m MachineOf<C, A>,

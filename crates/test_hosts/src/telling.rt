@@ -51,7 +51,7 @@ pub fn excuse(rt: &HostRuntime, failure: Failure) -> io::Result<ExitCode> {
     Ok(ExitCode::FAILURE)
 }
 
-/// What is told of a run: its texts, or whether its scenario plays again as it was.
+/// What is reported of a run: its texts, or whether its scenario plays again as it was.
 pub enum Told {
     Texts,
     Again(bool),
@@ -82,7 +82,7 @@ fn tell_caller(rt: &HostRuntime, number: usize, answers: &[Answer]) -> io::Resul
     println!(rt; "")
 }
 
-/// What came of a run: a line for each caller, and one behind them.
+/// What came of a run: a line for each caller, and one after them.
 pub fn tell_answers(rt: &HostRuntime, told: &[Vec<Answer>]) -> io::Result<()> {
     for (number, answers) in told.iter().enumerate() {
         tell_caller(rt, number, answers.as_slice())?;

@@ -12,7 +12,7 @@ use evl_scenario::{Unwritten, without_staxes, write_scenario};
 use evl_shell::trace_kernel;
 use std::alloc::{Allocator, Global};
 
-/// A scenario, and the trace that it is played with; and what the callers told of their calls at mutexes and staxes.
+/// A scenario, and the trace that it is played with; and what the callers said of their calls at mutexes and staxes.
 #[derive(Drop)]
 pub struct Texts {
     pub scenario: String,
@@ -30,11 +30,14 @@ pub enum Failure {
     Refused(Refusal),
     /// The scenario wasn't written: it would be longer than a scenario may be, or there was no memory.
     Unwritten(Unwritten),
-    /// At so many takes of the kernel what it records of a mutex didn't stand in the mutex's word.
+    /// At so many takes of the kernel what it records of a mutex wasn't in the mutex's word.
     Differs(u32),
 }
 
-/// The texts of a kernel's history, whose board is the shared one, beside what was told. `Unwritten` where it has more
+// rule: A history has no such texts only if it has more than a million entries, its scenario would be too long, a
+//   growth was refused, or no scenario has such a board. Only the stored run shows that a machine is made and closed at
+//   all.
+/// The texts of a kernel's history, whose board is the shared one, beside what was said. `Unwritten` where it has more
 /// than a million entries or its scenario would be too long; `NoMemory`, of either kind, where a growth was refused.
 pub fn texts_of<C, A: Allocator>(
     alloc: Global,
@@ -49,15 +52,18 @@ pub fn texts_of<C, A: Allocator>(
     ensures untold { IfErr result (λ failure. IsUntold kernel.now.history failure) }
 {
     let board = without_staxes(shared_board(threads));
-    let entries = kernel.history();
+    let entries = match kernel.history().to_vec(alloc) {
+        Ok(entries) => entries,
+        Err(_) => return Err(Failure::Unwritten(Unwritten::Memory)),
+    };
     if entries.len() > LIMIT as usize {
         return Err(Failure::Unwritten(Unwritten::Limit));
     }
-    let scenario = match write_scenario(alloc, &board, LIMIT, entries) {
+    let scenario = match write_scenario(alloc, &board, LIMIT, entries.as_slice()) {
         Ok(text) => text,
         Err(why) => return Err(Failure::Unwritten(why)),
     };
-    match trace_kernel(alloc, kernel, &board, LIMIT) {
+    match trace_kernel(alloc, alloc, kernel, &board, LIMIT) {
         Ok(trace) => Ok(Texts {
             scenario,
             trace,

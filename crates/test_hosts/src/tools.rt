@@ -28,7 +28,7 @@ pub struct Manner {
 }
 
 /// Its thread, its random numbers, about which date it is, the passes of what it holds, the last one first, what it
-/// tells of its calls, at which stage it is if it knows, whether it has begun a wait and not finished it, for which
+/// reports of its calls, at which stage it is if it knows, whether it has begun a wait and not finished it, for which
 /// mutex it waited last, its manner, whether it has stopped for good, and whether it has lost a pass.
 #[derive(Drop)]
 pub struct Tools {
@@ -91,7 +91,7 @@ impl Tools {
         loses
     }
 
-    /// Notes a call at a mutex since a stamp. Nothing is told of those during an unfinished wait, which come to no
+    /// Notes a call at a mutex since a stamp. Nothing is reported of those during an unfinished wait, which come to no
     /// word.
     pub fn note_mutex(&mut self, watch: &Watch, begun: u32, step: Step, number: u16, answer: u16) {
         if !self.is_waiting {
@@ -159,7 +159,7 @@ impl Tools {
         self.staxes.len() >= STAXES_AT_ONCE
     }
 
-    /// Keeps a pass for later. Where there is no memory for it, what it stands for stays held.
+    /// Keeps a pass for later. Where there is no memory for it, what it is for stays held.
     pub fn keep_mutex(&mut self, pass: MutexPass) {
         let _ = self.mutexes.push(pass);
     }

@@ -4,9 +4,9 @@ use std::sync::Wait;
 use std::sync::atomic::{AtomicU32, Ordering};
 use std::thread;
 
-/// What the host threads tell each other beside the machine: how many wait, how many are done, and how often those who
+/// What the host threads show each other beside the machine: how many wait, how many are done, and how often those who
 /// wait were helped; at how many takes of the kernel a mutex's word didn't say what is recorded; stamps; how many
-/// calls couldn't be told; and how many have come to where all meet before they begin.
+/// calls couldn't be reported; and how many have come to where all meet before they begin.
 #[derive(Drop)]
 pub struct Watch {
     threads: u32,
@@ -47,12 +47,12 @@ impl Watch {
         self.stamps.fetch_add(1, Ordering::SeqCst)
     }
 
-    /// Counts a call that there was no memory to tell of.
+    /// Counts a call that there was no memory to report.
     pub fn count_untold(&self) {
         self.untold.fetch_add(1, Ordering::SeqCst);
     }
 
-    /// Whether each call was told of.
+    /// Whether each call was reported.
     pub fn is_all_told(&self) -> bool {
         self.untold.load(Ordering::SeqCst) == 0
     }

@@ -2,7 +2,7 @@
 use Rattle.std.specs.Prelude.{ℕ, ◌==◌, nat_lt, if◌then◌else◌, List, Option, Some, None, option_and_then, slice_get}
 use Rattle.lab_orders.specs.Machines.{Machine}
 
--- 255 stands for nowhere
+-- 255 means nowhere
 abbrev pub if_somewhere : ℕ → Option ℕ
 if_somewhere n = if nat_lt n 255 then Some n else None
 

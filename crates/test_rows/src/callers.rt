@@ -1,4 +1,4 @@
-//! Texts of callers. Beside each lies what is told of it, `NAME.told`.
+//! Texts of callers. Beside each lies what is reported of it, `NAME.told`.
 use crate::files::read_file;
 use lab_callers::{Ending, Played, play_callers};
 use lab_callers_text::read_callers;
@@ -6,7 +6,7 @@ use lab_reports::program_plans;
 use std::io;
 use std::rt::Files;
 
-// Writes how the steps ended behind what is told of them.
+// Writes how the steps ended after what is reported of them.
 fn put_end(told: &mut String, name: &str, played: &Played) -> io::Result<()> {
     told.push_str(played.closing.as_str())?;
     if let Ending::Fault(number, fault) = played.ending {
@@ -16,7 +16,7 @@ fn put_end(told: &mut String, name: &str, played: &Played) -> io::Result<()> {
     Ok(())
 }
 
-// What is told of a text, over the program's callbacks. None where it isn't one.
+// What is reported of a text, over the program's callbacks. None where it isn't one.
 fn told_of<R: AllocGlobal>(rt: &R, name: &str, text: &[u8]) -> io::Result<Option<String>> {
     let bank = program_plans(rt.alloc())?;
     let Ok(asked) = read_callers(rt.alloc(), text, None) else {
@@ -30,7 +30,7 @@ fn told_of<R: AllocGlobal>(rt: &R, name: &str, text: &[u8]) -> io::Result<Option
     Ok(Some(told))
 }
 
-/// Whether just what is wanted is told of the text that lies at this path, and is told of by this name.
+/// Whether just what is wanted is reported of the text at this path, under this name.
 pub fn is_as_wanted<R: Files + AllocGlobal>(rt: &R, path: &str, name: &str) -> io::Result<bool> {
     let text = read_file(rt, path, "toml")?;
     let wanted = read_file(rt, path, "told")?;

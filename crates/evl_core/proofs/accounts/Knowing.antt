@@ -1,4 +1,4 @@
--- What the steps of a token owe and tell, as contracts read the token.
+-- What the steps of a token owe and show, as contracts read the token.
 use Rattle.std.proofs.Common.{◌≡◌, ◌≢◌, ◌<◌, eqb, ne_eqb, ℕ, zero, suc, Bool, true, false, if◌then◌else◌, List, [], ◌∷◌, Option, Some, None, refl, sym, ap, ◌∙◌, subst, slice_get}
 use mathlib.Core.Option.{some-injective, some-ne-none}
 use mathlib.Core.Logic.{dite}
@@ -81,7 +81,7 @@ module _ {C : Type 0} where
       let o = is_one me.0 me.1 None a [] rests in
       takes_tied past_of room_of ComesFrom first ceilings_of mutex_count slots id o.number o.thread me o.me_is o.taken_is st
 
-  -- what a thread knows of the core is what its account tells, what it has taken, and the kernel as it was made
+  -- what a thread knows of the core is what its account says, what it has taken, and the kernel as it was made
   part_is : (k : ℕ) (c : CorePart (KernelView C)) (taken : Option History) (a : Account) (first : KernelView C) → c.taken ≡ taken → account_at k c ≡ a → c.first ≡ first → c ≡ core_part taken a.seen a.mine a.found a.lost first c.note c.lock
   part_is k c taken a first t s f = λ i. core_part (t i) (s i).seen (s i).mine (s i).found (s i).lost (f i) c.note c.lock
 
@@ -99,7 +99,7 @@ module _ {C : Type 0} where
       let shows = event.shows in
       loses_to w.log w.word w.views k c event.stands.1 event.at (λ e. ne (sym shows ∙ e)) none d.lock (ap (λ (u : CorePart (KernelView C)). u.lock) event.after ∙ lost_lock found w.slot w.log k c ne)
 
-  -- what a take tells
+  -- what a take shows
   pub took_seen : (st : Step (Option (KernelView C))) (found : ℕ) (me me' : KernelMe C) (a : Account) → seen me ≡ resting a → took_known st me found me'
       → (found ≡ 0 → Took past_of room_of (ComesFrom (first_of me.0)) (seen me) (seen me')) × (found ≢ 0 → seen me' ≡ resting (lost_one a)) × (first_of me'.0 ≡ first_of me.0)
       × (found ≡ 0 → Takes (first_of me.0) a (lock_in me.0) (account_of (seen me')) (lock_in me'.0)) × (found ≢ 0 → FailsToTake (first_of me.0) a (lock_in me.0) (account_of (seen me')) (lock_in me'.0))
@@ -178,7 +178,7 @@ module _ {C : Type 0} where
       gives_tied past_of room_of ComesFrom first ceilings_of mutex_count slots id o.number o.thread k a.seen me o.me_is o.taken_is (subst (λ (z : KernelMe C). IsSettled z.0 k.history.state) o.me_is settled a.seen o.taken_is) may
       (subst (λ (z : KernelMe C). ComesFrom (first_of z.0) k) o.me_is comes) st
 
-  -- what a give tells
+  -- what a give shows
   pub gave_seen : (st : Step (Option (KernelView C))) (found : ℕ) (me me' : KernelMe C) (a : Account) (k : KernelView C) → seen me ≡ loaded past_of room_of a k → gave_known st me found me'
       → (seen me' ≡ resting (up_to_date k.history a)) × (first_of me'.0 ≡ first_of me.0) × Gives (first_of me.0) a (lock_in me.0) k (account_of (seen me')) (lock_in me'.0)
   gave_seen st found me me' a k is told =
@@ -275,7 +275,7 @@ module _ {C : Type 0} where
     limit = g.limit ∙ f.limit;
   }
 
-  -- the callbacks of a kernel answer as is told, since those of the kernel as it was made do
+  -- the callbacks of a kernel declare and answer what is said of their places, since those of the kernel as it was made do
   pub answers_still : (declared : C → ℕ) (plan : C → Plan) (first k : KernelView C) → ComesFrom first k → AnswersByPlan declared plan first.callbacks → AnswersByPlan declared plan k.callbacks
   answers_still declared plan first k from answers number callback stands =
       ap (λ (hs : List Handler). slice_get hs number) from.handlers_are ∙ answers number callback (from.brings number callback stands)

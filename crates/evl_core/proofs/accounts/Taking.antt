@@ -27,7 +27,7 @@ module _ {S : Type 0} (past : S → History) (room : S → ℕ) where
   abbrev pub put_none : CoreMe S → CoreMe S
   put_none m = (m.0, put_first None m.1)
 
-  -- what a take tells of a token, where it found the core free
+  -- what a take shows of a token, where it found the core free
   abbrev pub Took : (S → Type 0) → CoreMe S → CoreMe S → Type 0
   Took from me me' = (k : S) × (me' ≡ (after_take (past k) (room k) me.0, (0, Some k) ∷ [])) × IsLegal (past k) × HasNoStranger (past k) × AccountsFit (past k) me.0.accounts × from k
 

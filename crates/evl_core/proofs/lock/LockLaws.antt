@@ -190,7 +190,7 @@ pub ours_held : (k : ℕ) (s : LockState) → has_it s k ≡ true → IsOurs k s
 ours_held k idle e = absurd (true≢false (sym e))
 ours_held k (busy j) e = dite (ℕ_discrete j k) (λ same. same) (λ ne. absurd (true≢false (sym e ∙ ne_eqb j k ne)))
 
--- So nothing that the thread may come to know instead tells of another number of lost takes
+-- So nothing that the thread may come to know instead has another number of lost takes
 pub no_false_loss : {B : Type 0} (log log' : List LockEntry) (n n' : ℕ) (cores : List (CorePart B)) (k : ℕ) (c d : CorePart B) → (kept : LockKept log n cores) → LockKept log' n' (set cores k d) → IsOurs k kept.world.state → get_elem? cores k ≡ some c → d.lost ≡ c.lost
 no_false_loss {B} log log' n n' cores k c d kept kept' mine at =
     let w = kept.world in

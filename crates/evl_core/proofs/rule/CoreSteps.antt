@@ -41,7 +41,7 @@ module _ {S B : Type 0} (past : S → History) (comes : B → S → Type 0) (fir
   abbrev pub Change : Type 1
   Change = LockChange (Option S) (CorePart B)
 
-  -- what stands beside the lock where a take of the thread k is lost, where it takes the kernel, and where it gives one back
+  -- what changes beside the lock where a take of the thread k is lost, where it takes the kernel, and where it gives one back
   abbrev pub Losing : Change → ℕ → CorePart B → Type 0
   Losing beside k c = (lock : LockView) (n : ℕ) (homes : Homes S) (cores : List (CorePart B)) → get_elem? cores k ≡ some c → beside n homes cores n homes (set cores k (after_loss lock c))
 

@@ -1,4 +1,4 @@
--- The steps on the one table, with the ties: what each owes, and what it tells.
+-- The steps on the one table, with the ties: what each owes, and what it shows.
 use Rattle.std.proofs.Common.{◌≡◌, ⊎_elim, eqb, ℕ, ◌+◌, ◌-◌, ◌<◌, Bool, true, false, List, [], ◌∷◌, length, map, set, get_or, Option, Some, None, refl, sym, ap, ◌∙◌, subst, arith}
 use Rattle.std.proofs.lemmas.Option.{same_Some}
 use mathlib.Core.Option.{some, none}
@@ -54,7 +54,7 @@ module _ {S B : Type 0} (past : S → History) (room : S → ℕ) (comes : B →
   abbrev pub Seat : Type 0
   Seat = Me (Option S) (Hand (ThreadView B MutexView))
 
-  -- whoever has the kernel owns as it is recorded
+  -- the thread that has the kernel owns no mutex for which another owner is recorded
   owned_as : (k : ℕ) (words : List ℕ) (homes : Homes S) (views : List (ThreadView B MutexView)) (w : ThreadView B MutexView) → ThreadRule past comes (mutex_tie past ceilings) first m words homes views → get_elem? views k ≡ some w
       → OwnsAsRecorded count_of k w
   owned_as k words homes views w kept at h has fresh i inside owner r here =

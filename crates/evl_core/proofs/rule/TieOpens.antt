@@ -77,7 +77,7 @@ opens_ties {S} {B} past first y n legal none_yet i = record {
   taken = λ k c h at has. absurd (none_some h c.taken has (sym (ap (λ (u : CorePart B). u.taken) (at_replicate n k (newcomer_part (past y) first) c at))));
 }
 
--- the same of a kernel that has come from the first one
+-- so the opening over a kernel that has come from the first one owes nothing more
 pub opens_as_first : {C : Type 0} (k first : KernelView C) → ComesFrom first k → IsLegal k.history → k.history.entries ≡ [] → (i : ℕ)
     → MutexTied past_of (ceilings_of first) i 0 (some (Some k) ∷ []) (replicate (threads_of k.history) (newcomer_part k.history first)) 0
 opens_as_first {C} k first from legal none_yet i =

@@ -145,7 +145,7 @@ module _ {S B : Type 0} (past : S → History) (comes : B → S → Type 0) (fir
         was None a stands = stands
         was (Some note) a stands = from_false (note.mutex == j) (IsLeft (ceilings j) note.left word) (AreTied ceilings h.state j word) (ne_eqb note.mutex j (λ e. other (sym e ∙ a))) stands
 
-    -- and what it is told: what stood of the mutex by its note
+    -- and what the thread learns: what held of the mutex by its note
     pub told : (found : ℕ) → TieOf i n homes cores found → StandsNoted ceilings h.state i c.note found
     told found tied = tied.taken k c h at has
 

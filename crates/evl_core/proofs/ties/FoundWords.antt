@@ -1,4 +1,4 @@
--- What a step on a mutex's word tells of the word that it found: the mutex that the word shows.
+-- What a step on a mutex's word says of the word that it found: the mutex that the word shows.
 use Rattle.std.proofs.Common.{◌≡◌, ◌≢◌, ℕ, ◌+◌, ◌<◌, eqb-true, Bool, true, map, refl, sym, ap, ◌∙◌, arith}
 use Rattle.atomic_table.proofs.Lists.{at_map}
 use Rattle.evl_base.specs.declared.numbers.ThreadId.{ThreadId}
@@ -55,7 +55,7 @@ module _ (k : ℕ) (p q : MutexView) (kind : MutexKind) (found : ℕ) (d : Mutex
       let mine = offered_of s.mutex (sym (offers_to-word s.mutex k s.below) ∙ ap (λ n. offers_to n k) (sym s.word) ∙ offers) in
       (mine.0, s.word ∙ ap mutex_word mine.1)
 
--- what a claim on a shown word was answered tells of the mutex
+-- what the answer to a claim on a shown word says of the mutex
 claim_is : (found : ℕ) (s : Shown found) (told : Claim) → reply_of told ≡ claim_reply found → reply_of told ≡ claim_answer s.mutex
 claim_is found s told is = is ∙ ap claim_reply s.word ∙ claim_reply-word s.mutex s.below
 

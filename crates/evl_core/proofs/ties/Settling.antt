@@ -32,7 +32,7 @@ module _ {C : Type 0} (h : History) where
   pub stood_fresh : (old new : CoreHand C) (i : ℕ) (kind : MutexKind) (so : Found) → taken_in old ≡ Some h → note_in old ≡ None → (n : Notes i kind so old new) → AreTied (ceilings_in old) h.state i n.found
   stood_fresh old new i kind so taken fresh n = subst (λ (o : Option Noted). StandsNoted (ceilings_in old) h.state i o n.found) fresh (n.stood h taken)
 
-  -- and a give behind it
+  -- and a give after it
   pub settled_noting : (old new : CoreHand C) (after : State) (i : ℕ) (kind : MutexKind) (so : Found) → taken_in old ≡ Some h → (n : Notes i kind so old new) → AreTied (ceilings_in old) after i (step_word n.found (number_of old) (part_of old i) kind)
       → OthersStay (ceilings_in old) i h.state after → IsSettled new after
   settled_noting old new after i kind so taken n mine others =

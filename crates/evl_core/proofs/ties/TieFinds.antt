@@ -40,7 +40,7 @@ oob_attached s k e = by (seat_at s.sched k) e
     by (Some seat) e = refl
 
 module _ (ceilings : ℕ → Bool) (s : State) (k : ℕ) (there : k < s.threads) (waits_not : awaited_at s k ≡ None) where
-  -- the owner's release isn't refused by the records: what a take told suffices
+  -- the records don't refuse the owner's release: what a take showed suffices
   pub release_passes : (id : MutexId) (m : Mutex) (r : Result Reply Refusal) (plays : List Play) (new : State) → record_at s id.0 ≡ Some m → is_open_to k m ≡ true → Step s k (Release id) r plays new → (reply : Reply) × (r ≡ Ok reply)
   release_passes id m r plays new here unclaimed step = (mutex_calls_pass s k there (idle s k waits_not)).release id m r plays new here unclaimed step
 

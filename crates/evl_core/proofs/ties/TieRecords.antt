@@ -64,7 +64,7 @@ module _ (ceilings : ℕ → Bool) where
       subst (λ (q : Mutex). (has_ceiling q ≡ ceilings i) × IsTied q (has_got new i) (k + 1)) is
       (before.0, record { owner = now.owner; offer = λ t. now.offer t ∙ sym (leaves.got i t) })
 
-  -- a mutex that its owner handed on, as the kernel told
+  -- a mutex that its owner handed on, as the kernel said
   pub tied_released : (i : ℕ) (s new : State) (reply : Reply) (k : ℕ) (marked : Bool) → k < thread_limit → AreTied ceilings s i (mutex_word (owned k marked)) → (leaves : ReleaseLeaves s i reply new)
       → ((next : ℕ) → (released_mutex leaves.was).next ≡ Some next → next < thread_limit) → AreTied ceilings new i (word_given (released_mutex leaves.was).next (released_mutex leaves.was).more)
   tied_released i s new reply k marked small tied leaves low m at =

@@ -1,4 +1,4 @@
--- What a visit of a thread that has the kernel owes of the ties when it gives the kernel back, call by call: what was told of the mutex's word, and the kernel's step, give that each mutex is tied to what is recorded then.
+-- What a visit of a thread that has the kernel owes of the ties when it gives the kernel back, call by call: what is known of the mutex's word, and the kernel's step, give that each mutex is tied to what is recorded then.
 use Rattle.std.proofs.Common.{◌≡◌, ◌≢◌, ⊎_elim, ℕ, ◌+◌, ◌<◌, ◌==◌, eq-eqb, ne_eqb, Bool, true, false, List, Option, Some, None, option_map, Result, Ok, Err, refl, sym, ap, ◌∙◌, subst, arith}
 use Rattle.std.specs.Prelude.{MatchBool}
 use mathlib.Core.Logic.{dite}
@@ -77,7 +77,7 @@ module _ (ceilings : ℕ → Bool) where
     pub other_stays : (asked : Call) (r : Result Reply Refusal) → Step before.state k asked r plays after → touches_mutex before.state k (task_of asked) ≡ false → TiesStay before.state after
     other_stays asked r step other j word tied = tied_rests ceilings j before.state after word (others_drop before legal fits k asked r plays after step other j) tied
 
-    -- what stands before settling stands after it
+    -- what holds before settling holds after it
     after_settling : (asked : Call) (reply : Reply) → Step before.state k asked (Ok reply) plays after → (mid : State) × (answer before.state k asked ≡ Ok (reply, mid)) × TiesStay mid after
     after_settling asked reply step =
         let s = settling_drops before legal fits k asked reply plays after step in
@@ -106,7 +106,7 @@ module _ (ceilings : ℕ → Bool) where
           λ j word ne t. s.2 j word (beside id.0 c.was _ s.0 c.changes (λ j t ne. c.got j t) j word ne t),
         )
 
-    -- a release by the owner, whose word is given to whom the kernel told
+    -- a release by the owner, whose word goes to the thread that the kernel named
     pub release_stays : (id : MutexId) (next : Option ThreadId) (more : Bool) → Step before.state k (Release id) (Ok (Handed next more)) plays after → (marked : Bool) → k < thread_limit
         → ((n : ThreadId) → next ≡ Some n → n.0 < thread_limit) → AreTied ceilings before.state id.0 (mutex_word (owned k marked))
         → AreTied ceilings after id.0 (word_given (option_map (λ n. n.0) next) more) × OthersStay id.0 before.state after

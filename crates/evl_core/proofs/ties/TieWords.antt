@@ -1,4 +1,4 @@
--- What each word tells of itself: the owner's number, the mark, an offer.
+-- What each word says of itself: the owner's number, the mark, an offer.
 use Rattle.std.proofs.Common.{◌≡◌, ◌≢◌, ℕ, ◌+◌, ◌/◌, ◌%◌, ◌<◌, eqb, Bool, true, false, refl, sym, ap, ◌∙◌, arith}
 use Rattle.evl_base.specs.Limits.{thread_limit}
 use Rattle.evl_words.specs.Mutex as word
@@ -24,7 +24,7 @@ claimed-word (owned h true) small = bit_is (h + 1 + 2147483648) 1 (omega arith)
 claimed-word (offered h false) small = bit_is (h + 1 + 1073741824 + 0) 0 (omega arith)
 claimed-word (offered h true) small = bit_is (h + 1 + 1073741824 + 2147483648) 1 (omega arith)
 
--- a plain word tells of no mark and no offer
+-- a plain word has no mark and no offer
 pub plain_unclaimed : (n : ℕ) → IsPlain n → is_claimed n ≡ false
 plain_unclaimed n small = bit_is n 0 (omega arith)
 

@@ -10,7 +10,7 @@ use Rattle.evl_words.specs.MutexPlaces.{IsOfPlace}
 use Rattle.evl_core.specs.words.MutexPlaces.{AreCountedPlaces, HoldsBy, new_place, new_places, place_passes}
 use Rattle.evl_core.proofs.words.DealLaws.{fresh-counted}
 
--- what stands at a place
+-- what is at a place
 pub place_there : (xs old : List MutexPlace) (i j : ℕ) (x : MutexPlace) → xs ≡ old → i ≡ j → j < length old → x ≡ get_or xs i x → slice_get xs i ≡ Some x
 place_there xs old i j x same at within here = slice_get_read xs (length xs) i x refl (omega (arith, within, at, ap length same)) here
 

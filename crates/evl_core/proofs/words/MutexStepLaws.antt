@@ -33,13 +33,13 @@ use Rattle.evl_core.proofs.words.MutexDeeds.{awaits_so, claims_so, comes_back_so
 use Rattle.evl_core.proofs.words.SeatLists.{some-within}
 use Rattle.evl_core.proofs.words.MutexTokens.{Moved, Stepped, at_seat, its_after, moved, moved_held, same_place, same_seats, stepped, table_after, tells_same}
 
--- what stands at a place
+-- what is at a place
 pub some_place : {S : Type 0} (xs : List S) (i : ℕ) → i < length xs → (x : S) × (slice_get xs i ≡ Some x)
 some_place [] i lt = absurd (omega (arith, lt))
 some_place (x ∷ xs) zero lt = (x, refl)
 some_place (x ∷ xs) (suc i) lt = some_place xs i (omega (arith, lt))
 
--- what is said of what stands at a place
+-- what is said of what is at a place
 pub said_there : {S : Type 0} (P : S → Type 0) (xs : List S) (i : ℕ) (x : S) → slice_get xs i ≡ Some x → IsSomeAnd (slice_get xs i) P → P x
 said_there P xs i x there said = subst (λ o. IsSomeAnd o P) there said
 
@@ -53,7 +53,7 @@ offered_within table hand ps i said =
     let here = some-within (λ (s : MutexSeatState). EndsOffered s.number s.view.seen) (seats_at table hand ps) i said in
     let long = length-map ps (seat_at table hand) in omega (arith, here, long)
 
--- what the thread's places tell of it at the mutex i
+-- what the thread's places say of it at the mutex i
 module _ {C : Type 0} (hand : CoreHand C) (ps : List MutexPlace) (i : ℕ) (its : AreItsPlaces hand ps) where
   pub number_is : (n : ℕ) → IsSomeAnd (slice_get ps i) (λ p. p.number ≡ n) → its.number ≡ n
   number_is n said =

@@ -91,7 +91,7 @@ module _ {C : Type 0} where
     lock = ap (λ (x : Thread C). x.core.lock) is ∙ lock;
   }
 
-  -- a step tells that it is of this kind, and leaves the slots
+  -- a step says that it is of this kind, and leaves the slots
   abbrev pub SaysSo : ℕ → MutexKind → Tells (Option (KernelView C)) MutexView → Type 0
   SaysSo k kind tells = (st : Step (Option (KernelView C))) (p q : MutexView) (cs ds : List (ℕ × Option (KernelView C))) (found : ℕ) → tells st k (p, cs) found (q, ds) → (ds ≡ cs) × MutexDoes k p kind found q
 
@@ -237,6 +237,6 @@ module _ {C : Type 0} where
     marks_held (h, taken, about) kind needs may st at tells weaker f same =
         marks_tied past_of room_of ComesFrom first ceilings_of mutex_count slots id k v me one h (sym (ap taken_in one) ∙ taken) i within (subst (λ (hand : CoreHand C). IsAbout i (note_in hand)) one about) kind needs may st at f same tells weaker
 
--- a token that tells the same of the core twice
+-- a token that twice keeps what it says of the core
 pub core_twice : {C : Type 0} {one two three : KernelMe C} → TellsTheSame one two → TellsTheSame two three → TellsTheSame one three
 core_twice first then = record { core = then.core ∙ first.core; first = then.first ∙ first.first; lock = then.lock ∙ first.lock }

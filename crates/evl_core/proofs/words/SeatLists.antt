@@ -10,7 +10,7 @@ use Rattle.std.proofs.lemmas.Bool.Decides.{nat_tests}
 use Rattle.evl_core.specs.words.AtSeats.{AtSeat, AreCounted}
 
 module _ {S : Type 0} where
-  -- to write what stands there changes nothing
+  -- to write what is there already changes nothing
   pub set-same : (xs : List S) (i : ℕ) (s : S) → slice_get xs i ≡ Some s → slice_set xs i s ≡ xs
   set-same [] i s there = refl
   set-same (x ∷ xs) zero s there = ap (λ y. y ∷ xs) (sym (same_Some x s there))
@@ -75,7 +75,7 @@ same-at f g xs ys i x y same here there =
 pub same-length : {A B C : Type 0} (f : A → C) (g : B → C) (xs : List A) (ys : List B) → map f xs ≡ map g ys → length xs ≡ length ys
 same-length f g xs ys same = sym (length-map xs f) ∙ ap length same ∙ length-map ys g
 
--- what stands at one place of two lists that agree
+-- what is at one place of two lists that agree
 pub same-place : {A B C : Type 0} (f : A → C) (g : B → C) (xs old : List A) (ys now : List B) (i : ℕ) (x : A) (y : B) → xs ≡ old → ys ≡ now → map f old ≡ map g now
     → i < length old → x ≡ get_or xs i x → y ≡ get_or ys i y → (slice_get xs i ≡ Some x) × (f x ≡ g y)
 same-place f g xs old ys now i x y same_xs same_ys alike within here there =

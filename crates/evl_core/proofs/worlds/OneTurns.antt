@@ -92,7 +92,7 @@ module _ {S B : Type 0} (past : S → History) (room : S → ℕ) (comes : B →
         let now : mutex.step_word (get_or e.world.mutexes i 0) k (mutex_of i v) kind ≡ left = ap (λ n. mutex.step_word n k (mutex_of i v) kind) e.shows ∙ word in
         e.after ∙ (λ j. put_core (put_mutex i v (sym part_is j)) (noted_if (needs j) i (now j) (core_of v)))
 
-    -- and tells what stood of the mutex by the thread's note
+    -- and shows what held of the mutex by the thread's note
     pub stood_of : (h : History) → (core_of v).taken ≡ Some h → StandsNoted (ceilings_of first) h.state i (core_of v).note found
     stood_of h has = subst (λ n. StandsNoted (ceilings_of first) h.state i (core_of v).note n) e.shows ((e.stands.ties i e.may.0).taken k (core_of v) h (at_map core_of e.world.views k v e.at) has)
 

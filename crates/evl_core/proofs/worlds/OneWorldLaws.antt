@@ -41,7 +41,7 @@ use Rattle.evl_core.proofs.rule.ThreadSteps.{parts_apart, at_blank, zeros}
 use Rattle.evl_core.proofs.rule.TieRule.{lock_marked, log_marked, tie_giving, tie_losing, tie_marking, tie_stepping, tie_taking, ties_beside}
 use Rattle.evl_core.proofs.ties.TieSteps.{StaysPlain, try_stays, unlock_stays}
 
--- what stands in a list of what is read of each stands for one of them
+-- what is in a list of what is read of each is read of one of them
 at_of_map : {A C : Type 0} (f : A → C) (xs : List A) (j : ℕ) (c : C) → get_elem? (map f xs) j ≡ some c → (x : A) × (get_elem? xs j ≡ some x) × (f x ≡ c)
 at_of_map f [] j c at = absurd (some-ne-none c (sym at))
 at_of_map f (x ∷ xs) zero c at = (x, refl, some-injective (f x) c at)
@@ -200,7 +200,7 @@ module _ {S B : Type 0} (past : S → History) (room : S → ℕ) (comes : B →
           (tie_marking past comes first ceilings i k (core_of v) g has about w.word (w.slot ∷ []) (map core_of w.views) h.locked.0 core_at n)
           (λ j word ne tied. ties_beside past comes first ceilings i k (core_of v) g has about w.word (w.slot ∷ []) (map core_of w.views) h.locked.0 core_at n j word ne tied)
 
-      -- by anybody, where the tie stands over the word that is left
+      -- by anybody, where the tie holds over the word that is left
       by_anybody : TieOf i w.word (w.slot ∷ []) (map core_of w.views) (mutex.step_word (get_or w.mutexes i 0) k (mutex_of i v) kind) → Stands (record {
         word = w.word;
         slot = w.slot;
@@ -320,7 +320,7 @@ module _ {S B : Type 0} (past : S → History) (room : S → ℕ) (comes : B →
           let some_ = at_of_map core_of w.views j c at in
           subst (λ (x : CorePart B). x.taken ≡ None) some_.2 (none_else j some_.0 ne some_.1)
 
-  -- while no other thread has the kernel, nothing that one thread may come to know instead tells of another number of lost takes
+  -- while no other thread has the kernel, nothing that one thread may come to know instead has another number of lost takes
   pub none_turned_away : (w t : OneWorld S B) → Stands w → Stands t → (k : ℕ) (u v : ThreadView B MutexView) → get_elem? w.views k ≡ some u → NoOther w k → t.views ≡ set w.views k v → v.core.lost ≡ u.core.lost
   none_turned_away w t stands now k u v there none_else changed =
       no_false_loss w.log t.log w.word t.word (map core_of w.views) k u.core v.core stands.locked.1

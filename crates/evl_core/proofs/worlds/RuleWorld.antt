@@ -31,7 +31,7 @@ chosen (suc m) P blank all =
     let rest = chosen m (λ i. P (suc i)) blank (λ i lt. all (suc i) (omega (arith, lt))) in
     (first_then one.0 rest.0, first_each m P one.0 rest.0 one.1 rest.1)
 
--- a mutex's word stands behind the core's
+-- a mutex's word comes after the core's
 pub further : (word : ℕ) (words : List ℕ) (i : ℕ) → get_or (word ∷ words) (1 + i) 0 ≡ get_or words i 0
 further word words i = ap (λ n. get_or (word ∷ words) n 0) (let more : 1 + i ≡ suc i = omega arith in more)
 
@@ -50,7 +50,7 @@ module _ {S B : Type 0} (past : S → History) (room : S → ℕ) (comes : B →
       (λ (t : IsTaken kept.history word homes (map core_of views)). (none, t.slot_is))
       kept.who
 
-  -- what the rule keeps of a table is a world that stands
+  -- what the rule keeps of a table is a world that holds
   pub record WorldOf (words : List ℕ) (homes : List (Slot S)) (views : List (ThreadView B MutexView)) : Type 0 where
     pub world : OneWorld S B
     pub words_are : words ≡ world.word ∷ world.mutexes

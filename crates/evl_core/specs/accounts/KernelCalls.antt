@@ -9,6 +9,9 @@ use Rattle.evl_kernel.specs.histories.Histories.{IsLegal}
 use Rattle.evl_kernel.specs.state.KernelViews.{Adds, IsKernelAnswer, KernelView, makes_entry}
 use Rattle.evl_core.specs.rule.Known.{ComesFrom}
 
+-- rule: Calls on a held kernel take effect together at the give.
+--   clauses: Held::{give, kernel, apply}
+--   rows: close_machine; held_calls_stop_in_a_full_history; held_calls_stop_without_memory
 -- a call of the kernel adds just its entry, or leaves the history: it is full, or no room was made for the call
 pub record Applied {C : Type 0} (old : KernelView C) (thread : ℕ) (c : Call) (r : Result Reply Refusal) (new : KernelView C) : Type 0 where
   pub entered : makes_entry r ≡ true → (plays : List Play) × Adds old.history thread c r plays new.history
@@ -41,6 +44,11 @@ module _ {C : Type 0} where
     pub made : IfOk r (λ _. (1 ≤ k'.room) × (length k.history.entries ≢ k.limit))
     pub refused : IfErr r (FindsNoRoom k)
 
+  -- rule: A caller with the kernel can make room for calls of this take: `HistoryFull` exactly if the history has fewer
+  --   places left, `NoMemory` only with less room. How much a later take finds no clause says.
+  --   also: KernelCalls.Applied
+  --   clauses: Held::reserve; HeldOf::reserve; KernelBox::reserve_for
+  --   rows: calls_after_a_reserve
   -- room for so many calls was made, or it was refused: as the history has fewer places left, or for want of memory
   pub record ReservesFor (calls : ℕ) (k : KernelView C) (r : Result (Unit {0}) Refusal) (k' : KernelView C) : Type 0 where
     pub same : IsRoomier k k'

@@ -19,6 +19,12 @@ use Rattle.evl_core.specs.lock.Lock.{LockStep, LockView, idle, lock_author}
 use Rattle.evl_words.specs.History.{SeeOneHistory}
 use Rattle.evl_words.specs.Machine.{IsLegal}
 
+-- rule: Two callers of a machine know one history of its kernel, of the core's lock, of each mutex's word and of each
+--   stax; at most one had the kernel at a time, at most one has a mutex, and both hold a stax only at one stage
+--   (PROMISES has it in full).
+--   also: OneHistory.{AgreeOnLock, AgreeOnMutexes, AgreeOnStaxes}
+--   clauses: Machine::agree; StaxGate::agree; MutexWord::agree; look_together
+--   rows: callers_meet
 -- They act for threads of their own, and each knows what an account knows. Of what they have seen of the kernel one history is the beginning of the other, and the longer one has just the other's own calls of its thread
 pub record OneHistory (a b : Account) : Type 0 where
   pub apart : a.thread ≢ b.thread
@@ -39,7 +45,7 @@ pub record AgreeOnLock (j : ℕ) (u : LockView) (k : ℕ) (v : LockView) : Type 
   pub one : IsLegal LockStep idle u.seen
   pub other : IsLegal LockStep idle v.seen
 
--- two threads fit one history of the kernel and one of its lock, and are together at each mutex's word; that tells a load of the lock's word, which is an event of the one world
+-- two threads fit one history of the kernel and one of its lock, and are together at each mutex's word; so says a load of the lock's word, which is an event of the one world
 pub record AreTogether {C : Type 0} (p q : Place (ThreadView (KernelView C) MutexView)) : Type 0 where
   pub apart : p.number ≢ q.number
   pub history : History

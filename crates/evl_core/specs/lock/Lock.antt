@@ -53,6 +53,10 @@ lock_change s k Give = idle
 abbrev pub lock_machine : Machine LockState LockCall LockReply
 lock_machine = record { may = lock_may; answer = lock_answer; after = lock_change }
 
+-- rule: The core's lock has its own history: a take gets the kernel from the slot, or is lost if another thread has it.
+--   Each thread has seen a prefix, with exactly its own steps.
+--   also: Lock.{LockKept, KnowsLock, LosesTo}
+--   rows: held_core_is_not_taken
 -- A take is lost only where another thread has the kernel
 abbrev pub LockStep : LockState → LockEntry → LockState → Type 0
 LockStep = IsStep lock_machine
@@ -122,7 +126,7 @@ pub record LockKept {B : Type 0} (log : List LockEntry) (word : ℕ) (cores : Li
   pub world : IsLockWorld (record { word = word; log = log; views = map lock_of cores })
   pub knows : (k : ℕ) (c : CorePart B) → get_elem? cores k ≡ some c → KnowsLock c
 
--- The thread lost a take: it has now seen that the lock's history goes on from all that it had seen of it to where another thread has the kernel, and there stands its own take
+-- The thread lost a take: it has now seen that the lock's history goes on from all that it had seen of it to where another thread has the kernel, and there is its own take
 pub record LosesTo (k : ℕ) (old new : LockView) : Type 0 where
   pub between : List LockEntry
   pub holder : ℕ

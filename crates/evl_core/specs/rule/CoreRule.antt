@@ -61,6 +61,9 @@ pub record IsTaken {S B : Type 0} (history : History) (word : ℕ) (homes : Home
   pub holds : (c : CorePart B) × (get_elem? cores holder ≡ some c) × (c.taken ≡ Some history)
   pub others : (k : ℕ) (c : CorePart B) → k ≢ holder → get_elem? cores k ≡ some c → c.taken ≡ None
 
+-- rule: Word 0: the kernel is in the slot with the common history. Word 1: exactly one seat has it, and took that.
+--   also: CoreRule.IsTaken
+--   clauses: KernelBox::{new, kernel, into_kernel, reserve, apply}
 -- the kernel is in the slot, and no thread has taken it
 pub record IsFree {S B : Type 0} (past : S → History) (comes : B → S → Type 0) (first : B) (history : History) (word : ℕ) (homes : Homes S) (cores : List (CorePart B)) : Type 0 where
   pub word_is : word ≡ 0
@@ -70,6 +73,9 @@ pub record IsFree {S B : Type 0} (past : S → History) (comes : B → S → Typ
   pub slot_is : homes ≡ some (Some kernel) ∷ []
   pub nobody : (k : ℕ) (c : CorePart B) → get_elem? cores k ≡ some c → c.taken ≡ None
 
+-- rule: The common history is legal, begins with what each thread has seen, and has exactly each thread's own calls, in
+--   order, and no stranger's.
+--   also: CoreRule.{legal, fits, strangers, all}; Accounts.{Fits, BeginsWith, calls_by}
 -- There is one common history. It is legal, each thread of its board has an account here that fits it, and no call is of another thread. Each thread knows what was first put into the slot
 pub record CoreKept {S B : Type 0} (past : S → History) (comes : B → S → Type 0) (first : B) (word : ℕ) (homes : Homes S) (cores : List (CorePart B)) : Type 0 where
   pub history : History

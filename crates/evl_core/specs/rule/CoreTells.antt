@@ -1,4 +1,4 @@
--- What the steps on the core's lock tell their thread.
+-- What the steps on the core's lock say to their thread.
 use Rattle.std.specs.Prelude.{◌≡◌, ◌≢◌, ℕ, [], ◌∷◌, Option, Some}
 use Rattle.atomic_table.specs.Table.{Me}
 use Rattle.evl_kernel.specs.histories.Histories.{History, IsLegal}
@@ -17,10 +17,10 @@ module _ {S B : Type 0} (past : S → History) (room : S → ℕ) (comes : B →
   abbrev pub Took : ℕ → CoreMe S B → CoreMe S B → Type 0
   Took k m m' = (y : S) × (lock : LockView) × (m' ≡ (after_take (past y) (room y) lock m.0, (0, Some y) ∷ [])) × IsLegal (past y) × HasNoStranger (past y) × Fits (past y) (account_at k m.0) × comes m.0.first y
 
-  -- a take tells that it is an event, and where it found another word, that it is lost
+  -- a take says that it is an event, and where it found another word, that it is lost
   abbrev pub took : Tells (Option S) (CorePart B)
   took st k m found m' = (found ≡ 0 → Took k m m') × (found ≢ 0 → (lock : LockView) × (m' ≡ (after_loss lock m.0, m.1))) × IsCoreEvent past room comes k m.0 takes found m'.0
 
-  -- a give tells that it is one, which found some word
+  -- a give says that it is one, which found some word
   abbrev pub gave : Tells (Option S) (CorePart B)
   gave st k m _ m' = (y : S) → m.1 ≡ (0, Some y) ∷ [] → (lock : LockView) × (m' ≡ (after_give (past y) k lock m.0, [])) × (found : ℕ) × IsCoreEvent past room comes k m.0 (gives y) found m'.0

@@ -22,7 +22,7 @@ use Rattle.evl_core.specs.rule.ThreadRule.{MachineRule, all_threads}
 use Rattle.evl_core.specs.rule.Ties.{mutex_tie}
 use Rattle.evl_core.specs.rule.TieTells.{on_mutex, on_noted, with_given, with_owned}
 
--- since the kernel was made no callback came into it, what is told of them is the same, and so are the board and bank that it began with and its limit
+-- since the kernel was made no callback came into it, what is said of them is the same, and so are the board and bank that it began with and its limit
 pub record ComesFrom {C : Type 0} (first k : KernelView C) : Type 0 where
   pub board : k.history.board ≡ first.history.board
   pub bank : k.history.bank ≡ first.history.bank
@@ -69,7 +69,7 @@ module _ {C : Type 0} where
   abbrev pub seen : KernelMe C → CoreMe (KernelView C)
   seen m = (view (taken_in m.0) (accounts_in m.0), m.1)
 
-  -- a word for each mutex stands in the table behind the lock's
+  -- a word for each mutex is in the table after the lock's
   abbrev pub mutex_count : KernelView C → ℕ
   mutex_count first = length first.history.board.mutexes.items
 
@@ -77,13 +77,18 @@ module _ {C : Type 0} where
   abbrev pub ceilings_of : KernelView C → ℕ → Bool
   ceilings_of first i = has_ceiling (slice_get first.history.board.mutexes.items i)
 
+  -- rule: The core and a table's mutex words are one world. Its conditions hold after any steps in which only the
+  --   thread that has the kernel claims, settles, offers, frees, accepts and forgets a mutex or tries one with a
+  --   ceiling (which no exchange unlocks), and gives the kernel back only with each word tied. The running table's rule
+  --   is exactly that world.
+  --   clauses: one_world_stands; rule_is_one_world
   abbrev pub KeptKnown : KernelView C → State (Option (KernelView C)) (CoreHand C) → Type 0
   KeptKnown first = MachineRule past_of ComesFrom (mutex_tie past_of (ceilings_of first)) first (mutex_count first)
 
   abbrev pub first_known : KernelView C → CoreHand C
   first_known first = all_threads first.history first (mutex_count first) (threads_of first.history)
 
-  -- what the steps on the core's lock tell, and those on a mutex's word: of anybody, and of the thread that has the kernel
+  -- what the steps on the core's lock say, and those on a mutex's word: of anybody, and of the thread that has the kernel
   abbrev pub took_known : Step (Option (KernelView C)) → KernelMe C → ℕ → KernelMe C → Type 0
   took_known = Told (with_owned past_of room_of ComesFrom ceilings_of mutex_count (took past_of room_of ComesFrom))
 

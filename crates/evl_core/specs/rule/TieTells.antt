@@ -1,4 +1,4 @@
--- What the steps on the one table tell of the ties.
+-- What the steps on the one table say of the ties.
 use Rattle.std.specs.Prelude.{◌≡◌, ℕ, ◌-◌, ◌<◌, Bool, true, Option, Some, None, [], ◌∷◌}
 use Rattle.atomic_table.specs.Table.{Step}
 use Rattle.evl_mutex.specs.Mutexes.{Mutex, is_open_to}
@@ -14,7 +14,7 @@ use Rattle.evl_core.specs.rule.Ties.{StandsNoted}
 use Rattle.evl_core.specs.worlds.CoreWorld.{gives, takes}
 use Rattle.evl_core.specs.worlds.OneWorld.{IsOneEvent, OneKind, on_lock, on_word}
 
--- whoever has the kernel, and has made no step on a word since: of each mutex that it owns no other owner is recorded
+-- the thread that has the kernel, and has made no step on a word since: of each mutex that it owns no other owner is recorded
 abbrev pub OwnsAsRecorded : {B : Type 0} → (B → ℕ) → ℕ → ThreadView B MutexView → Type 0
 OwnsAsRecorded count k v = (h : History) → (core_of v).taken ≡ Some h → (core_of v).note ≡ None → (i : ℕ) → i < count (core_of v).first → owns (mutex_of i v).held.role ≡ true → (m : Mutex) → record_at h.state i ≡ Some m → is_open_to k m ≡ true
 
@@ -23,7 +23,7 @@ module _ {S B : Type 0} (past : S → History) (room : S → ℕ) (comes : B →
   abbrev pub EventOf : ℕ → ThreadView B MutexView → OneKind S → ℕ → ThreadView B MutexView → Type 0
   EventOf k v kind found u = IsOneEvent past room comes ceilings count (core_of v).first k v kind found u
 
-  -- a take tells that of who makes it
+  -- a take says that of who makes it
   abbrev pub with_owned : Tells (Option S) (CorePart B) → Tells (Option S) (ThreadView B MutexView)
   with_owned tells st k m found n = on_core tells st k m found n × OwnsAsRecorded count k n.0 × EventOf k m.0 (on_lock takes) found n.0
 
@@ -42,7 +42,7 @@ module _ {S B : Type 0} (past : S → History) (room : S → ℕ) (comes : B →
       × (n.0 ≡ put_mutex i m.0 (mutex_of i n.0))
       × EventOf k m.0 (on_word i kind) found n.0
 
-  -- A step on a mutex's word by the thread that has the kernel notes what it left there, which is f of the step and of what it found, and tells what stood of the mutex
+  -- A step on a mutex's word by the thread that has the kernel notes what it left there, which is f of the step and of what it found, and says what stood of the mutex
   abbrev pub on_noted : MutexKind → (Step (Option S) → ℕ → ℕ) → Tells (Option S) MutexView → Tells (Option S) (ThreadView B MutexView)
   on_noted kind f tells st k m found n =
       let i = st.word - 1 in

@@ -45,7 +45,7 @@ AreTied ceilings s i word = (m : Mutex) → record_at s i ≡ Some m → (has_ce
 abbrev pub IsLeft : Bool → ℕ → ℕ → Type 0
 IsLeft ceiling left word = (word ≡ left) ⊎ ((ceiling ≡ false) × IsPlain left × IsPlain word)
 
--- what stands of the mutex i while a thread has the kernel, by its note and by what was recorded when it took it
+-- what holds of the mutex i while a thread has the kernel, by its note and by what was recorded when it took it
 abbrev pub StandsNoted : (ℕ → Bool) → State → ℕ → Option Noted → ℕ → Type 0
 StandsNoted ceilings s i None word = AreTied ceilings s i word
 StandsNoted ceilings s i (Some note) word = MatchBool (note.mutex == i) (IsLeft (ceilings i) note.left word) (AreTied ceilings s i word)

@@ -9,7 +9,7 @@ pub record AtSeat {S : Type 0} (i : ℕ) (old new : List S) (step : S → S → 
   pub changed : new ≡ slice_set old i is
   pub does : step was is
 
--- Each seat stands at the number of its element. There are no more than a board has elements of a kind, none has more than 255 passes, and this is how many they have together
+-- Each seat is at the number of its element. There are no more than a board has elements of a kind, none has more than 255 passes, and this is how many they have together
 pub record AreCounted {S : Type 0} (number passes : S → ℕ) (seats : List S) (count : ℕ) : Type 0 where
   pub few : length seats ≤ 32
   pub placed : (k : ℕ) (seat : S) → slice_get seats k ≡ Some seat → number seat ≡ k

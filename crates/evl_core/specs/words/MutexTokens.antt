@@ -51,14 +51,14 @@ module _ {C : Type 0} where
     pub numbers : (i : ℕ) (p : MutexPlace) → slice_get places i ≡ Some p → p.number ≡ number
     pub owners : (i : ℕ) (p : MutexPlace) → slice_get places i ≡ Some p → owns (mutex_of i thread).held.role ≡ nat_lt 0 p.depth
 
-  -- the token is of this table, which has a word for each of the thread's places behind the lock's
+  -- the token is of this table, which has a word for each of the thread's places after the lock's
   pub record IsAtTable (table : TableId) (first : KernelView C) (at : TableId) (hand : CoreHand C) (places : List MutexPlace) : Type 0 where
     pub same : at ≡ table
     pub words : table.words ≡ 1 + length places
     pub all : length places ≡ mutex_count first
     pub its : AreItsPlaces hand places
 
-  -- the token knows the same of each mutex, and its thread has the same places
+  -- the token knows as much of each mutex, and its thread has the same places
   pub record KeepsPlaces (old new : CoreHand C) : Type 0 where
     pub parts : (i : ℕ) → part_of new i ≡ part_of old i
     pub its : (places : List MutexPlace) → AreItsPlaces old places → AreItsPlaces new places
@@ -67,7 +67,7 @@ module _ {C : Type 0} where
   abbrev pub HasKernel : CoreHand C → Type 0
   HasKernel hand = (i : ℕ) → HasKernelFor i hand
 
-  -- of the core the token tells the same
+  -- of the core the token says the same
   pub record TellsTheSame (old new : KernelMe C) : Type 0 where
     pub core : seen new ≡ seen old
     pub first : first_of new.0 ≡ first_of old.0
@@ -78,7 +78,7 @@ pub record AreTheSame (old new : List MutexSeatState) : Type 0 where
   pub homes : map mutex_home new ≡ map mutex_home old
   pub numbers : map (λ s. s.number) new ≡ map (λ s. s.number) old
 
--- What each step on the word of mutex i keeps, and what it does: the token and the places are of the same table, of the core the token tells the same, and of its seats, which are the same, that at the mutex alone changes, and by this
+-- What each step on the word of mutex i keeps, and what it does: the token and the places are of the same table, of the core the token says the same, and of its seats, which are the same, that at the mutex alone changes, and by this
 pub record DoesAtWord {C : Type 0} (id : TableId) (first : KernelView C) (old : TableId) (me : KernelMe C) (places : List MutexPlace) (new : TableId) (me' : KernelMe C) (places' : List MutexPlace) (i : ℕ) (step : MutexSeatState → MutexSeatState → Type 0) : Type 0 where
   pub table : IsAtTable id first new me'.0 places'
   pub core : TellsTheSame me me'

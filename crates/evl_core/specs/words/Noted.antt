@@ -104,11 +104,11 @@ module _ {C : Type 0} where
   NotesGiven i (Some next) more old new = Notes i (offers next.0 more) FoundAny old new
   NotesGiven i None more old new = Notes i frees FoundAny old new
 
-  -- what a give owes: whatever its word, what stands of each mutex by what the thread noted is tied to these records
+  -- what a give owes: whatever its word, what holds of each mutex by what the thread noted is tied to these records
   abbrev pub IsSettled : CoreHand C → State → Type 0
   IsSettled hand after = (h : History) → taken_in hand ≡ Some h → (i word : ℕ) → StandsNoted (ceilings_in hand) h.state i (note_in hand) word → AreTied (ceilings_in hand) after i word
 
-  -- a look leaves what the token knows, and tells what stood of the mutex; it is an event of the one world, of whichever thread is the token's first
+  -- a look leaves what the token knows, and says what stood of the mutex; it is an event of the one world, of whichever thread is the token's first
   abbrev pub looked_known : Step (Option (KernelView C)) → KernelMe C → ℕ → KernelMe C → Type 0
   looked_known st m found n = (n ≡ m) × Stood m.0 (st.word - 1) found
       × ((k : ℕ) (v : ThreadView (KernelView C) MutexView) (others : CoreHand C) → m.0 ≡ place k v ∷ others → EventOf past_of room_of ComesFrom ceilings_of mutex_count k v (looks st.word) found v)

@@ -22,6 +22,9 @@ pub record CoreWorld (S B : Type 0) : Type 0 where
   pub log : List LockEntry
   pub views : List (CorePart B)
 
+-- rule: The steps are an exchange that takes, a store that gives, and the slot's two moves.
+--   also: CoreWorld.CoreDealingStep
+--   clauses: Machine::take; Held::give: event
 -- The kinds of step. A take that finds the core taken is counted as lost, and changes nothing else. Who has taken the slot moves the kernel out of it and, before it gives one back, in again
 pub data CoreKind (S : Type 0) : Type 0 where
   takes : CoreKind S
@@ -83,7 +86,7 @@ module _ {S B : Type 0} (past : S → History) (room : S → ℕ) (comes : B →
   abbrev pub IsCoreWorld : B → CoreWorld S B → Type 0
   IsCoreWorld first w = CoreStands past comes first w.log w.word (w.slot ∷ []) w.views
 
-  -- in some world that stands, a step of this kind, which the thread k might make, found this word and took what the thread knows from c to d
+  -- in some consistent world, a step of this kind, which the thread k might make, found this word and took what the thread knows from c to d
   pub record IsCoreEvent (k : ℕ) (c : CorePart B) (kind : CoreKind S) (found : ℕ) (d : CorePart B) : Type 0 where
     pub world : CoreWorld S B
     pub stands : IsCoreWorld c.first world
@@ -112,6 +115,6 @@ module _ {S B : Type 0} (past : S → History) (room : S → ℕ) (comes : B →
       let views = replicate (threads_of (past y)) (newcomer_part (past y) first) in
       record { world = record { word = 0; slot = some (Some y); log = []; views = views }; hands = hand_from 0 views ∷ [] }
 
-  -- the world stands, no thread is in two hands, and each hand has the views of its threads
+  -- the world is consistent, no thread is in two hands, and each hand has the views of its threads
   abbrev pub StandsDealt : B → CoreDealing S B → Type 0
   StandsDealt first d = IsCoreWorld past room comes first d.world × Deals d.world.views d.hands

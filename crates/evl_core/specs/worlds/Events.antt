@@ -30,7 +30,13 @@ module _ {C : Type 0} where
     pub is : after.core ≡ d
     pub event : EventOf past_of room_of ComesFrom ceilings_of mutex_count k before (on_lock kind) found after
 
-  -- A take found the core free. Or it found it taken: then its thread has lost one more, and knows nothing else but that another thread had the kernel, behind all that it had seen of the lock's history. Each is of what the thread knows of the kernel and of the lock, before and after
+  -- rule: A take and a give are each one event of the one world of core and mutex words, in some such world, over what
+  --   the caller knew of the kernel and of the lock before and after; `CoreBusy`, and a take that comes back, found the
+  --   word taken.
+  --   also: Events.{Gives, FailsToTake}; Handles.CallerState; Visits.FindsTaken; Calls.ActsOnCore; Waitings.LooksBy;
+  --   Events.KernelEvent; OneWorld.IsOneEvent
+  --   clauses: Machine::take: event; takes_are_lost_to_another; Held::give; Machine::{try_call, call, close}
+  -- A take found the core free. Or it found it taken: then its thread has lost one more, and knows nothing else but that another thread had the kernel, after all that it had seen of the lock's history. Each is of what the thread knows of the kernel and of the lock, before and after
   abbrev pub Takes : KernelView C → Account → LockView → Account → LockView → Type 0
   Takes first a l a' l' = (was is : Option Noted) × KernelEvent a.thread (at_rest first a was l) takes 0 (in_hand first a' is l')
 

@@ -132,7 +132,7 @@ module _ {S B : Type 0} (past : S → History) (room : S → ℕ) (comes : B →
     pub ties : (i : ℕ) → i < m → MutexTied past ceilings i w.word (w.slot ∷ []) (map core_of w.views) (slice_index w.mutexes i)
 
 module _ {S B : Type 0} (past : S → History) (room : S → ℕ) (comes : B → S → Type 0) (ceilings : B → ℕ → Bool) (count : B → ℕ) where
-  -- in some world of the table that was made with `first`, which stands, a step of this kind, which the thread k might make, found this word and took what the thread knows from v to u
+  -- in some world of the table that was made with `first`, which is consistent, a step of this kind, which the thread k might make, found this word and took what the thread knows from v to u
   pub record IsOneEvent (first : B) (k : ℕ) (v : ThreadView B MutexView) (kind : OneKind S) (found : ℕ) (u : ThreadView B MutexView) : Type 0 where
     pub world : OneWorld S B
     pub stands : IsOneWorld past room comes (ceilings first) (count first) first world
@@ -167,6 +167,6 @@ module _ {S B : Type 0} (past : S → History) (room : S → ℕ) (comes : B →
       let views = replicate (threads_of (past y)) (newcomer_view (past y) first m (threads_of (past y))) in
       record { world = record { word = 0; slot = some (Some y); log = []; mutexes = replicate m 0; logs = λ i. []; views = views }; hands = hand_from 0 views ∷ [] }
 
-  -- the world stands, no thread is in two hands, and each hand has the views of its threads
+  -- the world is consistent, no thread is in two hands, and each hand has the views of its threads
   abbrev pub StandsInOne : B → OneDealing S B → Type 0
   StandsInOne first d = IsOneWorld past room comes ceilings m first d.world × Deals d.world.views d.hands

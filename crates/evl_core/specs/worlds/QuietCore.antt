@@ -14,6 +14,10 @@ pub record IsQuiet (h : History) : Type 0 where
   pub stalled : (line : ℕ) → is_pending h.state.lines Oob line ≡ true → h.state.lines.oob.stalled ≡ true
   pub due : is_due h.state.clock ≡ true → is_pending h.state.lines Oob 0 ≡ true
 
+-- rule: While the core is free, and at each take, the kernel's history is legal, a line pends out-of-band only while
+--   that stage is stalled, and something is due only while line 0 pends.
+--   also: QuietCore.IsQuiet; Calls.TookKernel
+--   clauses: free_core_is_quiet; Machine::take
 -- a kernel lies in the slot, whose history is legal and ends quiet
 abbrev pub LiesQuiet : {C : Type 0} → Homes (KernelView C) → Type 0
 LiesQuiet {C} homes = (k : KernelView C) × (homes ≡ some (Some k) ∷ []) × IsLegal k.history × IsQuiet k.history

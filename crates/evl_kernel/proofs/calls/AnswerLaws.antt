@@ -31,7 +31,7 @@ use Rattle.evl_kernel.proofs.histories.OwnerLaws.{owners_stay}
 use Rattle.evl_kernel.proofs.waiting.ProperSteps.{proper_at}
 use Rattle.evl_kernel.proofs.histories.StageLaws.{seats_are}
 
--- what is told where it isn't refused
+-- what holds of the reply, where there is no refusal
 abbrev Says : {X : Type 0} → (Reply → Type 0) → Answered X → Type 0
 Says P (Ok (reply, x)) = P reply
 Says P (Err refusal) = Unit {0}
@@ -60,7 +60,7 @@ claim_begins s s' t m owner until reply plays step =
     says_reply P s (answer s t (Claim m owner until)) reply plays s'
     (says_refused P (general_refusal s t (Claim m owner until)) _ (says_refused P (begin_refusal s t (wanted.Mutex m owner)) _ (says_lifted P _ _ (says_known P (slice_get s.elements.mutexes m.0) _ (λ x there. refl))))) step
 
--- what a release tells of a mutex
+-- what a release answers about its mutex
 record IsHandedBy (s : State) (n : ℕ) (reply : Reply) : Type 0 where
   mutex : Mutex
   there : slice_get s.elements.mutexes n ≡ Some mutex

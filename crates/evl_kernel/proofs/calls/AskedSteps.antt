@@ -1,4 +1,4 @@
--- Which step of an element each call asks for. One that only tells leaves everything as it is, and so whatever holds.
+-- Which step of an element each call asks for. A step that only reports leaves everything as it is, and so whatever holds.
 use Rattle.std.proofs.Common.{◌≡◌, ◌⊎◌, inl, inr, ℕ, List, [], Option, Some, None, Ok, Err, slice_get, slice_set, refl, sym, ap, ◌∙◌, subst}
 use Rattle.std.specs.Option.{option_map_or}
 use Rattle.evl_base.specs.declared.call.Call.{Call}
@@ -26,7 +26,7 @@ use Rattle.evl_kernel.proofs.calls.LeavesLaws.{Leaves}
 use Rattle.evl_kernel.proofs.calls.QueueLaws.{IsAsked, asks_get, asks_put, asks_take, asks_post, asks_write, asks_read, asks_release}
 use Rattle.evl_kernel.proofs.state.SetLaws.{set_same}
 
--- a step that only tells: all elements stay as they are, and it ends nobody's wait
+-- a step that only reports: all elements stay as they are, and it ends nobody's wait
 pub record OnlyTells (step : ElementStep) : Type 0 where
   pub stays : (e after : Elements) (reply : Reply) → element e step ≡ Ok (reply, after) → e ≡ after
   pub nobody : (e : Elements) → wakes e step ≡ []
@@ -77,7 +77,7 @@ abbrev pub MayRaise : State → ElementStep → Type 0
 MayRaise s (on_mutex n (mutex.raise thread)) = raiser_refusal s thread n ≡ None
 MayRaise s _ = Unit {0}
 
--- a step that a call asks for: it only tells, or it is one of those that change an element, and no raise
+-- a step that a call asks for: it only reports, or it is one of those that change an element, and no raise
 abbrev pub IsCalled : ElementStep → Type 0
 IsCalled step = OnlyTells step ⊎ (IsAsked step × ((s : State) → MayRaise s step))
 
@@ -86,7 +86,7 @@ AsksPlainly (on_element step) = IsCalled step
 AsksPlainly (on_staged step_from) = (caller : ℕ) (stage : Stage) → IsCalled (step_from caller stage)
 AsksPlainly _ = Unit {0}
 
--- of all calls; one that only tells is named here, and in no other law of all calls
+-- of all calls; a call that only reports is named here, and in no other law of all calls
 pub asks : (asked : Call) → AsksPlainly (task_of asked)
 asks (call.Peek sem) = inl (tells_sem sem.0 semaphore.peek (λ q. refl) (λ q. refl))
 asks (call.PeekFlags flags) = inl (tells_flags flags.0 group.peek (λ f. refl) (λ f. refl))

@@ -261,7 +261,7 @@ record Moves (at : Settling) (one : Play) (mid : Settling) : Type 0 where
   is : next_move at ≡ Some (record { play = one; touches = touches }, mid)
   tells : Tells at.state touches mid.state
 
--- the same of a play with where it leads
+-- a play with its steps of elements and where it leads
 record MovesTo (at : Settling) (x : Play × Settling) : Type 0 where
   touches : List Touch
   is : next_move at ≡ Some (moving touches x)

@@ -30,7 +30,7 @@ pub walk_goes : (ws : List FlagWaiter) (bits : ℕ) → AreRanked of (λ (w : Fl
 walk_goes [] bits ranked = record { left = λ t is. absurd (false≢true is); same = λ t is. refl }
 walk_goes (w ∷ ws) bits ranked = by (bits_taken w.kind bits) (walk_of ws (left_of bits (bits_taken w.kind bits))) (walk_goes ws (left_of bits (bits_taken w.kind bits)) ranked.2)
   where
-    -- who stands behind isn't the first
+    -- each thread after the first is another one
     apart : (t : ℕ) → stands_in of t ws ≡ true → (w.thread == t) ≡ false
     apart t stands = test (w.thread == t) refl
       where

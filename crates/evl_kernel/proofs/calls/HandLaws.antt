@@ -1,4 +1,4 @@
--- The recorded owners are told base ranks, and the scheduler is given the effective ones.
+-- The recorded owners get the base ranks, and the scheduler gets the effective ones.
 use Rattle.std.proofs.Common.{◌≡◌, ◌≢◌, ◌≤◌, ◌<◌, ℕ, zero, suc, ◌==◌, Bool, true, false, List, [], ◌∷◌, length, Option, Some, None, is_some, slice_index, slice_index_or, slice_set, refl, ap, ◌∙◌, subst, arith}
 use Rattle.std.specs.Option.{option_map_or}
 use Rattle.std.proofs.lemmas.Bool.{false≢true}
@@ -24,7 +24,7 @@ given-rank r thread rank sound attached =
     let low : thread < length r.given = omega (arith, sound.same, attached-low r.sched thread attached) in
     ap (λ (given : Option ℕ). option_map_or (λ rank. rank) given (base_of r.sched thread)) (get_or-set_same r.given thread (Some rank) None low)
 
--- the base rank of one thread is told
+-- the recorded owners get the base rank of one thread
 pub base-told : (base : List ℕ) (s : Sched) (thread : ℕ) → length base ≤ thread_limit → length s.seats ≤ length base → thread < length base
     → ((t : ℕ) → t ≢ thread → slice_index base t ≡ base_of s t) → AreTold (slice_set base thread (base_of s thread)) s
 base-told base s thread size few there others = record {

@@ -108,7 +108,7 @@ module _ (o : Owners) (n : ℕ) (m : Mutex) (at : slice_get o.mutexes n ≡ Some
           (record { sound = sound-idle o n m at is (Some thread) (idle free (is_nobody m.waiters) refl) (λ some. ceiling); goes = same_queue in_mutex m (recorded.raised_mutex m thread) (λ t. refl) })
       by false c ceiling free made = absurd (err_ok made)
 
-  -- a thread that stands nowhere begins to wait, where that closes no ring
+  -- a thread that is in no queue begins to wait, where that closes no ring
   pub claim_sound : (w : Waiter) (owner : ℕ) → ((k : ℕ) → stands_at in_mutex o.mutexes k w.thread ≡ false) → is_open_to owner m ≡ true → w.thread < length o.base → owner ≢ w.thread
       → reaches (length o.base) (waits_for o.mutexes) owner w.thread ≡ false → IsSound (with_mutex o n (recorded.claimed_mutex m w owner))
   claim_sound w owner away free below differs none =

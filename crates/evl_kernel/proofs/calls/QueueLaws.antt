@@ -277,7 +277,7 @@ module _ (e : Elements) (h : AreSound e) (thread : ℕ) where
   dropped_as : (on : Awaited) (served : List (ℕ × Reply)) (after : Elements) → woken_by on ≡ served → dropped_from on ≡ after → Dropped e on thread served after → Dropped e on thread (woken_by on) (dropped_from on)
   dropped_as on served after woken same it = subst (λ (z : Elements). Dropped e on thread (woken_by on) z) (sym same) (subst (λ (ws : List (ℕ × Reply)). Dropped e on thread ws after) (sym woken) it)
 
-  -- where there is no such element nobody stands there
+  -- where there is no such element, nobody is in its queue
   nothing_there : (on : Awaited) → stands_for e on thread ≡ false → woken_by on ≡ [] → dropped_from on ≡ e → Dropped e on thread (woken_by on) (dropped_from on)
   nothing_there on none nobody same = dropped_as on [] e nobody same (record { sound = h; drops = record { gone = none; left = λ t is. absurd (false≢true is); same = λ other t ne is. refl; old = λ other t is. is } })
 

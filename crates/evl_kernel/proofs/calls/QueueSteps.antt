@@ -53,7 +53,7 @@ module _ {X : Type 0} (has : X → ℕ → Bool) (xs : List X) (n : ℕ) (q p : 
       by true is = subst P (same_Some _ _ (sym (set_here xs n q p here) ∙ (ap (slice_get (slice_set xs n p)) (eqb-true n m is) ∙ at))) new
       by false is = all m x (sym (set_there xs n m p is) ∙ at)
 
--- the thread stood in a queue, and stands there no more
+-- the thread was in a queue, and no longer is
 pub record Gone (e : Elements) (thread : ℕ) (after : Elements) : Type 0 where
   pub on : Awaited
   pub stood : stands_for e on thread ≡ true
@@ -105,7 +105,7 @@ drops_old before after thread one t is = by (t == thread) refl
     by true same = absurd (false≢true (sym one.gone ∙ (ap after (sym (eqb-true t thread same)) ∙ is)))
     by false ne = sym (one.same t ne) ∙ is
 
--- The n-th of a kind changes. Whoever waits for something waits for one of this kind, or stands there as before.
+-- The n-th of a kind changes. Each thing to wait for is of this kind, or the same threads wait for it as before.
 module _ {X : Type 0} (has : X → ℕ → Bool) (xs : List X) (n : ℕ) (q p : X) (here : slice_get xs n ≡ Some q) (of : ℕ → Awaited) (e after : Elements)
     (before_is : (m t : ℕ) → stands_for e (of m) t ≡ stands_at has xs m t) (after_is : (m t : ℕ) → stands_for after (of m) t ≡ stands_at has (slice_set xs n p) m t)
     (either : (on : Awaited) → ((m : ℕ) × (on ≡ of m)) ⊎ ((t : ℕ) → stands_for after on t ≡ stands_for e on t)) where

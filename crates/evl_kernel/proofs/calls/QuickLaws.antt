@@ -33,21 +33,21 @@ module _ {C : Type 0} (declared : C → ℕ) (plan : C → Plan) (r : RecordsVie
           ap (λ (o : Option Refusal). refused_by o (serving (state_of r) caller asked).effect) passes
           ∙ (ap (λ (t : Told). t.effect) is ∙ asked_done r h step asks reply after made [] nobody)
 
--- what was read, twice, is told of the elements before and after
-abbrev pub IsRead : Elements → ElementStep → ElementsView → Items ℕ × Items ℕ → Type 0
-IsRead before step after two = element before step ≡ Ok (bytes_told two.0.items, after.elements)
+-- the step answers what was read, and leads from the elements before to those after
+abbrev pub IsRead : Elements → ElementStep → ElementsView → Items ℕ → Type 0
+IsRead before step after read = element before step ≡ Ok (bytes_told read.items, after.elements)
 
 -- a read, where it was done
-pub read_sound : {C : Type 0} (r : RecordsView C) (h : IsSound r) (step : ElementStep) (asks : IsAsked step) (after : ElementsView) (m n : ℕ) (got : Option (Items ℕ × Items ℕ))
+pub read_sound : {C : Type 0} (r : RecordsView C) (h : IsSound r) (step : ElementStep) (asks : IsAsked step) (after : ElementsView) (m n : ℕ) (got : Option (Items ℕ))
     → IfSome got (IsRead r.elements.elements step after) → owners_of after ≡ owners_of r.elements → IfNone got ((after ≡ r.elements) × (m ≡ n)) → IsSound (record r { elements = after })
 read_sound r h step asks after m n None made owners kept = subst (λ (e : ElementsView). IsSound (record r { elements = e })) (sym kept.0) h
-read_sound r h step asks after m n (Some two) made owners kept = asked_sound r h step asks (Bytes two.0) after made owners
+read_sound r h step asks after m n (Some read) made owners kept = asked_sound r h step asks (Bytes read) after made owners
 
-pub quick_read : {C : Type 0} (declared : C → ℕ) (plan : C → Plan) (r : RecordsView C) (h : IsSound r) (caller : ℕ) (step : ElementStep) (asks : IsAsked step) (after : ElementsView) (got : Option (Items ℕ × Items ℕ))
+pub quick_read : {C : Type 0} (declared : C → ℕ) (plan : C → Plan) (r : RecordsView C) (h : IsSound r) (caller : ℕ) (step : ElementStep) (asks : IsAsked step) (after : ElementsView) (got : Option (Items ℕ))
     → IfSome got (IsRead r.elements.elements step after) → IfSome got (λ _. wakes r.elements.elements step ≡ [])
     → (asked : Call) → serving (state_of r) caller asked ≡ touched (state_of r) (Some caller) step → general_refusal (state_of r) caller asked ≡ None
     → (is_none (least r.lines.oob.pending) && is_none (least r.lines.inband.pending)) ≡ true
-    → IfSome got (λ two. Step (state_of r) caller asked (Ok (Bytes two.0)) [] (state_of (record r { elements = after })))
+    → IfSome got (λ read. Step (state_of r) caller asked (Ok (Bytes read)) [] (state_of (record r { elements = after })))
 quick_read declared plan r h caller step asks after None made nobody asked is passes calm = tt
-quick_read declared plan r h caller step asks after (Some two) made nobody asked is passes calm =
-    quick_step declared plan r h caller step asks (Bytes two.0) after made nobody asked is passes calm
+quick_read declared plan r h caller step asks after (Some read) made nobody asked is passes calm =
+    quick_step declared plan r h caller step asks (Bytes read) after made nobody asked is passes calm

@@ -39,7 +39,7 @@ abbrev pub in_queue : Queue → Xbuf → ℕ → Bool
 in_queue (reading way) = in_readers way
 in_queue (writing way) = in_writers way
 
--- the thread stood in one of them, and stands there no more
+-- the thread was in one of them, and no longer is
 pub record Gone (x : Xbuf) (thread : ℕ) (y : Xbuf) : Type 0 where
   pub queue : Queue
   pub stood : in_queue queue x thread ≡ true
@@ -107,7 +107,7 @@ module _ (x : Xbuf) where
   with_way In s = refl
   with_way Out s = refl
 
-  -- one way changes: who stands in it as before stands in all queues as before
+  -- one way changes: a thread that is in its queues as before is in all queues as before
   same_queues : (way : Way) (after : Stream) (q : Queue) (t : ℕ) → reads t after ≡ reads t (stream x way) → writes t after ≡ writes t (stream x way) → in_queue q (with_stream x way after) t ≡ in_queue q x t
   same_queues In after (reading In) t r w = r
   same_queues In after (reading Out) t r w = refl
@@ -174,7 +174,7 @@ module _ (x : Xbuf) where
     old_after : (q : Queue) (t : ℕ) → in_queue q (with_stream x way after) t ≡ true → in_queue q x t ≡ true
     old_after q t = old_queues way after q t (λ is. old_reads t (reads_after t is)) (λ is. old_writes t (writes_after t is))
 
-    -- who isn't served stands as the change left it
+    -- a thread that isn't served is where the change left it
     same_after : (q : Queue) (t : ℕ) → is_served t told ≡ false → reads t changed ≡ reads t (stream x way) → writes t changed ≡ writes t (stream x way)
         → in_queue q (with_stream x way after) t ≡ in_queue q x t
     same_after q t is r w =
@@ -239,7 +239,7 @@ at_once_as x y queue thread outcome woken left = record { sound = left.sound; at
 waits_as : (x y : Xbuf) (queue : Queue) (thread : ℕ) → IsSoundXbuf y → Came x y queue thread → Begun x y queue thread None []
 waits_as x y queue thread sound came = record { sound = sound; at_once = λ told is. absurd (none-some _ is); waits = λ none. came; quiet = λ none. refl }
 
--- who stands in a queue that one came to
+-- which threads are in a queue that one more came to
 stands_last : {A : Type 0} (of : A → ℕ) (ws : List A) (w : A) (t : ℕ) → stands_in of t (ws ++ w ∷ []) ≡ (stands_in of t ws || (of w == t))
 stands_last of [] w t = or_nothing (of w == t)
   where

@@ -20,7 +20,7 @@ use Rattle.evl_kernel.specs.settling.Fires.{FollowsByCalls, AddsByCalls}
 use Rattle.evl_kernel.specs.settling.Settled.{Appends, Performs}
 use Rattle.evl_kernel.specs.histories.Histories.{History, opened_kernel, Run, Follows, Step, EntryStep, IsLegal, Extends}
 
--- two lists behind the same one
+-- two lists after the same one
 append_cancel : {A : Type 0} (xs ys zs : List A) → xs ++ ys ≡ xs ++ zs → ys ≡ zs
 append_cancel [] ys zs e = e
 append_cancel (x ∷ xs) ys zs e = append_cancel xs ys zs (rest_is e)
@@ -50,7 +50,7 @@ pub refused_step : (old : State) (caller : ℕ) (asked : Call) (refusal : Refusa
     → Answers old caller asked (Err refusal) new → Step old caller asked (Err refusal) [] new
 refused_step old caller asked refusal new (is, same) = subst (λ (e : Effect). Follows old e (Err refusal) [] new) (sym is) (refl, refl, same)
 
--- a history with the entry of one step behind it
+-- a history with the entry of one step after it
 pub one_more_entry : (old new : History) (caller : ℕ) (asked : Call) (result : Result Reply Refusal) (plays : List Play)
     → new.board ≡ old.board → new.bank ≡ old.bank → new.entries ≡ old.entries ++ entry_of caller asked result plays ∷ [] → new.plays ≡ old.plays ++ plays
     → Step old.state caller asked result plays new.state → length plays ≤ play_limit → Adds old caller asked result plays new

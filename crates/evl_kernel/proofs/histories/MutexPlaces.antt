@@ -43,7 +43,7 @@ count_along : (e : Elements) (made : List (Made ElementStep)) (after : Elements)
 count_along e [] after run = ap count_in run
 count_along e (one ∷ others) after run = count_along (if_done e (element e one.step)) others after run.1 ∙ count_after e one.step
 
--- of a mutex that the board doesn't have the readers tell nobody
+-- the readers report nobody for a mutex that the board doesn't have
 module _ (h : History) (legal : IsLegal h) (n : ℕ) (out : length h.board.mutexes.items ≤ n) where
   count_is : length h.state.elements.mutexes ≡ length h.board.mutexes.items
   count_is = count_along (elements (opened_kernel h)) (touches h) (elements h.state) (elements_run h legal) ∙ length-map h.board.mutexes.items opened_mutex

@@ -1,4 +1,4 @@
--- What of the records doesn't tell how far the in-band stage is: each change of it follows from it alone.
+-- The records but for how far the in-band stage is: each change of them follows from them alone.
 use Rattle.std.proofs.Common.{◌≡◌, ℕ, zero, suc, ◌==◌, nat_le, nat_lt, Bool, true, false, not, ◌&&◌, ◌||◌, List, [], ◌∷◌, map, Option, Some, None, Result, Ok, Err, is_some, unwrap_or, slice_get, slice_set, slice_index_or, if◌then◌else◌, refl, sym, ap, ◌∙◌}
 use Rattle.std.specs.Option.{option_map, option_map_or}
 use Rattle.std.proofs.lemmas.List.{map-set}
@@ -88,7 +88,7 @@ some-uncounted : (o : Option (lines.Installed ℕ)) → is_some (option_map unco
 some-uncounted None = refl
 some-uncounted (Some at) = refl
 
--- whether a callback stands somewhere
+-- whether a line has a callback
 stands-bare : (xs : Table) (line : ℕ) → is_some (slice_index_or (bare xs) line None) ≡ is_some (slice_index_or xs line None)
 stands-bare xs line = ap is_some (lookup-map uncounted xs line) ∙ some-uncounted (slice_index_or xs line None)
 
@@ -241,7 +241,7 @@ out-line s (post stage line) = out-post s stage line
 out-line s (stall stage) = out-stall s stage
 out-line s (unstall stage) = out-unstall s stage
 
--- what a number is told of
+-- an answer that is a number
 out-tells : (n : ℕ) (s : State) → out (tells n s) ≡ out (tells n (outside s))
 out-tells n s = ap (λ (x : State). Ok (reply.Number n, x)) (sym (outside_twice s))
 

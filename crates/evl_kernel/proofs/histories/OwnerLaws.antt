@@ -1,4 +1,4 @@
--- In every legal history whoever is recorded at a mutex is attached, and ranks are the effective ones.
+-- In every legal history each thread that is recorded at a mutex is attached, and ranks are the effective ones.
 use Rattle.std.proofs.Common.{◌≡◌, ◌≤◌, ◌<◌, ℕ, zero, suc, ◌==◌, Bool, true, false, ◌||◌, List, [], ◌∷◌, Option, Some, None, is_some, option_map, Result, Ok, Err, slice_get, slice_set, slice_index_or, if◌then◌else◌, refl, sym, ap, ◌∙◌, subst}
 use Rattle.std.specs.List.{list_any}
 use Rattle.std.specs.Option.{option_map_or}
@@ -69,7 +69,7 @@ use Rattle.evl_kernel.proofs.waiting.WaitRecords.{index_there}
 abbrev HasSeat : List (Option Seat) → ℕ → Type 0
 HasSeat seats t = is_some (slice_index_or seats t None) ≡ true
 
--- whoever is recorded at a mutex is attached
+-- each thread that is recorded at a mutex is attached
 abbrev AreSeated : State → Type 0
 AreSeated s = OfAll (HasSeat s.sched.seats) s.elements.mutexes
 

@@ -61,7 +61,7 @@ use Rattle.evl_kernel.proofs.histories.StateWalk.{KeptByEach, KeptByOwn, run_hol
 use Rattle.evl_kernel.proofs.histories.StageLaws.{kept_by_each, kept_by_own, seats_are}
 use Rattle.evl_kernel.proofs.waiting.DeadlineLaws.{dates_at}
 
--- what is told of each element stays, where it stays of the one that is written
+-- what is said of each element stays, where it stays for the one that is written
 module _ {X B : Type 0} (f : X → B) where
   map-kept : (xs : List X) (n : ℕ) (x y : X) → slice_get xs n ≡ Some x → f y ≡ f x → map f (slice_set xs n y) ≡ map f xs
   map-kept xs n x y there same =

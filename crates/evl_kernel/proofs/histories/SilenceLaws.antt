@@ -1,4 +1,4 @@
--- Where no callback that is requested in-band has actions, none that stands in-band has, and what is pending has a
+-- Where no callback that is requested in-band has actions, no callback that is in-band has, and what is pending has a
 -- callback: each call and each play keeps that.
 use Rattle.std.proofs.Common.{◌≡◌, ◌≢◌, ℕ, zero, suc, ◌==◌, ◌<◌, nat_lt, ◌⊎◌, inl, inr, Bool, true, false, not, List, [], ◌∷◌, Option, Some, None, is_some, unwrap_or, slice_get, slice_set, if◌then◌else◌, refl, sym, ap, ◌∙◌, subst, arith}
 use Rattle.std.specs.Option.{option_map_or}
@@ -39,7 +39,7 @@ use Rattle.evl_kernel.proofs.calls.ThreadSteps.{leaves-threads}
 use Rattle.evl_kernel.proofs.waiting.WaitSteps.{KeptByWakes, kept-deadline, leaves-touched, leaves-beginning, leaves-finish, timed-by, leaves-raising}
 use Rattle.evl_kernel.proofs.waiting.StandingLaws.{OnlyOld, Stood, old-posted, old-arrived, old-stalled, old-unstalled, old-cleared, old-freed, old-played, new-requested}
 
--- the plans are those at the beginning, no callback that stands in-band has actions, and what is pending has a callback
+-- the plans are those at the beginning, no callback that is in-band has actions, and what is pending has a callback
 pub record IsSilent (start s : State) : Type 0 where
   pub plans : (number : ℕ) → plan_at s number ≡ plan_at start number
   pub silent : (line : ℕ) (at : lines.Installed ℕ) → lines.installed_at s.lines Inband line ≡ Some at → (plan_at start at.callback).rows.items ≡ []
@@ -84,7 +84,7 @@ plan-moved (x ∷ xs) (suc number) home b zero here = refl
 plan-moved (x ∷ xs) (suc number) home b (suc other) here = plan-moved xs number home b other here
 
 module _ (start : State) where
-  -- other lines on which nothing new stands
+  -- other lines with nothing new on them
   silent-lines : (s : State) (q : lines.Pipeline ℕ) → IsSilent start s → OnlyOld s.lines q → lines.IsSoundPipeline q → IsSilent start (with_lines s q)
   silent-lines s q h old sound = record {
     plans = h.plans;
@@ -210,7 +210,7 @@ module _ (start : State) where
   pub silent-item : (s : State) (found : Item) → IsSilent start s → next_due s.clock ≡ Some found → IsSilent start (item_played s found).1
   silent-item s found h due = leaves-item (IsSilent start) kept_silent (λ s n t h there. silent-clock s _ h) (kept-deadline (IsSilent start) kept_waiting) silent-answered s found h due
 
-  -- what is pending in-band stands there
+  -- a line that is pending in-band has a callback there
   pub inband_there : (s : State) (line : ℕ) → IsSilent start s → lines.is_pending s.lines Inband line ≡ true → (at : lines.Installed ℕ) × (lines.installed_at s.lines Inband line ≡ Some at)
   inband_there s line h pends = by (lines.installed_at s.lines Inband line) (h.sound.stands Inband line pends)
     where

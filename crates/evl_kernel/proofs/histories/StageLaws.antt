@@ -38,7 +38,7 @@ use Rattle.evl_kernel.proofs.waiting.WaitSteps.{KeptByWakes, kept-deadline, leav
 use Rattle.evl_kernel.proofs.histories.StateWalk.{KeptByEach, KeptByOwn, follows_holds, holds-answer, run_holds}
 use Rattle.evl_kernel.specs.calls.ThreadCalls.{detach_refusal}
 
--- whatever is said of the scheduler's record alone, and stays true when whoever is picked pays and whoever is ready
+-- whatever is said of the scheduler's record alone, and stays true when the picked thread pays and when others are ready
 module _ (Q : Sched → Type 0) (pays : (rank : ℕ → ℕ) (q : Sched) (before delta now : ℕ) → Q q → Q (refilled_at before now (charged rank q delta))) (queues : (q : Sched) (ready : List ℕ) → Q q → Q (record q { ready = ready })) where
   abbrev pub Holds : State → Type 0
   Holds s = Q s.sched

@@ -207,14 +207,14 @@ stranger_is_unknown = refl
 abbrev spurious_after : List Call → ℕ → ℕ
 spurious_after calls line = count_at (led (start []) calls).lines.spurious line
 
--- a post in-band where the callback stands out-of-band, an arrival where none stands, and a post in-band on line 0
+-- a post in-band where the callback is out-of-band, an arrival where there is none, and a post in-band on line 0
 spurious_events : spurious_after (Request (record { 0 = 6 }) Oob 0 0 ∷ Post Inband (record { 0 = 6 }) ∷ []) 6
     ∷ spurious_after (Arrive (record { 0 = 6 }) ∷ Arrive (record { 0 = 6 }) ∷ []) 6
     ∷ spurious_after (Post Inband (record { 0 = 0 }) ∷ []) 0 ∷ [] ≡ 1 ∷ 2 ∷ 1 ∷ []
 unfolding next_move lines.opening clocks.opening next_due threads.opening rank_by
 spurious_events = refl
 
--- so do actions that post where no callback stands
+-- so do actions that post where there is no callback
 spurious_actions : spurious_after (Request (record { 0 = 3 }) Oob 3 0 ∷ Arrive (record { 0 = 3 }) ∷ []) 3
     ∷ spurious_after (Request (record { 0 = 3 }) Inband 4 0 ∷ Arrive (record { 0 = 3 }) ∷ []) 4 ∷ [] ≡ 1 ∷ 1 ∷ []
 unfolding next_move lines.opening clocks.opening next_due threads.opening rank_by
@@ -330,7 +330,7 @@ own_history : part (its_sem 0) (touches_of putting (
 unfolding next_move lines.opening clocks.opening next_due threads.opening rank_by
 own_history = refl
 
--- what timer 0 does, as the reader tells it
+-- what timer 0 does, as the reader answers it
 abbrev timer_state : State → Option TimerState
 timer_state s = option_map (λ t. t.state) (clocks.timer_at s.clock 0)
 

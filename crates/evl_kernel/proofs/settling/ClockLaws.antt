@@ -1,4 +1,4 @@
--- Other names for what stands in timers: each change of the clock comes to the same before and after the renaming.
+-- Other names for the callbacks in timers: each change of the clock comes to the same before and after the renaming.
 use Rattle.std.proofs.Common.{◌≡◌, ℕ, zero, suc, ◌+◌, min, nat_lt, Bool, cond, List, [], ◌∷◌, ◌++◌, length, map, replicate, Option, Some, None, is_some, is_none, if◌then◌else◌, refl, sym, ap, ◌∙◌}
 use Rattle.std.specs.List.{position_or_len}
 use Rattle.std.specs.Option.{option_map}

@@ -40,7 +40,7 @@ use Rattle.evl_kernel.proofs.settling.PlayLaws.{plan_told, oob_pending, due_in, 
 use Rattle.evl_kernel.proofs.state.SetLaws.{set_twice}
 
 module _ {C : Type 0} (declared : C → ℕ) (plan : C → Plan) where
-  -- a callback in a timer declares and answers what is told of its number
+  -- a callback in a timer declares and answers what the bank says of its number
   timed_told : (r : RecordsView C) (n : ℕ) (at : Timer (Numbered C)) → AnswersByPlan declared plan (whereabouts r) → timer_at r.clock n ≡ Some at
       → (plan_at (state_of r) at.callback.number ≡ plan at.callback.callback) × (kinds_at (state_of r) at.callback.number ≡ declared at.callback.callback)
   timed_told r n at answers here = plan_told r at.callback.number (record { kinds = declared at.callback.callback; plan = plan at.callback.callback })
@@ -162,7 +162,7 @@ item_of_clock s (item.Timer id) = record { of_clock = refl; stage = refl }
 item_of_clock s (item.Deadline thread) = record { of_clock = refl; stage = refl }
 
 module _ {C : Type 0} where
-  -- behind a play of the clock a due item is played
+  -- after a play of the clock a due item is played
   pub item_goes : (r t : RecordsView C) (inband : ℕ) (one : Play) → due_played (state_of r) ≡ Some (one, state_of t)
       → next_play (settling r inband true) ≡ Some (one, settling t (inband + one_inband (stage_of one)) (is_of_clock one))
   unfolding next_play

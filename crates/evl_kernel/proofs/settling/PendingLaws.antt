@@ -323,7 +323,7 @@ held_of at h none = by at.in_clock refl
         let nothing_due : next_due at.state.clock ≡ None = sym (ap (λ (b : Bool). if b then next_due at.state.clock else None) is) ∙ none in
         absurd (omega (arith, due, nothing_zero at.state.clock nothing_due))
 
--- behind a play of the clock something is due, or the clock's play is over
+-- after a play of the clock something is due, or the clock's play is over
 held_over : (at : Settling) (stage : Stage) (p : Play × State) → is_of_clock p.0 ≡ true → HeldIn (going_on at stage p).1
 held_over at stage p of_clock over due =
     absurd (omega (arith, due, not_due_zero p.1.clock (ap (λ (b : Bool). b && is_due p.1.clock) (sym of_clock) ∙ over)))

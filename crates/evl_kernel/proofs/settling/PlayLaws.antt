@@ -217,7 +217,7 @@ next-least p eligible inband line h = next_cases p eligible inband Oob line h
 pub next-allowed : {X : Type 0} (p : lines.Pipeline X) (eligible inband : Bool) (line : ℕ) → lines.next_line p eligible inband ≡ Some (Inband, line) → inband ≡ true
 next-allowed p eligible inband line h = next_cases p eligible inband Inband line h
 
--- what a callback on a line answers is what is told of its number
+-- what a callback on a line answers is what the bank says of its number
 pub plan_told : {C : Type 0} (r : RecordsView C) (n : ℕ) (h : Handler) → slice_get (handlers_in r.bank) n ≡ Some h → (plan_at (state_of r) n ≡ h.plan) × (kinds_at (state_of r) n ≡ h.kinds)
 plan_told r n h is =
     let place = place_told r.bank n h is in (
@@ -226,7 +226,7 @@ plan_told r n h is =
     )
 
 module _ {C : Type 0} (declared : C → ℕ) (plan : C → Plan) where
-  -- a callback on a line declares and answers what is told of its number
+  -- a callback on a line declares and answers what the bank says of its number
   pub out_told : (r : RecordsView C) (stage : Stage) (line : ℕ) (at : lines.Installed (Numbered C)) → AnswersByPlan declared plan (whereabouts r) → lines.installed_at r.lines stage line ≡ Some at
       → (plan_at (state_of r) at.callback.number ≡ plan at.callback.callback) × (kinds_at (state_of r) at.callback.number ≡ declared at.callback.callback)
   out_told r stage line at answers here = plan_told r at.callback.number (record { kinds = declared at.callback.callback; plan = plan at.callback.callback })
@@ -280,7 +280,7 @@ module _ {C : Type 0} (declared : C → ℕ) (plan : C → Plan) where
       line_step r inband stage line at p.chosen p.not_clock p.stands
       ∙ (ap (λ (a : Answer). Some (going_on (settling r inband false) stage (with_answer r stage line at a))) is_answer ∙ said)
 
-  -- the callback that stands there was called
+  -- the callback that is there was called
   pub line_called : (gives : C → Fire → Answer → Type 0) (r : RecordsView C) (inband now : ℕ) (fire : Fire) (answer : Answer) (q : lines.Pipeline (Numbered C))
       → now ≡ date (state_of r) → AnswersByPlan declared plan (whereabouts r)
       → (p : lines.PlaysLine (λ (n : Numbered C). declared n.callback) (λ (n : Numbered C). plan n.callback) (λ (n : Numbered C). gives n.callback) r.lines (is_anyone_eligible r.sched.sched) (nat_lt inband inband_limit) now fire answer q)
@@ -363,7 +363,7 @@ module _ {C : Type 0} (declared : C → ℕ) (plan : C → Plan) where
           other : Inband ≡ Oob → ⊥
           other e = cc
 
--- nothing else stands after a play
+-- nothing else is on the lines after a play
 pub clock_old : {C : Type 0} (r : RecordsView C) (q : lines.Pipeline (Numbered C)) → q ≡ lines.with_side r.lines Oob (lines.cleared r.lines.oob 0) → OnlyOld r.lines q
 clock_old r q after = subst (OnlyOld r.lines) (sym after) (old-cleared r.lines Oob 0)
 

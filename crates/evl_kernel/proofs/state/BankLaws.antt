@@ -42,7 +42,7 @@ set-same (y ∷ ys) zero x h = ap (λ z. z ∷ ys) (sym (same_Some _ _ h))
 set-same (y ∷ ys) (suc i) x h = ap (λ zs. y ∷ zs) (set-same ys i x h)
 
 module _ {C : Type 0} where
-  -- the place of which something is told
+  -- the place that this handler is of
   pub place_told : (bank : List (BankPlace C)) (n : ℕ) (h : Handler) → slice_get (handlers_in bank) n ≡ Some h → (place : BankPlace C) × (slice_get bank n ≡ Some place) × (handler_of place ≡ h)
   place_told bank n h is = by (slice_get bank n) refl (sym (slice_get-map handler_of bank n) ∙ is)
     where
@@ -50,12 +50,12 @@ module _ {C : Type 0} where
       by None at e = absurd (none-some _ e)
       by (Some place) at e = (place, at, same_Some _ _ e)
 
-  -- what a callback that stands declares and answers is told of its place
+  -- what a callback declares and answers, wherever it is, is what its place says
   pub place_of : (declared : C → ℕ) (plan : C → Plan) (w : Whereabouts C) (n : ℕ) (callback : C) → AnswersByPlan declared plan w → Stands w n callback
       → (place : BankPlace C) × (slice_get w.bank n ≡ Some place) × (handler_of place ≡ record { kinds = declared callback; plan = plan callback })
   place_of declared plan w n callback answers stands = place_told w.bank n (record { kinds = declared callback; plan = plan callback }) (answers n callback stands)
 
-  -- what is told of a place doesn't depend on whether its callback is there
+  -- what a place says doesn't depend on whether its callback is there
   pub handlers-set : (bank : List (BankPlace C)) (n : ℕ) (place new : BankPlace C) → slice_get bank n ≡ Some place → handler_of new ≡ handler_of place → handlers_in (slice_set bank n new) ≡ handlers_in bank
   handlers-set bank n place new at same =
       map-set handler_of bank n new ∙ (ap (λ h. slice_set (handlers_in bank) n h) same
@@ -292,7 +292,7 @@ module _ {C : Type 0} where
       by None at e = absurd (none-some _ e)
       by (Some place) at e = (place, at, same_Some _ _ e)
 
-  -- a callback in its place declares what is told of the place
+  -- a callback in its place declares what the place says
   pub declared_is : (declared : C → ℕ) (plan : C → Plan) (w : Whereabouts C) (n : ℕ) (place : BankPlace C) (callback : C)
       → AnswersByPlan declared plan w → slice_get w.bank n ≡ Some place → place.callback ≡ Some callback → declared callback ≡ place.kinds.0
   declared_is declared plan w n place callback answers there has =

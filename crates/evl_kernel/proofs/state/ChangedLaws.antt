@@ -117,7 +117,7 @@ given-apart o q p thread seat kept seats given t other attached =
     let bases : base_of p.sched t ≡ base_of q.sched t = ap (λ (seat : Option Seat). option_map_or (λ seat. base_rank seat.policy) seat 0) same in
     (λ i. option_map_or (λ rank. rank) (given t other i) (bases i)) ∙ kept.given t (ap is_some (sym same) ∙ attached)
 
--- so they are where the base rank of one thread is told, which is noted
+-- so they are where the recorded owners get one thread's base rank, which is noted
 pub given-told : (o p : Owners) (r : Ranked) (thread : ℕ) (was noting now : ℕ → Bool) → ((t : ℕ) → noting t ≡ (was t || (t == thread)))
     → ((t : ℕ) → t ≢ thread → is_attached r.sched t ≡ true → ranks.rank_of r t ≡ owners.rank_of o t)
     → ChangesAreNoted noting now (owners.rank_of o) (owners.rank_of p) → AreGivenBut now r p

@@ -1,4 +1,4 @@
--- How often a callback's number is counted: once for its bank place, once for each line where it stands and once for each
+-- How often a callback's number is counted: once for its bank place, once for each line where it is and once for each
 -- timer that holds it; and what setting one entry of a table does to the count.
 use Rattle.std.proofs.Common.{◌≡◌, ℕ, zero, suc, ◌+◌, ◌==◌, ◌<◌, nat_lt, Bool, true, false, not, ◌||◌, cond, List, [], ◌∷◌, length, map, Option, Some, None, is_some, is_none, slice_get, slice_set, slice_index_or, if◌then◌else◌, refl, sym, ap, ◌∙◌, subst, arith}
 use Rattle.std.specs.Option.{option_map}
@@ -28,7 +28,7 @@ abbrev pub one_at : ℕ → Option (lines.Installed ℕ) → ℕ
 one_at n None = 0
 one_at n (Some at) = cond (at.callback == n) 1 0
 
--- how often a number stands in a table
+-- how often a number is in a table
 abbrev pub stood : ℕ → Table → ℕ
 stood n [] = 0
 stood n (x ∷ xs) = one_at n x + stood n xs

@@ -29,7 +29,7 @@ reaches-more next m n none low more from to = by (reaches n next from to) refl (
     by false e true f = reaches-complete next none n wide from to (reaches-sound next m from to f) ∙ sym f
     by false e false f = e ∙ sym f
 
--- whoever waits for an owner stands in a queue
+-- each thread that waits for an owner is in a queue
 waiter_stands : (ms : List Mutex) (from to : ℕ) → waits_for ms from ≡ Some to → (n : ℕ) × (stands_at in_mutex ms n from ≡ true)
 waiter_stands [] from to e = absurd (none_some e)
   where

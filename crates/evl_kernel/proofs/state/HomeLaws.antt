@@ -98,7 +98,7 @@ module _ {X : Type 0} (p : Pipeline X) (line : ℕ) where
   freed_or Oob Inband l = inr refl
   freed_or Inband Oob l = inr refl
 
-  -- where a line isn't freed, as it can't be, nothing stands there
+  -- where a line isn't freed, as it can't be, there is no callback
   unfreed_none : (stage : Stage) (refusal : Refusal) → line < line_count → installed_at p stage 0 ≡ None → free_refusal p line stage ≡ Some refusal → installed_at p stage line ≡ None
   unfreed_none stage refusal below clock = by (nat_lt line line_count) refl (line == 0) refl (installed_at p stage line) refl
     where
@@ -224,7 +224,7 @@ module _ (s : State) (places : HavePlaces s) (timer : ℕ) where
   drops_timer result t h = subst (λ (u : State). DropsTimer s u timer) (left_is s (timer_call.drop_timer s timer) result t h) drops
 
 module _ {C : Type 0} (declared : C → ℕ) (plan : C → Plan) where
-  -- what stands somewhere has its place, where the callbacks answer by plan
+  -- what is somewhere has its place, where the callbacks answer by plan
   pub have_places : (r : RecordsView C) → AnswersByPlan declared plan (whereabouts r) → HavePlaces (state_of r)
   have_places r answers n (p, is) = by p (stands_at r n p is)
     where

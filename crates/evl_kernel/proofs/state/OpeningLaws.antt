@@ -56,7 +56,7 @@ map-replicate : {A B : Type 0} (f : A → B) (n : ℕ) (x : A) → map f (replic
 map-replicate f zero x = refl
 map-replicate f (suc n) x = ap (λ xs. f x ∷ xs) (map-replicate f n x)
 
--- nothing stands on the lines of a new pipeline, under any names
+-- there is nothing on the lines of a new pipeline, under any names
 pub renamed-opening : {X Y : Type 0} (name : X → Y) → renamed name lines.opening ≡ lines.opening
 unfolding lines.opening
 renamed-opening {X} {Y} name =
@@ -143,7 +143,7 @@ module _ {C : Type 0} (declared : C → ℕ) (plan : C → Plan) where
   pub opening-handlers : (board : Board) (bank : List C) (r : RecordsView C) → IsOpened declared plan board bank r → opening board (handlers_in r.bank) ≡ opening board (map (handler_made declared plan) bank)
   opening-handlers board bank r opened = ap (opening board) (handlers-filled declared plan bank r.bank opened.filled)
 
--- nobody stands in a queue of a new element
+-- nobody is in a queue of a new element
 nobody_of : {C X : Type 0} (opened : C → X) (has : X → ℕ → Bool) → ((c : C) (t : ℕ) → has (opened c) t ≡ false) → (counts : List C) (n t : ℕ) → stands_at has (map opened counts) n t ≡ false
 nobody_of opened has none [] n t = refl
 nobody_of opened has none (c ∷ counts) zero t = none c t

@@ -64,7 +64,7 @@ module _ (size : ℕ) where
     pub sound : lines.IsSoundPipeline s.lines
     pub clock_sound : IsSoundClock s.clock
 
-  -- other lines on which the same stands
+  -- other lines with the same on them
   placed-lines : (s : State) (q : lines.Pipeline ℕ) → IsPlaced s → ((n : ℕ) → in_tables n q ≡ in_tables n s.lines) → lines.IsSoundPipeline q → IsPlaced (with_lines s q)
   placed-lines s q h same sound = record { once = λ n. omega (arith, h.once n, same n); size_is = h.size_is; sound = sound; clock_sound = h.clock_sound }
 
@@ -120,7 +120,7 @@ module _ (size : ℕ) where
       same : (n : ℕ) → (n == n) ≡ true
       same n = grind (arith, nat_tests)
 
-      -- it stands on the line alone
+      -- it is on the line alone
       away : (at : lines.Installed ℕ) (o : Option Banked) → line < line_count → lines.installed_at s.lines stage line ≡ Some at → slice_get s.bank at.callback ≡ o → (1 ≤ one_banked o) × (one_home o ≡ 0)
       away at o below there bank =
           let all : one_home o + (in_tables at.callback s.lines + timed at.callback s.clock.timers) ≡ one_banked o =
@@ -197,7 +197,7 @@ module _ (size : ℕ) where
       same : (n : ℕ) → (n == n) ≡ true
       same n = grind (arith, nat_tests)
 
-      -- it stands in the timer alone
+      -- it is in the timer alone
       away : (o : Option Banked) → slice_get s.bank t.callback ≡ o → (1 ≤ one_banked o) × (one_home o ≡ 0)
       away o bank =
           let all : one_home o + (in_tables t.callback s.lines + timed t.callback s.clock.timers) ≡ one_banked o =

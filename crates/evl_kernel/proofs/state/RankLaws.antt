@@ -75,7 +75,7 @@ pub ranks-handed : {n : ℕ} (o : Owners) (q p : Ranked) → RanksAreKept n o q 
     → AreGiven p (record { base = base; mutexes = mutexes }) → RanksAreKept n (record { base = base; mutexes = mutexes }) p
 ranks-handed o q p h base mutexes same kept given = record { size = ap length same ∙ h.size; told = subst (λ (b : List ℕ). AreTold b p.sched) (sym same) (subst (AreTold o.base) (sym kept) h.told); given = given }
 
--- The ranks as the recorded owners compute them, where these were told the base ranks: of however many threads, if only
+-- The ranks as the recorded owners compute them, where these got the base ranks: of however many threads, if only
 -- these wait, and nobody for itself.
 pub rank_told : (o : Owners) (s : Sched) → AreTold o.base s → HasNoRing (waits_for o.mutexes) → ((from to : ℕ) → waits_for o.mutexes from ≡ Some to → from < length o.base)
     → (thread : ℕ) → owners.rank_of o thread ≡ rank_by (base_of s) o.mutexes thread

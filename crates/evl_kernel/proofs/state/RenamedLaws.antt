@@ -1,4 +1,4 @@
--- Other names for what stands on the lines: each change comes to the same before and after the renaming.
+-- Other names for what is on the lines: each change comes to the same before and after the renaming.
 use Rattle.std.proofs.Common.{◌≡◌, ℕ, zero, suc, Bool, ◌||◌, ◌==◌, List, [], ◌∷◌, map, Option, Some, None, is_some, slice_index_or, refl, sym, ap, ◌∙◌}
 use Rattle.std.proofs.lemmas.List.{map-set}
 use Rattle.std.specs.Option.{option_map}

@@ -53,7 +53,7 @@ agree a b one = by (a == b) refl
         other : (a == b) ≡ true → ⊥
         other e = absurd (false≢true (sym is ∙ e))
 
--- what whoever is picked pays
+-- what the picked thread pays
 module _ {C : Type 0} (r : RecordsView C) (q : Ranked) (before delta now : ℕ) (h : IsSound r) where
   by_rank : charged (rank_of r.sched) r.sched.sched delta ≡ charged (effective_of (state_of r)) r.sched.sched delta
   by_rank = charged-alike (rank_of r.sched) (effective_of (state_of r)) r.sched.sched (given_as r h) delta
@@ -107,7 +107,7 @@ set_policy_answers q thread policy e h = policy_answers (is_thread q thread) (is
     last false r h = subst (λ (x : Refusal). IsAnswer (Err x)) (same_Some _ _ h) (refl, tt)
     last true r h = absurd (none-some _ h)
 
--- what is told of ranks and of who is picked
+-- what is answered about ranks and the picked thread
 module _ {C : Type 0} (r : RecordsView C) (h : IsSound r) where
   pub told_rank : (thread rank : ℕ) → stranger_refusal r.sched.sched thread ≡ None → rank ≡ rank_of r.sched thread → tell_rank (state_of r) thread ≡ Ok (Number rank, state_of r)
   told_rank thread rank passed is = rw passed (ap (λ (n : ℕ). Ok (Number n, state_of r)) (sym (is ∙ given_as r h thread (attached_of r.sched.sched thread passed))))

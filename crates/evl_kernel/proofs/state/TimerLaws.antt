@@ -85,7 +85,7 @@ module _ {X : Type 0} where
   pub old-with_deadline : (c : Clock X) (thread : ℕ) (until : Option ℕ) → OnlyOldTimers c (with_deadline c thread until)
   old-with_deadline c thread until n at h = (at, h, refl)
 
-  -- what stands in timers after one was made is what it brought, or stood there
+  -- what is in timers after one was made is what it brought, or was there
   pub new-timer : (c : Clock X) (n : ℕ) (callback : X) (tag other : ℕ) (at : Timer X) → timer_at (with_new_timer c n callback tag) other ≡ Some at → StoodIn c other at ⊎ (at.callback ≡ callback)
   new-timer c n callback tag other at h = by (set-lookup c.timers n other _ at h)
     where
@@ -134,7 +134,7 @@ module _ {C : Type 0} where
       let was = timers-renamed number_of r.clock d only n at h in
       subst (λ (k : ℕ). is_timer_allowed (kinds_at (state_of r) k) ≡ true) (sym was.2) (allowed n was.0 was.1)
 
-  -- what is told of the places stays, and no timer brings a callback
+  -- what the places say stays, and no timer brings a callback
   pub timers_allowed-kept : (r s : RecordsView C) → OnlyOldTimers r.clock s.clock → handlers_in s.bank ≡ handlers_in r.bank → AreTimersAllowed (state_of r) → AreTimersAllowed (state_of s)
   timers_allowed-kept r s only same allowed n at h =
       let was = timers-renamed number_of r.clock s.clock only n at h in

@@ -63,7 +63,7 @@ module _ (n : ℕ) (few : n ≤ thread_limit) (s : State) (h : IsProper n s) whe
           is_woken n (with_elements s after) (wakes (elements s) step) h.threads_are h.places (beside_after (wakes (elements s) step) after stepped)
           (away_after n (elements s) s.waits (kept_of n s few h) (wakes (elements s) step) after stepped)
 
-  -- A thread's wait ends over these elements, in which it stands nowhere, and then those of whom that served.
+  -- A thread's wait ends over these elements, where it is in no queue, and then end the waits of the threads that this served.
   ends_over : (thread : ℕ) (after : Elements) (served : List (ℕ × Reply)) → ProperBeside (with_elements s after) (λ t. (thread == t) || is_served t served) → ((on : Awaited) → stands_for after on thread ≡ false)
       → ((t : ℕ) → is_served t served ≡ true → (on : Awaited) → stands_for after on t ≡ false) → IsProper n (all_woken (with_elements (woken s thread TimedOut) after) served)
   ends_over thread after served beside away others = is_woken n (with_elements s after) ((thread, TimedOut) ∷ served) h.threads_are h.places beside (λ t is on. by t is on (thread == t) refl)
@@ -78,7 +78,7 @@ module _ (n : ℕ) (few : n ≤ thread_limit) (s : State) (h : IsProper n s) whe
 
   -- it leaves the queue in which it waited
   module _ (thread : ℕ) (w : Wait) (its : wait_at s thread ≡ Some w) (served : List (ℕ × Reply)) (after : Elements) (gone : Dropped (elements s) w.on thread served after) where
-    -- who stands there stood in just that queue
+    -- it was in just that queue, and so is in none
     left_away : (on : Awaited) → stands_for after on thread ≡ false
     left_away on = test (stands_for after on thread) refl
       where

@@ -51,7 +51,7 @@ use Rattle.evl_kernel.proofs.waiting.WaitLaws.{ProperBeside, proper_all, proper_
 use Rattle.evl_kernel.proofs.waiting.WaitRecords.{away_after, away_of, idle_away, index_here, index_there}
 use Rattle.evl_kernel.proofs.waiting.ProperLaws.{IsProper, is_woken, kept_of, proper_asked, proper_expired}
 
--- A thread whose wait doesn't go on is ready as its stage says, has no deadline, and stands nowhere.
+-- A thread whose wait doesn't go on is ready as its stage says, has no deadline, and is in no queue.
 module _ (n : ℕ) (few : n ≤ thread_limit) (s : State) (h : IsProper n s) (thread : ℕ) (over : over_if (wait_at s thread)) where
   pub ready_as : is_ready s.sched thread ≡ is_oob (stage_of s.sched thread)
   ready_as = h.proper.ready thread ∙ (ap (λ (c : Bool). is_oob (stage_of s.sched thread) && not c) over ∙ and-true (is_oob (stage_of s.sched thread)))
@@ -84,7 +84,7 @@ module _ (n : ℕ) (few : n ≤ thread_limit) (s : State) (h : IsProper n s) (th
   pub same_seat : ReadyAnew s.sched s.sched thread
   same_seat = record { itself = ready_as; others = λ t ne. refl; stages = λ t ne. refl }
 
--- what stands against a call, and what is known where nothing does
+-- what is against a call, and what is known where nothing is
 pub record Passed (s : State) (caller : ℕ) : Type 0 where
   pub idle : wait_at s caller ≡ None
   pub there : caller < s.threads
@@ -202,7 +202,7 @@ module _ (n : ℕ) (few : n ≤ thread_limit) where
         dated = λ t date is. dated_ t date is (t == caller) refl;
       }
         where
-          -- the caller stands for this alone
+          -- the caller waits for this alone
           alone : (other : Awaited) → (on ≡ other) ⊎ (stands_for (elements s) other caller ≡ true) → on ≡ other
           alone other (inl same) = same
           alone other (inr stood) = absurd (false≢true (sym (nowhere other) ∙ stood))

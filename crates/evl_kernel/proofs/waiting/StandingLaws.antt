@@ -1,4 +1,4 @@
--- What stands on the lines after a change stood there before, but for what a request brings.
+-- What is on the lines after a change was there before, but for what a request brings.
 use Rattle.std.proofs.Common.{◌≡◌, ℕ, zero, suc, ◌⊎◌, inl, inr, Bool, true, false, List, [], ◌∷◌, Option, Some, None, slice_set, slice_index_or, if◌then◌else◌, refl, sym, ap, subst}
 use Rattle.std.proofs.lemmas.Option.{none-some, same_Some}
 use Rattle.evl_base.specs.declared.stage.Stage.{Stage}
@@ -27,7 +27,7 @@ module _ {X : Type 0} where
   abbrev pub OnlyOld : Pipeline X → Pipeline X → Type 0
   OnlyOld p q = (stage : Stage) (line : ℕ) (at : Installed X) → installed_at q stage line ≡ Some at → Stood p stage line at
 
-  -- a side on which nothing else stands
+  -- a side with nothing else on it
   old-with : (p : Pipeline X) (stage : Stage) (s : Side X) → ((line : ℕ) (at : Installed X) → callback_on s line ≡ Some at → Stood p stage line at) → OnlyOld p (with_side p stage s)
   old-with p Oob s only Oob line at h = only line at h
   old-with p Oob s only Inband line at h = (at, h, refl)
@@ -75,7 +75,7 @@ module _ {X : Type 0} where
       by other now (inl old) = (now, old, refl)
       by other now (inr (same, is)) = (at, subst (λ (n : ℕ). installed_at p stage n ≡ Some at) (sym same) here, ap (λ (x : Installed X). x.callback) (sym (same_Some _ _ is)))
 
-  -- what stands after a request is what it brought, or stood there
+  -- what is on the lines after a request is what it brought, or was there
   pub new-requested : (p : Pipeline X) (line : ℕ) (stage : Stage) (callback : X) (tag : ℕ) (other_stage : Stage) (other : ℕ) (at : Installed X)
       → installed_at (requested p line stage callback tag) other_stage other ≡ Some at
       → Stood p other_stage other at ⊎ ((other_stage ≡ stage) × (at.callback ≡ callback))

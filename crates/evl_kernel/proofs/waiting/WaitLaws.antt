@@ -19,7 +19,7 @@ use Rattle.evl_kernel.specs.waiting.Standing.{AreSound, stands_for}
 use Rattle.evl_kernel.proofs.waiting.ReadyLaws.{ReadyAnew, ready-as}
 use Rattle.evl_kernel.proofs.waiting.WaitRecords.{index_there}
 
--- what stands where something was set: that, or nothing
+-- what is at a place that was set: what was set there, or nothing
 pub index_set : {A : Type 0} (xs : List (Option A)) (m : ℕ) (v : Option A) → (slice_index_or (slice_set xs m v) m None ≡ v) ⊎ (slice_index_or (slice_set xs m v) m None ≡ None)
 index_set [] m v = inr refl
 index_set (x ∷ xs) zero v = inl refl
@@ -57,7 +57,7 @@ proper_all s h = record {
   dated = λ t date. h.dated t date refl;
 }
 
--- Whatever becomes of a thread that stands nowhere, where its wait doesn't go on, it is ready as its stage says, and it has
+-- Whatever becomes of a thread that is in no queue, where its wait doesn't go on, it is ready as its stage says, and it has
 -- no deadline.
 module _ (s : State) (thread : ℕ) (others : ℕ → Bool) (h : ProperBeside s (λ t. (thread == t) || others t)) (away : (on : Awaited) → stands_for (elements s) on thread ≡ false)
     (waits : List (Option Wait)) (beside : (t : ℕ) → (t == thread) ≡ false → wait_of waits t ≡ wait_at s t)
@@ -108,7 +108,7 @@ module _ (s : State) (thread : ℕ) (others : ℕ → Bool) (h : ProperBeside s 
 abbrev pub over_if : Option Wait → Type 0
 over_if o = option_map_or (λ (w : Wait). is_none w.outcome) o false ≡ false
 
--- what is set is over, and so is what stands there then
+-- what is set is over, and so is what is there then
 pub over_set : (waits : List (Option Wait)) (thread : ℕ) (wait : Option Wait) → over_if wait → over_if (wait_of (slice_set waits thread wait) thread)
 over_set waits thread wait h = by (index_set waits thread wait)
   where

@@ -50,7 +50,7 @@ past_places [] thread out = refl
 past_places (x ∷ xs) zero out = absurd (omega (arith, out))
 past_places (x ∷ xs) (suc thread) out = past_places xs thread (omega (arith, out))
 
--- of a thread that the board doesn't have the readers tell false
+-- the readers answer false for a thread that the board doesn't have
 module _ (h : History) (legal : IsLegal h) (thread : ℕ) (out : h.board.threads ≤ thread) where
   nobody : wait_of h.state.waits thread ≡ None
   nobody = past_places h.state.waits thread (omega (arith, out, places_are h legal))

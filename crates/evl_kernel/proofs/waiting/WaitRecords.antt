@@ -1,4 +1,4 @@
--- The waits of the records: whoever stands in a queue waits for that, after each step of an element.
+-- The waits of the records: each thread in a queue waits for that, after each step of an element.
 use Rattle.std.proofs.Common.{◌≡◌, ◌≢◌, ◌<◌, ℕ, zero, suc, ◌==◌, ◌⊎◌, inl, inr, Bool, true, false, ◌&&◌, ◌||◌, List, [], ◌∷◌, length, Option, Some, None, Ok, Err, slice_get, slice_set, slice_index_or, if◌then◌else◌, refl, sym, ap, ◌∙◌, subst, arith}
 use Rattle.std.specs.Option.{option_map, option_map_or}
 use Rattle.std.proofs.lemmas.Bool.{false≢true, eq-eqb, eqb-true}
@@ -55,7 +55,7 @@ use Rattle.evl_kernel.specs.calls.TimerCalls.{posted_if}
 fewer_by : (m n : ℕ) → (suc m == suc n) ≡ false → (m == n) ≡ false
 fewer_by m n e = grind (arith, nat_tests)
 
--- what stands in another place than the one that was set, and in that place
+-- what is at another place than the one that was set, and at that place
 pub index_there : {A : Type 0} (xs : List A) (m n : ℕ) (v d : A) → (m == n) ≡ false → slice_index_or (slice_set xs m v) n d ≡ slice_index_or xs n d
 index_there [] m n v d e = refl
 index_there (x ∷ xs) zero zero v d e = absurd (false≢true (sym e))
@@ -69,7 +69,7 @@ index_here (x ∷ xs) zero v d within = refl
 index_here (x ∷ xs) (suc m) v d within = index_here xs m v d (omega (arith, within))
 
 module _ (threads : ℕ) (e : Elements) (waits : List (Option Wait)) (kept : WaitsAreKept threads e waits) where
-  -- whose wait doesn't go on stands nowhere
+  -- a thread whose wait doesn't go on is in no queue
   pub away_of : (thread : ℕ) → ((on : Awaited) → wait_of waits thread ≢ Some (going_on on)) → (on : Awaited) → stands_for e on thread ≡ false
   away_of thread other on = by (stands_for e on thread) refl
     where
@@ -80,7 +80,7 @@ module _ (threads : ℕ) (e : Elements) (waits : List (Option Wait)) (kept : Wai
   pub idle_away : (thread : ℕ) → wait_of waits thread ≡ None → (on : Awaited) → stands_for e on thread ≡ false
   idle_away thread none = away_of thread (λ on is. none-some _ (sym none ∙ is))
 
-  -- the wait of a thread that stands nowhere changes
+  -- the wait of a thread that is in no queue changes
   pub set_wait : (thread : ℕ) (w : Option Wait) → ((on : Awaited) → stands_for e on thread ≡ false) → WaitsAreKept threads e (slice_set waits thread w)
   set_wait thread w away = record { few = kept.few; sound = kept.sound; places = length-set waits thread w ∙ kept.places; going = λ on other stands. by on other stands (thread == other) refl }
     where
@@ -96,7 +96,7 @@ module _ (threads : ℕ) (e : Elements) (waits : List (Option Wait)) (kept : Wai
   finished_kept thread reply ended changed is =
       waits_set thread None changed is (away_of thread (λ on going. ok_err (ended ∙ ap outcome_of going)))
 
-  -- a thread stands in one queue at most
+  -- a thread is in one queue at most
   one_queue : (thread : ℕ) (on other : Awaited) → stands_for e on thread ≡ true → stands_for e other thread ≡ true → on ≡ other
   one_queue thread on other first second = ap (λ (w : Wait). w.on) (same_Some _ _ (sym (kept.going on thread first) ∙ kept.going other thread second))
 
@@ -176,7 +176,7 @@ module _ (threads : ℕ) (e : Elements) (waits : List (Option Wait)) (kept : Wai
             let same : on ≡ other = same_Some _ _ (its ∙ ap (option_map (λ (w : Wait). w.on)) (kept.going other thread (dropped.drops.old other thread stands))) in
             sym stands ∙ (ap (λ (x : Awaited). stands_for after x thread) (sym same) ∙ dropped.drops.gone)
 
-    -- whoever is served by that stands nowhere then
+    -- each thread that this serves is in no queue then
     pub dropped_apart : (t : ℕ) → is_served t served ≡ true → (other : Awaited) → stands_for after other t ≡ false
     dropped_apart t is other = by (stands_for after other t) refl
       where
@@ -270,7 +270,7 @@ module _ {C : Type 0} (r : RecordsView C) (h : IsSound r) (thread rank : ℕ) (w
       → owners_of after ≡ owners_of r.elements → IsSound (record r { elements = after; waits = waits })
   sound_waiting nothing waits is owners = sound_ranked nothing r.sched (ranks_as r h after owners) waits is
 
-  -- whoever is served as the wait begins stands nowhere then
+  -- each thread that is served as the wait begins is in no queue then
   pub begin_freed : (outcome : Reply) → serves r.elements.elements (step_of_waiter thread rank wants) ≡ Some outcome → (t : ℕ) → is_served t (wakes r.elements.elements (step_of_waiter thread rank wants)) ≡ true
       → (on : Awaited) → stands_for after.elements on t ≡ false
   begin_freed outcome served t is on =

@@ -16,7 +16,7 @@ pub data XbufStep : Type 0 where
   write : Stage → Way → List ℕ → XbufStep
   -- reads so many bytes, or as many as are there, from a stage
   read : Stage → Way → ℕ → XbufStep
-  -- tells how many bytes are free
+  -- gives how many bytes are free
   room : Way → XbufStep
   -- writes from the stage that writes this way, or else the thread waits
   begin_write : ℕ → Way → List ℕ → XbufStep
@@ -59,6 +59,10 @@ abbrev pub at_once : {A : Type 0} → Option (Option A) → Option A
 at_once None = None
 at_once (Some answer) = answer
 
+-- rule: Threads served at a cross-buffer wake in the order of the services, each reader with its bytes; waiters queue
+--   only by arrival, on either stage.
+--   also: CrossBuffers.service_told; Waits.all_woken
+--   rows: flags_and_buffers_1; flags_and_buffers_2; waiting_writers_go_by_arrival; reader_of_256_bytes; dropped_writer
 -- whom a step serves, in order
 abbrev pub services_of : Xbuf → XbufStep → List Service
 services_of x (write stage way bytes) = served_in (answer_in (xbufs.try_write stage way bytes x))

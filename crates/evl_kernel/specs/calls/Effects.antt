@@ -19,7 +19,7 @@ module _ {X : Type 0} where
   abbrev pub done : X → Answered X
   done x = Ok (reply.Done, x)
 
-  -- a number is told
+  -- a number is answered
   abbrev pub tells : ℕ → X → Answered X
   tells n x = Ok (reply.Number n, x)
 
@@ -43,7 +43,7 @@ module _ {X : Type 0} where
   if_done x (Ok (reply, after)) = after
   if_done x (Err refusal) = x
 
-  -- what the caller is told
+  -- what the caller is answered
   abbrev pub reply_in : Answered X → Result Reply Refusal
   reply_in (Ok (reply, after)) = Ok reply
   reply_in (Err refusal) = Err refusal
@@ -64,13 +64,13 @@ lifted f (Ok (reply, after)) = Ok (reply, f after)
 lifted f (Err refusal) = Err refusal
 
 -- a step that was made: by which thread's call, or by a callback; what was asked; and the answer, which a callback
--- isn't told
+-- doesn't get
 pub record Made (P : Type 0) : Type 0 where
   pub by : Option ℕ
   pub step : P
   pub answer : Result Reply Refusal
 
--- the machine answers each step as it stands then, and ends there
+-- the machine answers each step as it is then, and ends there
 abbrev pub Runs : {X P : Type 0} → (X → P → Answered X) → X → List (Made P) → X → Type 0
 Runs machine old [] new = new ≡ old
 Runs machine old (made ∷ others) new = (made.answer ≡ reply_in (machine old made.step)) × Runs machine (if_done old (machine old made.step)) others new

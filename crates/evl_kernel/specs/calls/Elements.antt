@@ -46,6 +46,8 @@ wakes e (on_flags n step) = option_map_or (λ f. flag_wakes f step) (slice_get e
 wakes e (on_xbuf n step) = option_map_or (λ x. xbuf_wakes x step) (slice_get e.xbufs n) []
 wakes e (on_mutex n step) = option_map_or (λ m. mutex_wakes m step) (slice_get e.mutexes n) []
 
+-- rule: A claim always begins a wait: the kernel never sees a free mutex word.
+--   rows: owners_1
 -- what a wait that begins by a step is served with at once, if it is: who claims a mutex always waits
 abbrev pub serves : Elements → ElementStep → Option Reply
 serves e (on_sem n step) = option_map_or (λ q. sem_serves q step) (slice_get e.sems n) None

@@ -103,6 +103,8 @@ is_of_waits (begins wanted until) = true
 is_of_waits (ends keep) = true
 is_of_waits _ = false
 
+-- rule: An accepted tick moves the date by its nanoseconds; no other call moves it, and no play.
+--   clauses: ticks_move_the_date
 -- the nanoseconds that a task lets pass
 abbrev pub time_of : Task → ℕ
 time_of (on_clock (tick delta)) = delta
@@ -120,6 +122,9 @@ performing s caller (raises mutex) = raising s caller mutex
 performing s caller (begins wanted until) = beginning s caller wanted until
 performing s caller (ends keep) = untouched (finish s caller keep)
 
+-- rule: An unattached caller writes way `In` and reads way `Out`, as if in-band; to begin a wait it must be attached.
+--   also: Threads.stage_of; Beginnings.waiter_refusal
+--   rows: cross_buffer; xbuf_refusals
 -- the table of calls
 abbrev pub task_of : Call → Task
 task_of (Request line stage callback tag) = on_lines (request line.0 stage callback tag)

@@ -10,13 +10,13 @@ use Rattle.evl_sync.specs.FlagGroups.{FlagGroup, post_refusal, walk_waiters}
 use Rattle.evl_kernel.specs.calls.Effects.{Answered, reply_by}
 
 pub data FlagStep : Type 0 where
-  -- takes bits of a kind, whoever waits
+  -- takes bits of a kind, past all waiters
   take : Take → FlagStep
   -- adds bits, and goes once through the waiters
   post : ℕ → FlagStep
-  -- tells the bits
+  -- gives the bits
   peek : FlagStep
-  -- takes bits, whoever waits, or else the thread waits
+  -- takes bits, past all waiters, or else the thread waits
   begin : FlagWaiter → FlagStep
   -- a waiter leaves, as its deadline fell due
   drop : ℕ → FlagStep
@@ -32,6 +32,9 @@ flag_group f (drop thread) = Ok (reply.Done, flags.drop_waiter thread f)
 abbrev pub all_served : List (ℕ × ℕ) → List (ℕ × Reply)
 all_served served = map (λ one. (one.0, reply.Bits one.1)) served
 
+-- rule: Threads served by a post wake in queue order.
+--   also: Waits.all_woken
+--   rows: flag_waiters; flags_posted_by_a_callback
 -- whose waits a step ends, and with what
 abbrev pub flag_wakes : FlagGroup → FlagStep → List (ℕ × Reply)
 flag_wakes f (post bits) = all_served (flags.post bits f).served

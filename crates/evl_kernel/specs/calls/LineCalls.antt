@@ -6,6 +6,13 @@ use Rattle.evl_pipeline.specs.Lines as lines
 use Rattle.evl_kernel.specs.state.States.{State, with_lines, with_banked, come_home}
 use Rattle.evl_kernel.specs.calls.Effects.{Effect, done, unless, known, refused_by}
 
+-- rule: A callback is in one place: the bank, one line of one stage, or one timer; a free or a drop brings it back.
+--   None is made or exchanged.
+--   also: LineCalls.with_callback_back; Callbacks.{BringsNone, Stands}; Places.{CallbacksAreInOnePlace, AreInOnePlace}
+--   clauses: callbacks_are_in_one_place; Kernel::new; Kernel::apply: by_plan, handlers
+--   rows: lines_1; post_from_handler
+-- refusals: Request, Free, Arrive, Post
+--   also: Lines.{request_refusal, free_refusal, post_refusal}
 -- the callback leaves its bank place for the line
 abbrev pub request : State → ℕ → Stage → ℕ → ℕ → Effect
 request s line stage number tag = known (slice_get s.bank number) (λ b.

@@ -66,7 +66,7 @@ pub record MutexCallsLeave (s : State) (caller : ℕ) : Type 0 where
   pub raise : (id : MutexId) (reply : Reply) (new : State) → answer s caller (Raise id) ≡ Ok (reply, new) → RaiseLeaves s id.0 caller new
   pub finish : (keep : Bool) (reply : Reply) (new : State) → answer s caller (Finish keep) ≡ Ok (reply, new) → FinishLeaves s caller new
 
--- in every legal history over a board within its limits, whoever calls
+-- in every legal history over a board within its limits, by any callers
 abbrev pub MutexCallsChange : Type 0
 MutexCallsChange = (h : History) → IsLegal h → board_fits h.board ≡ true → (caller : ℕ) → MutexCallsLeave h.state caller
 

@@ -27,6 +27,12 @@ thread_named thread = record { 0 = thread }
 abbrev pub handed_told : Handing → Reply
 handed_told h = reply.Handed (option_map thread_named h.next) h.more
 
+-- rule: A thread that got a mutex by a release no longer waits; it inherits from those that do.
+--   clauses: Owners::release
+--   rows: owners_1
+-- refusals: calls on elements
+--   also: Semaphores.{try_get, put_count, peek}; FlagGroups.{try_take, post_refusal}; Xbufs.{try_write, try_read};
+--   OwnerCalls.raiser_refusal; Elements.element
 abbrev pub mutex : Mutex → MutexStep → Answered Mutex
 mutex m (claim w owner) = Ok (reply.Begun, recorded.claimed_mutex m w owner)
 mutex m (release thread) = if is_open_to thread m then Ok (handed_told (recorded.released_mutex m), (recorded.released_mutex m).after) else Err NotOwner

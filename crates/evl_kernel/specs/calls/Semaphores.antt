@@ -13,13 +13,15 @@ pub data SemStep : Type 0 where
   get : SemStep
   -- releases the first waiter, or else raises the count, up to its maximum
   put : SemStep
-  -- tells the count, or minus the number of waiters
+  -- gives the count, or minus the number of waiters
   peek : SemStep
   -- lowers the count, or else the thread waits
   begin : Waiter → SemStep
   -- a waiter leaves, as its deadline fell due
   drop : ℕ → SemStep
 
+-- rule: A semaphore is as in `evl_sync`.
+--   rows: first_semaphore; waits_1; waiters_for_one_semaphore
 abbrev pub semaphore : Semaphore → SemStep → Answered Semaphore
 semaphore q get = reply_by (λ u. reply.Done) (sem.try_get q)
 semaphore q put = reply_by (λ u. reply.Done) (sem.put_count q)
@@ -27,6 +29,9 @@ semaphore q peek = Ok (reply.Count (sem.peek q), q)
 semaphore q (begin w) = Ok (reply.Begun, (sem.begin_get w q).1)
 semaphore q (drop thread) = Ok (reply.Done, sem.drop_waiter thread q)
 
+-- rule: A wait ends with `Done` (semaphore, write, mutex), the bits taken, the bytes read, or `TimedOut`.
+--   also: FlagGroups.all_served; CrossBuffers.service_told; Mutexes.mutex_wakes
+--   rows: waits_1; flag_waiters
 -- who was served, if anybody was
 abbrev pub one_served : Option ℕ → List (ℕ × Reply)
 one_served None = []

@@ -17,10 +17,15 @@ abbrev pub ends_a_wait : Task → Bool
 ends_a_wait (ends keep) = true
 ends_a_wait _ = false
 
+-- rule: A caller with an unfinished wait makes no call but the `Finish`; others may act on it.
+--   also: Serving.general_refusal
+--   rows: busy_while_it_waits; waits_1
 -- the caller has an unfinished wait, and the call doesn't end it
 abbrev pub is_busy : State → ℕ → Call → Bool
 is_busy s caller asked = not (ends_a_wait (task_of asked)) && is_waiting s caller
 
+-- rule: A caller outside the board is `Unknown`, whatever it calls.
+--   rows: stranger_is_unknown; strangers
 -- The refusal of a call, whatever it asks for, the first that applies: the caller has an unfinished wait; there is no such
 -- caller.
 abbrev pub general_refusal : State → ℕ → Call → Option Refusal
@@ -30,6 +35,10 @@ general_refusal s caller asked = if is_busy s caller asked then Some Busy else (
 abbrev pub what_call_does : State → ℕ → Call → Told
 what_call_does s caller asked = told_unless (general_refusal s caller asked) (serving s caller asked)
 
+-- rule: Each call adds exactly its entry and its plays to a legal history, or changes nothing.
+--   also: Serving.answer
+--   clauses: Kernel::{apply, reserve}
+--   rows: free_refusals; request_refusals; unknown_numbers
 -- the effects alone
 abbrev pub serve_call : State → ℕ → Call → Effect
 serve_call s caller asked = (serving s caller asked).effect

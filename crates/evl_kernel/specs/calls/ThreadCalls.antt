@@ -22,6 +22,10 @@ use Rattle.evl_kernel.specs.calls.Mutexes.{thread_named}
 unfoldable pub rank_by : (ℕ → ℕ) → List Mutex → ℕ → ℕ
 rank_by base mutexes thread = effective thread_limit base mutexes thread
 
+-- rule: The pick, the place in a queue at the beginning of a wait, and `RankOf` go by the effective rank.
+--   also: ThreadCalls.rank_by; OwnerInvariant.effective
+--   clauses: Kernel::apply; owners_stay_proper
+--   rows: threads_1; inheritance_chain; policy_of_a_boosted_owner
 -- the effective rank of a thread
 abbrev pub rank_of : State → ℕ → ℕ
 rank_of s thread = rank_by (threads.base_of s.sched) s.elements.mutexes thread
@@ -33,9 +37,13 @@ owns_in mutexes thread = list_any (is_owned_by thread) mutexes
 abbrev pub owner_refusal : State → ℕ → Option Refusal
 owner_refusal s thread = if owns_in s.elements.mutexes thread then Some Busy else None
 
+-- refusals: Attach, Detach, SetPolicy, SetStage, RankOf
+--   also: ThreadCalls.{detach_refusal, set_policy, set_stage, tell_rank}; Threads.{attach_refusal, set_policy_refusal}
 abbrev pub attach : State → ℕ → Policy → Stage → Effect
 attach s thread policy stage = refused_by (attach_refusal s.sched thread policy) (done (with_sched s (threads.attached s.sched thread policy stage)))
 
+-- rule: A recorded owner is not detached.
+--   clauses: Kernel::apply
 -- The first that applies: the thread isn't attached; it is recorded as an owner.
 abbrev pub detach_refusal : State → ℕ → Option Refusal
 detach_refusal s thread = refused_first (stranger_refusal s.sched thread) (owner_refusal s thread)
@@ -55,6 +63,6 @@ pick s = Ok (reply.Chosen (option_map thread_named (picked (rank_of s) s.sched))
 abbrev pub tell_rank : State → ℕ → Effect
 tell_rank s thread = refused_by (stranger_refusal s.sched thread) (tells (rank_of s thread) s)
 
--- whoever is picked is charged with so much time, and a new second between the two dates refills the quota groups
+-- the picked thread is charged with so much time, and a new second between the two dates refills the quota groups
 abbrev pub paid_between : State → ℕ → ℕ → ℕ → State
 paid_between s before delta now = with_sched s (refilled_at before now (charged (rank_of s) s.sched delta))

@@ -29,6 +29,10 @@ at_date s delta = with_clock s (clocks.advanced s.clock delta)
 abbrev pub paid : State → ℕ → State
 paid s delta = paid_between s s.clock.now delta (clocks.advanced s.clock delta).now
 
+-- rule: A tick charges the thread picked before it, moves the date, refills the quota groups at a new second, then
+--   posts line 0.
+--   also: TimerCalls.paid; ThreadCalls.paid_between
+--   rows: round_robin; slices; nobody_is_charged
 abbrev pub tick : State → ℕ → Effect
 tick s delta = refused_by (clocks.advance_refusal s.clock delta) (done (alarmed (at_date (paid s delta) delta)))
 
@@ -40,10 +44,16 @@ abbrev pub place_timer : State → ℕ → ℕ → Banked → Option ℕ → Eff
 place_timer s number tag b None = Err Limit
 place_timer s number tag b (Some n) = tells n (with_banked (with_clock s (clocks.with_new_timer s.clock n number tag)) false number b)
 
+-- refusals: NewTimer, StartTimer, StopTimer, DropTimer, Overruns, Tick
+--   also: TimerCalls.{start_timer, stop_timer, drop_timer, overruns, tick}
 abbrev pub new_timer : State → ℕ → ℕ → Effect
 new_timer s number tag = known (slice_get s.bank number) (λ b.
     unless ((not (is_timer_allowed b.handler.kinds), Invalid) ∷ (not b.home, Busy) ∷ []) (place_timer s number tag b (clocks.free_place s.clock)))
 
+-- rule: A started timer posts line 0 exactly if its date is not after now, a tick if anything is due then. Line 0 stays
+--   pending if a due timer is stopped or dropped.
+--   also: TimerCalls.{alarmed, stop_timer, drop_timer}
+--   rows: clock_2; dropped_while_pending
 -- a timer runs; a date that is not after now posts line 0 at once
 abbrev pub with_running : State → ℕ → ℕ → ℕ → State
 with_running s n date interval = posted_if (nat_le date s.clock.now) (with_clock s (clocks.start s.clock n date interval))

@@ -12,11 +12,19 @@ use Rattle.evl_kernel.specs.calls.Effects.{Effect}
 use Rattle.evl_kernel.specs.calls.Serving.{answer}
 use Rattle.evl_kernel.specs.settling.Settling.{Settles}
 
+-- rule: A refused call changes nothing, and no play follows it.
+--   rows: ping_pong_goes_on
+-- rule: The answer is that of the moment before settling.
+--   rows: reply_is_before_settling
 -- a refusal changes nothing and is followed by no play; the reply is that of the moment before settling
 abbrev pub Follows : State → Effect → Result Reply Refusal → List Play → State → Type 0
 Follows old (Err refusal) reply plays new = (reply ≡ Err refusal) × (plays ≡ []) × (new ≡ old)
 Follows old (Ok (given, changed)) reply plays new = (reply ≡ Ok given) × Settles changed plays new
 
+-- rule: A put, get, write or read of one step and no play is answered with that step and its entry at once; else
+--   nothing has changed, and it goes the general way. Which way a call went no clause of `apply` says: both answer
+--   alike.
+--   clauses: Kernel::apply
 abbrev pub Step : State → ℕ → Call → Result Reply Refusal → List Play → State → Type 0
 Step old caller call reply plays new = Follows old (answer old caller call) reply plays new
 
@@ -24,6 +32,9 @@ Step old caller call reply plays new = Follows old (answer old caller call) repl
 abbrev pub EntryStep : State → Entry → List Play → State → Type 0
 EntryStep old entry plays new = (entry.plays ≡ length plays) × Step old entry.caller.0 entry.call entry.reply plays new
 
+-- rule: A legal history is a run of steps from the opening of its board and bank, with as many plays for each entry as
+--   it says.
+--   also: Histories.{EntryStep, opened_kernel, IsLegal}
 -- the entries and plays lead from one state to the other
 abbrev pub Run : State → List Entry → List Play → State → Type 0
 Run old [] plays new = (plays ≡ []) × (new ≡ old)
@@ -46,7 +57,7 @@ opened_kernel h = opening h.board h.bank
 abbrev pub IsLegal : History → Type 0
 IsLegal h = Run (opened_kernel h) h.entries h.plays h.state
 
--- new is old with one entry and its plays behind
+-- new is old followed by one entry and its plays
 pub record Extends (old new : History) (entry : Entry) (plays : List Play) : Type 0 where
   pub board : new.board ≡ old.board
   pub bank : new.bank ≡ old.bank

@@ -43,6 +43,9 @@ OobPendsOnlyWhileStalled = (h : History) → IsLegal h → (line : ℕ) → is_p
 abbrev pub DueMeansPending : Type 0
 DueMeansPending = (h : History) → IsLegal h → is_due h.state.clock ≡ true → is_pending h.state.lines Oob 0 ≡ true
 
+-- rule: If no callback requested in-band has actions, in-band stalls change neither the out-of-band plays nor the
+--   answers to other calls.
+--   clauses: two_worlds
 -- Two histories over one board and one bank have the same calls once every in-band stall is taken out of both, and no
 -- callback that was requested in-band has actions: then all plays but in-band ones are the same list, and all other calls
 -- have the same replies.

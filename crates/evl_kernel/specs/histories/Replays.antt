@@ -63,5 +63,11 @@ abbrev pub led_to : State → List Entry → State
 led_to s [] = s
 led_to s (e ∷ entries) = led_to (replayed s e).after entries
 
+-- rule: An element's part of a history (the calls that reach it, the actions of handled answers, the waiters that leave
+--   it at a deadline, in order) is a run of only that element from its opening, and grows with the history.
+--   also: Elements.{part, its_sem, its_flags, its_xbuf, its_mutex}
+--   clauses: semaphores_run_by_themselves; parts_grow; flag_groups_run_by_themselves; cross_buffers_run_by_themselves;
+--   mutexes_run_by_themselves
+--   rows: own_history; own_posts; own_steps
 abbrev pub touches : History → List Touch
 touches h = touches_of (opened_kernel h) h.entries

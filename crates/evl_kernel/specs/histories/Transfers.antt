@@ -35,11 +35,14 @@ call_on way (through.drop thread w) = if_reached (same_way way w) (flows.Drop th
 abbrev pub calls_on : Way → List (Made XbufStep) → List flows.Call
 calls_on way steps = filter_map (λ made. call_on way made.step) steps
 
--- All bytes that were accepted into the way are those that were read from it, in order, and behind them those that are there.
+-- All bytes that were accepted into the way are those that were read from it, in order, and after them those that are there.
 pub record GoesThrough (f : Flow) (end : Stream) : Type 0 where
   pub after_is : f.after ≡ end
   pub in_order : IsStream f
 
+-- rule: Over any legal history all bytes accepted on a way of a cross-buffer are those read, in order, followed by
+--   those that are there.
+--   clauses: reads_follow_writes_there
 -- over the whole part of a cross-buffer in a history, for each way: so what was read by all is the front of what was
 -- accepted from all
 abbrev pub ReadsFollowWritesThere : Type 0

@@ -20,9 +20,16 @@ use Rattle.evl_kernel.specs.histories.Histories.{History, IsLegal, Step}
 abbrev pub is_blocked : State → ℕ → Bool
 is_blocked s thread = option_map_or (λ w. is_none w.outcome) (wait_at s thread) false
 
+-- rule: In every legal history over a board within its limits a semaphore's count is 0 while somebody waits; nobody
+--   waits for bits that are there or at a cross-buffer that could serve, each way of which has waiters in one queue
+--   only; greater ranks are first; a thread is in a queue exactly while its wait for just that goes on; ready are
+--   exactly the attached out-of-band threads that are not blocked; only blocked threads have deadlines, those of their
+--   waits.
+--   also: WaitInvariant.HasItsDeadline
+--   clauses: waits_stay_proper; deadlines_stand
 pub record WaitsAreProper (s : State) : Type 0 where
   pub sound : AreSound (elements s)
-  -- a thread stands in a queue exactly where its wait for just that goes on: so in one queue at most
+  -- a thread is in a queue exactly where its wait for just that goes on: so in one queue at most
   pub stands : (on : Awaited) (thread : ℕ) → stands_for (elements s) on thread ≡ true → wait_at s thread ≡ Some (going_on on)
   pub waits : (on : Awaited) (thread : ℕ) → wait_at s thread ≡ Some (going_on on) → stands_for (elements s) on thread ≡ true
   -- ready are just the attached out-of-band threads that aren't blocked

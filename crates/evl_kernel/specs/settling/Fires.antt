@@ -23,7 +23,7 @@ module _ {C : Type 0} (gives : C → Fire → Answer → Type 0) (w : Whereabout
     pub stands : Stands w number callback
     pub gave : gives callback fire answer
 
-  -- A play of a line calls the callback that stands there: with the line and its stage, the tag of its request, a count
+  -- A play of a line calls the callback that is there: with the line and its stage, the tag of its request, a count
   -- that is one higher, and the date.
   abbrev pub Called : State → Play → Type 0
   Called s (Line line stage count handled) =

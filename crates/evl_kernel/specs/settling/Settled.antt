@@ -50,6 +50,8 @@ pub record Appends {C : Type 0} (gives : C → Fire → Answer → Type 0) (w : 
   pub appended : after ≡ before ++ made
   pub settles : Settles old made new
   pub few : length made ≤ play_limit
+  -- rule: Each play called the line's or the timer's callback, with line, stage, tag, count and date.
+  --   clauses: Kernel::apply
   pub called : AllCalled gives w (after_call old) made
 
 -- a step of the kernel was made, and its plays were appended, few of them, and each of a line called its callback

@@ -39,6 +39,8 @@ Left = List Touch × State
 abbrev pub left_after : State → Told → Left
 left_after s told = (told.touches, if_done s told.effect)
 
+-- rule: Each action does what its call does.
+--   rows: flags_and_buffers_4; flags_posted_by_a_callback; ping_pong_1; posted_by_a_callback
 -- an action does what its call does
 abbrev pub acting : State → ℕ → Action → Left
 acting s line (PostSem sem) = left_after s (touched s None (on_sem sem.0 put))
@@ -47,6 +49,9 @@ acting s line Propagate = left_after s (untouched (line_call.post s Inband line)
 acting s line (PostOob other) = left_after s (untouched (line_call.post s Oob other.0))
 acting s line (StopTimer timer) = left_after s (untouched (timer_call.stop_timer s timer.0))
 
+-- rule: An action whose call would be refused does nothing.
+--   also: Effects.if_done
+--   rows: refused_actions
 abbrev pub after_action : State → ℕ → Action → State
 after_action s line action = (acting s line action).1
 
@@ -55,9 +60,14 @@ abbrev pub all_acting : State → ℕ → List Action → Left
 all_acting s line [] = ([], s)
 all_acting s line (action ∷ actions) = ((acting s line action).0 ++ (all_acting (after_action s line action) line actions).0, (all_acting (after_action s line action) line actions).1)
 
+-- rule: A handled answer's actions are carried out in order, an unhandled answer's not at all.
+--   rows: actions_of_unhandled; unhandled_stop; no_post_of_unhandled
 abbrev pub all_acted : State → ℕ → List Action → State
 all_acted s line actions = (all_acting s line actions).1
 
+-- rule: A call makes at most 64 in-band plays. Their out-of-band posts are still played.
+--   also: Settling.{line_next, going_on, one_inband}; Limits.inband_limit
+--   rows: ping_pong_is_bounded; ping_pong_leaves; ping_pong
 -- While the kernel settles: the records, how many in-band plays this call made, and whether the clock's play goes on,
 -- which it does as long as something is due.
 pub record Settling : Type 0 where
@@ -149,7 +159,7 @@ abbrev pub is_of_clock : Play → Bool
 is_of_clock (play.Line line stage count handled) = false
 is_of_clock _ = true
 
--- behind the clock's play and behind each due item the clock goes on where something is due
+-- after the clock's play and after each due item the clock goes on where something is due
 abbrev pub clock_goes_on : Play → State → Bool
 clock_goes_on one s = is_of_clock one && is_due s.clock
 
@@ -172,6 +182,8 @@ abbrev pub next_of : Settling → Option (Stage × ℕ) → Option (Play × Sett
 next_of at None = None
 next_of at (Some (stage, line)) = Some (going_on at stage (pending_played at.state stage line))
 
+-- rule: An eligible thread holds in-band plays back; one of an empty quota group does not.
+--   rows: oob_holds_back_inband; waits_3; waits_4
 -- the lowest playable line, an out-of-band one before an in-band one, which an eligible thread holds back
 abbrev pub line_next : Settling → Option (Stage × ℕ)
 line_next at = lines.next_line at.state.lines (is_anyone_eligible at.state.sched) (nat_lt at.inband inband_limit)
@@ -192,6 +204,9 @@ item_before at None = line_goes at
 abbrev pub due_played : State → Option (Play × State)
 due_played s = option_map (item_played s) (next_due s.clock)
 
+-- rule: A play of line 0 is `Clock`, followed by what is due, looked for again each time.
+--   also: Settling.next_move
+--   rows: two_timers_at_one_date; stops_the_next
 -- what is played next, and what it leaves: what is due in the clock's play, else a line
 unfoldable pub next_play : Settling → Option (Play × Settling)
 next_play at = item_before at (item_next at)
@@ -208,6 +223,9 @@ next_move at = item_moves at (item_next at)
 abbrev pub Plays : Settling → List Play → Settling → Type 0
 Plays = Along next_play
 
+-- rule: After an accepted call the kernel plays until nothing is playable.
+--   also: Settling.{next_play, next_move}
+--   clauses: Kernel::apply
 -- plays that end exactly where nothing is playable
 pub record Settles (s : State) (plays : List Play) (after : State) : Type 0 where
   pub last : Settling

@@ -23,6 +23,12 @@ module _ {C : Type 0} where
   abbrev pub is_home : BankPlace C → Bool
   is_home place = is_some place.callback
 
+  -- rule: A kernel that is reset is as `new` made it, over its board, its limit and its callbacks, each back in its
+  --   bank place; no call has changed how many threads, groups and elements there are. No memory is asked for, so there
+  --   is no refusal.
+  --   also: Homecomings.ComesHome; Shapes.HasShape
+  --   clauses: Kernel::reset
+  --   rows: a_kernel_is_reset
   -- the callbacks that are in their places
   abbrev pub callbacks_in : List (BankPlace C) → List C
   callbacks_in bank = filter_map (λ place. place.callback) bank
@@ -31,7 +37,7 @@ module _ {C : Type 0} where
   abbrev pub handlers_in : List (BankPlace C) → List Handler
   handlers_in bank = map handler_of bank
 
-  -- the callback of this number stands in its place, on a line, or in a timer
+  -- the callback of this number is in its place, on a line, or in a timer
   pub record IsHome (w : Whereabouts C) (number : ℕ) (callback : C) : Type 0 where
     pub place : BankPlace C
     pub at : slice_get w.bank number ≡ Some place
@@ -55,11 +61,11 @@ module _ {C : Type 0} where
   abbrev pub Stands : Whereabouts C → ℕ → C → Type 0
   Stands w number callback = IsHome w number callback ⊎ (IsOut w number callback ⊎ IsTimed w number callback)
 
-  -- whatever stands in new stood in old, under the same number
+  -- whatever is in new was in old, under the same number
   abbrev pub BringsNone : Whereabouts C → Whereabouts C → Type 0
   BringsNone old new = (number : ℕ) (callback : C) → Stands new number callback → Stands old number callback
 
-  -- each callback declares and answers what is told of its place
+  -- each callback declares and answers what is said of its place
   abbrev pub AnswersByPlan : (C → ℕ) → (C → Plan) → Whereabouts C → Type 0
   AnswersByPlan declared plan w = (number : ℕ) (callback : C) → Stands w number callback
       → slice_get (handlers_in w.bank) number ≡ Some (record { kinds = declared callback; plan = plan callback })

@@ -1,4 +1,4 @@
--- The elements as contracts see them: their records, and the base ranks that the recorded owners were told.
+-- The elements as contracts see them: their records, and the base ranks that the recorded owners were given.
 use Rattle.std.specs.Prelude.{ℕ, List}
 use Rattle.evl_mutex.specs.Owners.{Owners}
 use Rattle.evl_kernel.specs.state.States.{Elements}

@@ -17,6 +17,13 @@ use Rattle.evl_pipeline.specs.Lines as lines
 use Rattle.evl_clock.specs.Clocks as clocks
 use Rattle.evl_kernel.specs.state.Callbacks.{Whereabouts, AreFilled}
 
+-- rule: Each reader gives the state at the history's end; false, 0 or nobody outside the board.
+--   also: States.date; ThreadCalls.rank_of; Waits.{wait_at, is_waiting, has_ended, has_timed_out}; Standing.queue_of;
+--   MutexEffects.record_at
+--   clauses: Kernel::{allowance, earliest_date, pending, stalled, spurious, unhandled, timer, stage, finished,
+--   timed_out, waiters, picked, rank, policy, awaited, count, bits, waiter, ready_threads, history, plays, now, ready,
+--   there}
+--   rows: readers_tell_how_a_machine_stands
 pub record KernelView (C : Type 0) : Type 0 where
   pub history : History
   -- where the callbacks are
@@ -55,7 +62,11 @@ IsAnswer result = IsTrue (makes_entry result) × IsKernelAnswer result
 abbrev pub entry_of : ℕ → Call → Result Reply Refusal → List Play → Entry
 entry_of caller asked reply plays = record { caller = record { 0 = caller }; call = asked; reply = reply; plays = length plays }
 
--- New is old with just this call's entry behind, and the plays that it made, which are few.
+-- rule: A call makes at most 4736 plays.
+--   also: Settled.Performs; Limits.play_limit
+--   clauses: Kernel::apply: entry
+--   rows: many_plays; one_call_makes_the_most_plays
+-- New is old with just this call's entry after it, and the plays that it made, which are few.
 pub record Adds (old : History) (caller : ℕ) (asked : Call) (reply : Result Reply Refusal) (plays : List Play) (new : History) : Type 0 where
   pub extends : Extends old new (entry_of caller asked reply plays) plays
   pub few : length plays ≤ play_limit

@@ -18,7 +18,3 @@ inband_limit = 64
 -- the plays of one call: five for each in-band one, and one for each line, each timer and each deadline; so 4736
 abbrev pub play_limit : ℕ
 play_limit = 5 * inband_limit + line_limit + timer_count + thread_limit
-
--- the boxes that the bytes of one call's reply take: the caller's and the entry's
-abbrev pub box_limit : ℕ
-box_limit = 2

@@ -20,6 +20,10 @@ at_home h = record { handler = h; home = true }
 abbrev pub all_opened : Board → Elements
 all_opened board = record { sems = map semaphores.opened_semaphore board.sems.items; flags = map flags.opened_group board.flags.items; xbufs = map (λ sizes. xbufs.opened_xbuf sizes.0 sizes.1) board.xbufs.items; mutexes = map mutexes.opened_mutex board.mutexes.items }
 
+-- rule: At the opening every callback is in its bank place, the date is 0, no thread is attached, each element is as
+--   the board says.
+--   also: Openings.all_opened
+--   clauses: Kernel::new: opened
 -- every callback is in its bank place, no line has anything, there are no timers, no thread is attached, and nobody waits
 abbrev pub opening : Board → List Handler → State
 opening board bank = record {
@@ -32,6 +36,9 @@ opening board bank = record {
   waits = replicate board.threads None;
 }
 
+-- rule: A bank has at most 64 callbacks, a limit is 1 to 1,000,000.
+--   clauses: Kernel::{new, over}
+--   rows: a_bank_has_a_range; limits_that_are_handed_in
 -- the board, the bank and the limit of the history are within their limits
 abbrev pub can_open : Board → ℕ → ℕ → Bool
 can_open board callbacks limit = board_fits board && nat_le callbacks callback_limit && is_within 1 history_limit limit

@@ -33,12 +33,12 @@ abbrev pub CallbacksAreInOnePlace : Type 0
 CallbacksAreInOnePlace = (h : History) → IsLegal h → (number : ℕ) → number < length h.bank → IsInOnePlace (IsAt h.state number)
 
 module _ {C : Type 0} where
-  -- a callback itself stands there, under this number
+  -- a callback itself is there, under this number
   abbrev pub StandsAt : Whereabouts C → ℕ → Place → Type 0
   StandsAt w number at_home = (place : BankPlace C) × (callback : C) × (slice_get w.bank number ≡ Some place) × (place.callback ≡ Some callback)
   StandsAt w number (on_line stage line) = (at : lines.Installed (Numbered C)) × (lines.installed_at w.lines stage line ≡ Some at) × (at.callback.number ≡ number)
   StandsAt w number (in_timer timer) = (at : Timer (Numbered C)) × (timer_at w.clock timer ≡ Some at) × (at.callback.number ≡ number)
 
-  -- each number has one callback, which stands in one place
+  -- each number has one callback, which is in one place
   abbrev pub AreInOnePlace : Whereabouts C → Type 0
   AreInOnePlace w = (number : ℕ) → number < length w.bank → IsInOnePlace (StandsAt w number)

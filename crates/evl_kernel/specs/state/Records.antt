@@ -70,14 +70,14 @@ AreAllowed s = (stage : Stage) (line : ℕ) (at : lines.Installed ℕ) → lines
 abbrev pub AreTimersAllowed : State → Type 0
 AreTimersAllowed s = (timer : ℕ) (at : Timer ℕ) → clocks.timer_at s.clock timer ≡ Some at → is_timer_allowed (kinds_at s at.callback) ≡ true
 
--- each thread of a board has a place for its wait, and whoever stands in a queue waits for that, and its wait goes on
+-- each thread of a board has a place for its wait, and a thread in a queue waits for that, and its wait goes on
 pub record WaitsAreKept (threads : ℕ) (e : Elements) (waits : List (Option Wait)) : Type 0 where
   pub few : threads ≤ thread_limit
   pub sound : AreSound e
   pub places : length waits ≡ threads
   pub going : (on : Awaited) (thread : ℕ) → stands_for e on thread ≡ true → wait_of waits thread ≡ Some (going_on on)
 
--- the recorded owners were told the base rank of each thread, 0 where it isn't attached
+-- the recorded owners were given the base rank of each thread, 0 where it isn't attached
 pub record AreTold (base : List ℕ) (s : Sched) : Type 0 where
   pub few : length base ≤ thread_limit
   pub seats : length s.seats ≤ length base
@@ -107,7 +107,7 @@ pub record IsOpened {C : Type 0} (declared : C → ℕ) (plan : C → Plan) (boa
   pub no_timers : r.clock ≡ clocks.opening board.threads
   pub state : state_of r ≡ opening board (map (λ callback. record { kinds = declared callback; plan = plan callback }) bank)
 
--- no callback came, and what is told of the places is the same
+-- no callback came, and what is said of the places is the same
 pub record KeepsCallbacks {C : Type 0} (old new : RecordsView C) : Type 0 where
   pub brings : BringsNone (whereabouts old) (whereabouts new)
   pub handlers_are : handlers_in new.bank ≡ handlers_in old.bank

@@ -1,4 +1,4 @@
--- The same lines and the same clock, with other names for what stands there.
+-- The same lines and the same clock, with other names for what is there.
 use Rattle.std.specs.Prelude.{map}
 use Rattle.std.specs.Option.{option_map}
 use Rattle.evl_pipeline.specs.Lines.{Pipeline, Side, Installed}

@@ -34,7 +34,7 @@ pub record State : Type 0 where
   pub elements : Elements
   -- the callbacks, by number
   pub bank : List Banked
-  -- the lines and the timers; what stands there is named by its number in the bank
+  -- the lines and the timers; what is there is named by its number in the bank
   pub lines : Pipeline ℕ
   pub clock : Clock ℕ
   -- the threads of the core: their policies and stages, who is ready, and the quota groups

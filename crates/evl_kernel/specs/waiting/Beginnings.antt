@@ -110,6 +110,16 @@ abbrev pub waiter_refusal : State → ℕ → Wanted → Option Refusal
 waiter_refusal s thread wanted =
     refused_first (stranger_refusal s.sched thread) (refused_first (form_refusal wanted) (refused_first (allowed_if (may_name s thread wanted)) (stage_refusal (stage_wanted wanted) (stage_of s.sched thread))))
 
+-- rule: The kernel looks for a ring after all other refusals; owners may be on either stage.
+--   rows: inheritance_chain; inheritance_ring
+-- rule: Takes, posts and beginnings are refused as SCENARIOS has it.
+--   also: FlagGroups.try_take
+--   rows: begin_refusals; takes; flag_wait_refusals
+-- rule: So are writes, reads and beginnings at a cross-buffer.
+--   also: Beginnings.{range_refusal, size_refusal}
+--   rows: cross_buffer; xbuf_refusals; ring_of_one_byte; ring_of_256_bytes
+-- refusals: BeginGet, BeginTake, BeginWrite, BeginRead, Claim
+--   also: Beginnings.{form_refusal, size_refusal, range_refusal, waiter_refusal, may_name, ring_refusal}
 -- The first that applies: there is no such element, or no such owner; too many bytes are wanted; what is said of the thread;
 -- the ring is too small; there would be a ring of waits.
 abbrev pub begin_refusal : State → ℕ → Wanted → Option Refusal
@@ -125,10 +135,20 @@ step_of_waiter thread rank (wanted.Write id way bytes) = on_xbuf id.0 (through.b
 step_of_waiter thread rank (wanted.Read id way len) = on_xbuf id.0 (through.begin_read thread way len)
 step_of_waiter thread rank (wanted.Mutex id owner) = on_mutex id.0 (mutex.claim (record { thread = thread; rank = rank }) owner.0)
 
+-- rule: A waiter is queued by its rank when it begins.
+--   also: Beginnings.step_of_waiter
+--   rows: waits_1; boost_counts_at_the_beginning; boosted_thread_waits_ahead; queue_order_is_frozen
+-- rule: The ranks at the beginnings of waits there are the effective ones.
+--   clauses: semaphores_run_by_themselves; flag_groups_run_by_themselves; mutexes_run_by_themselves
 -- with the rank that it has then
 abbrev pub begin_step : State → ℕ → Wanted → ElementStep
 begin_step s thread wanted = step_of_waiter thread (rank_of s thread) wanted
 
+-- rule: A claim waits for the mutex and records the owner that it names. A release hands the mutex to the first waiter,
+--   whose wait ends, and says whether more wait; a raise records its caller.
+--   also: Elements.touched; Mutexes.mutex; OwnerCalls.raising
+--   clauses: Kernel::apply
+--   rows: claim_refusals; deadlock_is_refused; release_and_raise_refusals
 -- a wait begins, until the deadline where there is one
 abbrev pub beginning : State → ℕ → Wanted → Option ℕ → Told
 beginning s thread wanted until =

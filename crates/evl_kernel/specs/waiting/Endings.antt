@@ -32,6 +32,9 @@ got_mutex on outcome = false
 abbrev pub has_got_mutex : Option Wait → Bool
 has_got_mutex wait = option_map_or (λ w. option_map_or (got_mutex w.on) w.outcome false) wait false
 
+-- rule: A weak thread goes in-band at its `Finish`, unless it keeps its stage or got a mutex.
+--   also: Endings.{inband_if, got_mutex}
+--   rows: weak_goes_inband; weak_keeps_its_stage; weak_thread_goes_inband; weak_thread_with_a_mutex; ceilings
 -- a weak thread goes in-band, where it isn't yet, unless it keeps its stage or got a mutex
 abbrev pub goes_inband : State → ℕ → Bool → Bool
 goes_inband s thread keep = option_map_or (λ seat. is_weak seat.policy) (seat_at s.sched thread) false && not keep && not (has_got_mutex (wait_at s thread))
@@ -39,6 +42,10 @@ goes_inband s thread keep = option_map_or (λ seat. is_weak seat.policy) (seat_a
 abbrev pub inband_if : Bool → State → ℕ → State
 inband_if goes s thread = if goes then with_sched s (stage_set s.sched thread Inband) else s
 
+-- rule: `Finish` is `Invalid` without a wait, `Again` while it goes on, else what ended the wait, once.
+--   also: Endings.finish
+--   rows: waits_1; late_finish
+-- refusals: Finish
 -- what ended a wait: refused where there is none, and while it goes on
 abbrev pub outcome_of : Option Wait → Result Reply Refusal
 outcome_of None = Err Invalid
@@ -60,6 +67,12 @@ drop_step thread (Mutex id) = on_mutex id.0 (mutex.drop thread)
 abbrev pub leaving_queue : State → ℕ → Option Wait → Told
 leaving_queue s thread wait = option_map_or (λ w. touched s None (drop_step thread w.on)) wait (untouched (Err Invalid))
 
+-- rule: A due deadline ends the wait as timed out: the thread leaves the queue, and the play is reported.
+--   also: Settling.deadline_left
+--   rows: deadline_before_timer; put_at_the_deadline; deadline_against_put; flag_wait_times_out; a_deadline_falls_due
+-- rule: A waiter that leaves at its deadline becomes ready before those that it lets go.
+--   also: Waits.woken
+--   rows: timed_out_writer_is_ready_first
 -- A deadline ends its thread's wait as timed out, and the thread leaves the queue in which it waited.
 abbrev pub expiring : State → ℕ → Told
 expiring s thread = leaving_queue (woken s thread TimedOut) thread (wait_at s thread)

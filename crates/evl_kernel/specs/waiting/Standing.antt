@@ -1,4 +1,4 @@
--- Who stands in the queues of the elements.
+-- Who is in the queues of the elements.
 use Rattle.std.specs.Prelude.{ℕ, Bool, false, ◌≡◌, ◌==◌, List, [], Some, map, replicate, slice_get}
 use Rattle.std.specs.List.{list_any}
 use Rattle.std.specs.Option.{option_map_or}
@@ -35,7 +35,7 @@ in_mutex m thread = is_waited_for_by thread m
 abbrev pub stands_at : {X : Type 0} → (X → ℕ → Bool) → List X → ℕ → ℕ → Bool
 stands_at has xs n thread = option_map_or (λ x. has x thread) (slice_get xs n) false
 
--- the thread stands in the queue of this element
+-- the thread is in the queue of this element
 abbrev pub stands_for : Elements → Awaited → ℕ → Bool
 stands_for e (Sem id) thread = stands_at in_sem e.sems id.0 thread
 stands_for e (Flags id) thread = stands_at in_flags e.flags id.0 thread
@@ -47,7 +47,7 @@ stands_for e (Mutex id) thread = stands_at in_mutex e.mutexes id.0 thread
 abbrev pub queue_at : {X : Type 0} → (X → List ℕ) → List X → ℕ → List ℕ
 queue_at queue xs n = option_map_or queue (slice_get xs n) []
 
--- who stands in the queue of this element, the first one at its head
+-- who is in the queue of this element, the first one at its head
 abbrev pub queue_of : Elements → Awaited → List ℕ
 queue_of e (Sem id) = queue_at (λ q. map (λ w. w.thread) q.waiters) e.sems id.0
 queue_of e (Flags id) = queue_at (λ f. map (λ w. w.thread) f.waiters) e.flags id.0
@@ -65,7 +65,7 @@ owners_in e = record { base = replicate thread_limit 0; mutexes = e.mutexes }
 
 -- what is known of each element
 pub record AreSound (e : Elements) : Type 0 where
-  -- a semaphore counts 0 where somebody waits for it; greater ranks stand first in its queue, and no thread stands there twice
+  -- a semaphore counts 0 where somebody waits for it; greater ranks stand first in its queue, and no thread is there twice
   pub sems : (n : ℕ) (q : Semaphore) → slice_get e.sems n ≡ Some q → IsSoundSemaphore q
   -- nobody waits for bits that are there; its queue likewise
   pub flags : (n : ℕ) (f : FlagGroup) → slice_get e.flags n ≡ Some f → IsSoundGroup f

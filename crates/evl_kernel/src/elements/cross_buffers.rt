@@ -11,7 +11,7 @@ use evl_xbuf::Services;
 use std::alloc::Allocator;
 
 impl<A: Allocator> Elements<A> {
-    /// Writes all of the bytes from a stage, and tells whom that served, into a list where nobody stands yet. The first
+    /// Writes all of the bytes from a stage, and enters whom that served, into a list where nobody is yet. The first
     /// that applies: `Unknown` (no such cross-buffer), `WrongStage` (the other stage writes this way), `TooBig` (more
     /// bytes than the ring has), `Again` (a writer waits, or they don't fit).
     #[inline(always)]
@@ -65,12 +65,12 @@ impl<A: Allocator> Elements<A> {
         way: Way,
         len: u16,
         spares: &mut Spares<A>,
-    ) -> Option<(Transfer, Transfer)>
-        ensures step { IfSome result (λ two. element self.old.elements (on_xbuf xbuf.0 (through.read stage way len)) ≡ Ok (bytes_told two.0.items, self.new.elements)) }
-        ensures twice { IfSome result (λ two. two.1.items ≡ two.0.items) }
+    ) -> Option<Transfer>
+        requires boxes { 1 ≤ spares.old }
+        ensures step { IfSome result (λ read. element self.old.elements (on_xbuf xbuf.0 (through.read stage way len)) ≡ Ok (bytes_told read.items, self.new.elements)) }
         ensures nobody { IfSome result (λ _. wakes self.old.elements (on_xbuf xbuf.0 (through.read stage way len)) ≡ []) }
         ensures owners { owners_of self.new ≡ owners_of self.old }
-        ensures spent { spares.old ≤ spares.new + 2 }
+        ensures spent { spares.old ≤ spares.new + 1 }
         ensures kept { IfNone result ((self.new ≡ self.old) × (spares.new ≡ spares.old)) }
     {
         let place = usize::from(xbuf.0);
@@ -80,8 +80,8 @@ impl<A: Allocator> Elements<A> {
         self.xbufs[place].read_unserved(stage, way, len, spares)
     }
 
-    /// Reads so many bytes from a stage, or as many as are there, in the place of those that `got` had, and tells whom
-    /// that served, into a list where nobody stands yet. The first that applies: `Unknown` (no such cross-buffer),
+    /// Reads so many bytes from a stage, or as many as are there, in the place of those that `got` had, and enters whom
+    /// that served, into a list where nobody is yet. The first that applies: `Unknown` (no such cross-buffer),
     /// `Range` (more than one transfer carries), `WrongStage` (the other stage reads this way), `Again` (nothing is
     /// there).
     #[inline(always)]

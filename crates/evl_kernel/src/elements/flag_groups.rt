@@ -27,7 +27,7 @@ impl<A: Allocator> Elements<A> {
         self.flags[place].try_take(kind)
     }
 
-    /// Adds bits, and tells who waits no more, in order, and which bits each took, into a list where nobody stands yet.
+    /// Adds bits, and enters who waits no more, in order, and which bits each took, into a list where nobody is yet.
     /// `Unknown` where there is no such flag group, `Invalid` where there are no bits to add.
     pub(crate) fn post(
         &mut self,

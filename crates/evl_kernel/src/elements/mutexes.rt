@@ -27,7 +27,7 @@ impl<A: Allocator> Elements<A> {
         self.owners.effective(thread)
     }
 
-    /// The recorded owners are told the base rank of a thread; whose effective rank may have changed is noted.
+    /// The recorded owners are given the base rank of a thread; whose effective rank may have changed is noted.
     pub(crate) fn set_base<C: RankChanges>(&mut self, thread: ThreadId, rank: u16, changes: &mut C)
         requires there { thread.0 < length self.old.base }
         ensures told { self.new.base ≡ slice_set self.old.base thread.0 rank }

@@ -53,7 +53,7 @@ impl<A: Allocator> Elements<A> {
         place < self.sems.len() && self.sems[place].raise()
     }
 
-    /// Tells a count, or minus the number of waiters. `Unknown` where there is no such semaphore.
+    /// Gives a count, or minus the number of waiters. `Unknown` where there is no such semaphore.
     #[inline(always)]
     pub(crate) fn peek(&self, sem: SemId) -> Result<Reply, Refusal>
         ensures step { IfOk result (λ reply. element self.now.elements (on_sem sem.0 semaphore.peek) ≡ Ok (reply, self.now.elements)) }

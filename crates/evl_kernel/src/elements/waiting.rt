@@ -108,8 +108,8 @@ impl<A: Allocator> Elements<A> {
         }
     }
 
-    /// A thread that waits for nothing writes at once, or begins to wait; whether it wrote. Whom that served is told
-    /// into a list where nobody stands yet.
+    /// A thread that waits for nothing writes at once, or begins to wait; whether it wrote. Whom that served is entered
+    /// into a list where nobody is yet.
     pub(crate) fn begin_write(
         &mut self,
         thread: ThreadId,
@@ -136,8 +136,8 @@ impl<A: Allocator> Elements<A> {
         }
     }
 
-    /// A thread that waits for nothing reads at once, which says what, or begins to wait. Whom that served is told into
-    /// a list where nobody stands yet.
+    /// A thread that waits for nothing reads at once, which says what, or begins to wait. Whom that served is entered into
+    /// a list where nobody is yet.
     pub(crate) fn begin_read(
         &mut self,
         thread: ThreadId,
@@ -164,8 +164,8 @@ impl<A: Allocator> Elements<A> {
         }
     }
 
-    /// A thread leaves the queue of an element; whom that served, where it was a cross-buffer's, is told into a list
-    /// where nobody stands yet. Nothing changes where it doesn't stand there. Whose effective rank may have changed is
+    /// A thread leaves the queue of an element; whom that served, where it was a cross-buffer's, is entered into a list
+    /// where nobody is yet. Nothing changes where it doesn't stand there. Whose effective rank may have changed is
     /// noted, which nobody's has where it was no mutex's.
     pub(crate) fn leave<C: RankChanges>(
         &mut self,
@@ -204,7 +204,7 @@ impl<A: Allocator> Elements<A> {
     }
 
     // A thread waits for a cross-buffer no more this way, if it did and there is such a cross-buffer; whom that served
-    // is told.
+    // is entered.
     fn leave_xbuf(&mut self, thread: ThreadId, xbuf: XbufId, way: Way, told: &mut Services)
         requires nobody { told.old ≡ [] }
         ensures left { self.new.elements ≡ if_done self.old.elements (element self.old.elements (on_xbuf xbuf.0 (through.drop thread.0 way))) }

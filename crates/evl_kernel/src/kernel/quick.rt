@@ -1,14 +1,16 @@
 //! Quick ways: a call at which nobody is served and nothing is played, with its entry, or else nothing.
-ghost use Rattle.std.specs.Prelude.{◌≡◌, ◌+◌, ◌≤◌, ◌<◌, [], length, vec_len, true, false, IfNone, IfSome, Ok};
+ghost use Rattle.std.specs.Prelude.{◌≡◌, ◌+◌, ◌≤◌, ◌<◌, [], length, true, false, IfNone, IfSome, Ok};
+ghost use Rattle.evl_base.specs.declared.reply.Reply.{Reply};
 ghost use Rattle.evl_kernel.specs.histories.Histories.{IsLegal, Step};
 ghost use Rattle.evl_kernel.specs.state.Places.{AreInOnePlace};
 ghost use Rattle.evl_kernel.specs.state.KernelViews.{AddsEntry};
 ghost use Rattle.evl_kernel.specs.state.Records.{state_of, whereabouts};
 
 use super::KernelOf;
-use crate::kernel::room::is_within;
+use crate::kernel::room::{is_within, keep_box};
 use crate::records::Records;
-use evl_base::{Call, Entry, Reply, SemId, ThreadId, Transfer, Way, XbufId};
+use evl_base::{Call, SemId, ThreadId, Transfer, Way, XbufId};
+use evl_history::History;
 use evl_pipeline::Handler;
 use std::alloc::Allocator;
 
@@ -54,12 +56,7 @@ impl<C: Handler, A: Allocator> KernelOf<C, A> {
         if !self.records.put_quickly(caller, sem) {
             return false;
         }
-        self.history.push_reserved(Entry {
-            caller,
-            call: Call::Put { sem },
-            reply: Ok(Reply::Done),
-            plays: 0,
-        });
+        self.history.push_put(caller, sem);
         true
     }
 
@@ -82,17 +79,11 @@ impl<C: Handler, A: Allocator> KernelOf<C, A> {
         if !self.records.get_quickly(caller, sem) {
             return false;
         }
-        self.history.push_reserved(Entry {
-            caller,
-            call: Call::TryGet { sem },
-            reply: Ok(Reply::Done),
-            plays: 0,
-        });
+        self.history.push_get(caller, sem);
         true
     }
 
-    // Answers a read of a cross-buffer at which nobody is served and nothing is played; none, and nothing changes, else
-    // or where memory was refused.
+    // Answers a read of a cross-buffer at which nobody is served and nothing is played; none, and nothing changes, else.
     #[inline(always)]
     pub(super) fn reads_quickly(&mut self, caller: ThreadId, call: &Call) -> Option<Transfer>
         ensures entry { IfSome result (λ bytes. AddsEntry self.old.history caller.0 call.now (Ok (Reply.Bytes bytes)) self.new.history) }
@@ -112,7 +103,7 @@ impl<C: Handler, A: Allocator> KernelOf<C, A> {
         }
     }
 
-    // The same of a read alone.
+    // As `reads_quickly`, of only a read.
     #[inline(never)]
     fn read_quickly(
         &mut self,
@@ -134,19 +125,16 @@ impl<C: Handler, A: Allocator> KernelOf<C, A> {
         if !is_within(&self.history, self.fence) {
             return None;
         }
-        let Some((given, entered)) = self
+        let Some(read) = self
             .records
             .read_quickly(caller, xbuf, way, len, &mut self.spares)
         else {
             return None;
         };
-        self.history.push_reserved(Entry {
-            caller,
-            call: Call::Read { xbuf, way, len },
-            reply: Ok(Reply::Bytes(entered)),
-            plays: 0,
-        });
-        Some(given)
+        let call = Call::Read { xbuf, way, len };
+        self.history.push_transfer(caller, call, read.as_slice());
+        keep_box(&mut self.fence, &mut self.spares);
+        Some(read)
     }
 }
 
@@ -155,12 +143,13 @@ impl<C: Handler, A: Allocator> KernelOf<C, A> {
 #[inline(always)]
 pub(super) fn writes_quickly<C: Handler, A: Allocator>(
     records: &mut Records<C, A>,
-    history: &Vec<Entry, A>,
+    history: &History<A>,
     fence: usize,
     caller: ThreadId,
     call: &Call,
 ) -> bool
-    ensures within { result ≡ true → vec_len history.now < fence }
+    ensures within { result ≡ true → length history.now.entries < fence }
+    ensures room { result ≡ true → 1 ≤ history.now.room }
     ensures done { result ≡ true → Step (state_of records.old) caller.0 call.now (Ok Reply.Done) [] (state_of records.new) }
     ensures kept { result ≡ false → records.new ≡ records.old }
     ensures stands { whereabouts records.new ≡ whereabouts records.old }

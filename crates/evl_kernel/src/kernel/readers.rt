@@ -1,4 +1,4 @@
-//! What a kernel tells of its threads, its date and its elements besides their calls. No reader changes anything or
+//! What a kernel says of its threads, its date and its elements besides their calls. No reader changes anything or
 //! makes an entry.
 ghost use Rattle.std.specs.Prelude.{◌≡◌, ◌++◌, IfErr, None, OnErr, OnOk, Some, length, map, option_map, slice_get, if◌then◌else◌};
 ghost use Rattle.evl_base.specs.declared.refusal.Refusal.{Refusal};
@@ -96,7 +96,7 @@ impl<C, A: Allocator> KernelOf<C, A> {
         self.records.there(xbuf, way)
     }
 
-    /// Who stands at a place of the queue of an element, the first one at 0; none where nobody stands there, or there
+    /// Who is at a place of the queue of an element, the first one at 0; none where nobody is there, or there
     /// is no such element (Xenomai 4: EVL elements).
     pub fn waiter(&self, on: Awaited, place: usize) -> Option<ThreadId>
         ensures waiter { option_map (λ t. t.0) result ≡ slice_get (queue_of self.now.history.state.elements on) place }

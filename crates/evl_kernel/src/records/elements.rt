@@ -56,7 +56,7 @@ impl<C, A: Allocator> Records<C, A> {
         }
     }
 
-    /// Takes bits, and tells which. The first that applies: `Unknown` (no such flag group), `Invalid` (a mask without
+    /// Takes bits, and says which. The first that applies: `Unknown` (no such flag group), `Invalid` (a mask without
     /// bits), `Again` (there is nothing to take).
     #[inline(never)]
     pub(super) fn try_take(&mut self, flags: FlagId, kind: Take) -> Result<Reply, Refusal>

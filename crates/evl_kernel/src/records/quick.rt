@@ -1,4 +1,4 @@
-//! Quick ways: the whole of a call where it takes one step and nothing is played behind it, and else nothing.
+//! Quick ways: the whole of a call where it takes one step and nothing is played after it, and else nothing.
 ghost use Rattle.std.specs.Prelude.{◌≡◌, ◌<◌, ◌≤◌, ◌+◌, ◌&&◌, [], None, IfNone, IfSome, Ok, is_none, true, false};
 ghost use Rattle.evl_kernel.specs.histories.Histories.{Step};
 ghost use Rattle.evl_kernel.specs.state.Records.{state_of, whereabouts};
@@ -71,8 +71,8 @@ impl<C: Handler, A: Allocator> Records<C, A> {
         true
     }
 
-    /// Answers a read, in two boxes of `spares`, where it is accepted, nobody waits for the cross-buffer, the bytes lie
-    /// in one piece and nothing pends; none, and nothing changes, else or where a box was refused.
+    /// Answers a read, in a box of `spares`, where it is accepted, nobody waits for the cross-buffer, the bytes lie in
+    /// one piece and nothing pends; none, and nothing changes, else.
     #[inline(always)]
     pub(crate) fn read_quickly(
         &mut self,
@@ -81,10 +81,10 @@ impl<C: Handler, A: Allocator> Records<C, A> {
         way: Way,
         len: u16,
         spares: &mut Spares<A>,
-    ) -> Option<(Transfer, Transfer)>
-        ensures done { IfSome result (λ two. Step (state_of self.old) caller.0 (Call.Read xbuf way len) (Ok (Reply.Bytes two.0)) [] (state_of self.new)) }
-        ensures twice { IfSome result (λ two. two.1 ≡ two.0) }
-        ensures spent { spares.old ≤ spares.new + 2 }
+    ) -> Option<Transfer>
+        requires boxes { 1 ≤ spares.old }
+        ensures done { IfSome result (λ read. Step (state_of self.old) caller.0 (Call.Read xbuf way len) (Ok (Reply.Bytes read)) [] (state_of self.new)) }
+        ensures spent { spares.old ≤ spares.new + 1 }
         ensures kept { IfNone result ((self.new ≡ self.old) × (spares.new ≡ spares.old)) }
         ensures stands { whereabouts self.new ≡ whereabouts self.old }
     {

@@ -1,4 +1,4 @@
-//! What the records tell of threads, date and elements besides the answers of calls.
+//! What the records say of threads, date and elements besides the answers of calls.
 ghost use Rattle.std.specs.Prelude.{◌≡◌, ◌++◌, IfErr, None, OnErr, OnOk, Some, length, map, option_map, slice_get, if◌then◌else◌};
 ghost use Rattle.evl_base.specs.declared.refusal.Refusal.{Refusal};
 ghost use Rattle.evl_kernel.specs.state.Records.{state_of};
@@ -85,7 +85,7 @@ impl<C, A: Allocator> Records<C, A> {
         self.elements.there(xbuf, way)
     }
 
-    /// Who stands at a place of the queue of an element, the first one at 0.
+    /// Who is at a place of the queue of an element, the first one at 0.
     pub(crate) fn waiter(&self, on: Awaited, place: usize) -> Option<ThreadId>
         ensures waiter { option_map (λ t. t.0) result ≡ slice_get (queue_of (state_of self.now).elements on) place }
     {

@@ -154,7 +154,7 @@ impl<C: Handler, A: Allocator> Records<C, A> {
         }
     }
 
-    // Plays what is next after so many in-band plays of this call, if something is playable: behind a play of the
+    // Plays what is next after so many in-band plays of this call, if something is playable: after a play of the
     // clock or of a due item what is due, else a line.
     fn play_next(&mut self, inband: u8, of_clock: bool, lists: &mut ServedLists) -> Option<Play>
         requires by_plan { AnswersByPlan C.declared C.plan (whereabouts self.old) }

@@ -94,7 +94,7 @@ impl<C, A: Allocator> Records<C, A> {
         Ok(Reply::Done)
     }
 
-    /// Tells which thread is picked.
+    /// Gives which thread is picked.
     #[inline(always)]
     pub(super) fn pick(&self) -> Result<Reply, Refusal>
         ensures answer { IsAnswer result }
@@ -103,7 +103,7 @@ impl<C, A: Allocator> Records<C, A> {
         Ok(Reply::Chosen(self.sched.pick()))
     }
 
-    /// Tells the effective rank of a thread. The first that applies: `Unknown` (no such thread), `Invalid` (it isn't
+    /// Gives the effective rank of a thread. The first that applies: `Unknown` (no such thread), `Invalid` (it isn't
     /// attached).
     #[inline(always)]
     pub(super) fn rank_of(&self, thread: ThreadId) -> Result<Reply, Refusal>

@@ -45,7 +45,7 @@ use Rattle.evl_machine.specs.calls.Visits.{actor_of}
 use Rattle.evl_machine.proofs.mutex_locks.SeatsAt.{depth_there, long_as}
 use Rattle.evl_machine.proofs.callers.Visits.{have_seats, same_actor, suits_opened}
 
--- what stands at a place
+-- what is at a place
 at_place : {S : Type 0} (xs : List S) (i : ℕ) → i < length xs → (x : S) × (slice_get xs i ≡ Some x)
 at_place [] i less = absurd (omega (arith, less))
 at_place (x ∷ xs) zero less = (x, refl)

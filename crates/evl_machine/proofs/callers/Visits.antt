@@ -1,4 +1,4 @@
--- A caller that took the kernel and gave it back: what is told of it, and what it is afterwards.
+-- A caller that took the kernel and gave it back: what is known of it, and what it is afterwards.
 use Rattle.std.proofs.Common.{◌≡◌, ◌++◌, ℕ, List, Result, map, MatchOption, Option, Some, None, true, slice_get, refl, sym, ap, ◌∙◌, subst}
 use Rattle.std.specs.Bool.{⊤}
 use Rattle.std.specs.List.{range_with_len}
@@ -102,7 +102,7 @@ module _ {C : Type 0} where
         by : IsHeld (seen x.me) x.thread k → HasShut x k now
         by held = record { same = same_aside; rests = gives_caller (seen x.me) (seen me) x.thread k held given; held = is.held; account = ap account_of given; event = gave }
 
-  -- what a caller has beside its seat at the core is told by what it knows
+  -- what a caller knows says what it has beside its seat at the core
   pub same_actor : (m : MachineState C) (a : Account) (l : LockView) (x : ActorState) → a.thread ≡ x.thread.0 → IsAccount a → Suits x a.seen → actor_of (caller_of m a l x.staxes x.mutexes) ≡ x
   same_actor m a l x own is suits =
       let stage : stage_in a.seen a.thread ≡ x.stage = ap (stage_in a.seen) own ∙ sym suits.stage in
@@ -154,7 +154,7 @@ module _ {C : Type 0} where
       told_after : IsAccount after
       told_after = given_account (saw k.history k.room a) k'.history continues
 
-      -- what is told of the whole visit
+      -- what is known of the whole visit
       pub visited : (m : MachineState C) (does : ActorState → KernelView C → ActorState → KernelView C → Type 0) (l : LockView) (a' : Account) (l' : LockView) → m.first ≡ first → Suits x a.seen → AreOwnedAsRecorded x.thread.0 x.mutexes k.history → a' ≡ after → does x k x' k'
           → StepsOnWords (shown k.history k.room (lock_in me.0) (caller_of m a l x.staxes x.mutexes)) (record (shown k.history k.room (lock_in me.0) (caller_of m a l x.staxes x.mutexes)) { mutexes = x'.mutexes })
           → Takes first a l (account_of (seen me)) (lock_in me.0) → Gives first (account_of (seen me)) (lock_in me.0) k' a' l' → Visited (caller_of m a l x.staxes x.mutexes) does (caller_of m a' l' x'.staxes x'.mutexes)
@@ -195,7 +195,7 @@ module _ {C : Type 0} where
       stage_after : (a' : Account) → a' ≡ after → AreHeldAt (stage_in a'.seen a'.thread) x'.staxes
       stage_after a' is = at_stage x' a'.seen a'.thread x'.staxes went.held (suits_after a' is) (ap (λ (y : Account). y.thread) is ∙ (own ∙ ap (λ (t : ThreadId). t.0) (sym went.thread)))
 
-      -- the same of a caller whose machine is told by where its seats belong
+      -- the whole visit of a caller whose machine is known by where its seats belong
       pub visited_at : (id id' : TableId) (first' : KernelView C) (does : ActorState → KernelView C → ActorState → KernelView C → Type 0) (l : LockView) (a' : Account) (l' : LockView) (old : CallerState C) → caller_of (machine_of id first x.staxes x.mutexes) a l x.staxes x.mutexes ≡ old → id' ≡ id → first' ≡ first_of me.0 → Suits x a.seen → AreOwnedAsRecorded x.thread.0 x.mutexes k.history
           → a' ≡ up_to_date k'.history (account_of (seen me)) → does x k x' k'
           → StepsOnWords (shown k.history k.room (lock_in me.0) (caller_of (machine_of id first x.staxes x.mutexes) a l x.staxes x.mutexes)) (record (shown k.history k.room (lock_in me.0) (caller_of (machine_of id first x.staxes x.mutexes) a l x.staxes x.mutexes)) { mutexes = x'.mutexes })

@@ -1,4 +1,4 @@
--- A caller that takes the kernel within one call, does something with it, and gives it back: what each step asks for, and what is told of the whole.
+-- A caller that takes the kernel within one call, does something with it, and gives it back: what each step asks for, and what is known of the whole.
 use Rattle.std.proofs.Common.{◌≡◌, ℕ, Bool, true, Result, None, map, slice_get, refl, sym, ap, ◌∙◌, subst}
 use Rattle.atomic_table.specs.Seated.{TableId}
 use Rattle.evl_base.specs.Board.{board_fits}
@@ -47,7 +47,7 @@ pub same_on : {a b c : ActorState} → IsSameActor a b → IsSameActor b c → I
 same_on one two = record { thread = two.thread ∙ one.thread; staxes = two.staxes ∙ one.staxes; mutexes = two.mutexes ∙ one.mutexes }
 
 module _ {C : Type 0} where
-  -- what was done with the kernel: the token knows the same of the core, the kernel goes on and the actor with it, and the ties are settled
+  -- what was done with the kernel: the token keeps what it knows of the core, the kernel goes on and the actor with it, and the ties are settled
   pub record HasDone (o : SeatedActor C) (k : KernelView C) (x' : SeatedActor C) (k' : KernelView C) : Type 0 where
     pub core : TellsTheSame o.me x'.me
     pub table : x'.table ≡ o.table
@@ -124,7 +124,7 @@ module _ {C : Type 0} where
               let after : caller_by x' ≡ record (shown k.history k.room (lock_in o.me.0) (caller_by x)) { mutexes = (acting x').mutexes } = λ i. caller_of (record { id = (did.table ∙ opened.same.0) i; first = first i; staxes = map stax_home (along.staxes i); mutexes = along.homes i }) (account i) (did.core.lock i) (along.staxes i) (acting x').mutexes in
               subst (λ (z : CallerState C × CallerState C). StepsOnWords z.0 z.1) (λ i. (before i, after i)) (steps_on_words o x' opened.own.places.its did.made)
 
-          -- what is told of the visit
+          -- what is known of the visit
           pub visited : {old : CallerState C} {does : ActorState → KernelView C → ActorState → KernelView C → Type 0} → caller_by x ≡ old → does (acting o) k (acting x') k' → Visited old does (caller_by n)
           visited {old} {does} was done =
               let a = account_of (seen n.me) in
@@ -146,7 +146,7 @@ module _ {C : Type 0} where
             pub acted_by : ActsOnCore (first_of x.me.0) (account_of (seen x.me)) (lock_in x.me.0) r (account_of (seen n.me)) (lock_in n.me.0)
             acted_by = took_and_gave (first_of x.me.0) (first_of x'.me.0) (account_of (seen x.me)) (lock_in x.me.0) (account_of (seen o.me)) (lock_in o.me.0) (account_of (seen n.me)) (lock_in n.me.0) r k' done.answers opened.event (did.core.first ∙ opened.opens.first_is) gives
 
--- the caller of a machine, of which this is told
+-- the caller of a machine, which is the machine that is given here
 module _ {C : Type 0} (old : CallerState C) {told m : MachineState C} (belongs : old.machine ≡ m) (same : told ≡ m) where
   -- whether a mutex has a ceiling is read off the machine
   pub its_kind : {ceiling : Bool} (mutex : MutexId) → has_ceiling (kind_of old mutex) ≡ ceiling → has_ceiling (slice_get told.first.history.board.mutexes.items mutex.0) ≡ ceiling

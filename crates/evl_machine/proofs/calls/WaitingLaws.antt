@@ -76,7 +76,7 @@ module _ {C : Type 0} where
       } in
       subst (λ (y : Account). Looks first a l y l') (sym same) ((took k a, l') ∷ [], (inl one, (refl, refl)))
 
-  -- what the kernel's reader told of a wait
+  -- what the kernel's reader said of a wait
   pub goes_on : (k read : KernelView C) (x a : SeatedActor C) (b : Bool) → x ≡ a → read ≡ k → b ≡ has_ended read.history.state x.thread.0 → b ≡ false → has_ended k.history.state a.thread.0 ≡ false
   goes_on k read x a b are same told is = subst (λ (z : SeatedActor C). has_ended k.history.state z.thread.0 ≡ false) are (ap (λ (k : KernelView C). has_ended k.history.state x.thread.0) (sym same) ∙ (sym told ∙ is))
 

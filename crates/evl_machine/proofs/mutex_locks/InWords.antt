@@ -82,7 +82,7 @@ owner_read word o e =
     rw (ne_eqb (number_in word) 0 some) (ap (λ n. Some n) less)
 
 module _ {C : Type 0} where
-  -- what stands of a mutex's word, by the rule of the table
+  -- what holds of a mutex's word, by the rule of the table
   stands : (first : KernelView C) (s : State (Option (KernelView C)) (CoreHand C)) → KeptKnown first s → (id : ℕ) (hand : CoreHand C) → get_elem? s.views id ≡ some hand → (i : ℕ) → i < mutex_count first → Stood hand i (get_or s.words (1 + i) 0)
   stands first s d id [] there i within h taken = absurd (none-some h taken)
   stands first s d id (p ∷ ps) there i within h taken =

@@ -92,7 +92,7 @@ not_outside n t b is outside = by (nat_lt t n) refl
     by false far = let past : n ≤ t = grind (arith, nat_tests) in absurd (true≢false (sym is ∙ outside past))
 
 module _ {C : Type 0} (k : KernelView C) (t : ℕ) (b : Bool) where
-  -- what the kernel's readers told of a wait
+  -- what the kernel's readers said of a wait
   pub is_ended : (read : KernelView C) → read ≡ k → b ≡ has_ended read.history.state t → b ≡ true → has_ended k.history.state t ≡ true
   is_ended read same told is = ap (λ (k : KernelView C). has_ended k.history.state t) (sym same) ∙ (sym told ∙ is)
 
@@ -136,7 +136,7 @@ module _ {C : Type 0} (a a1 : ActorState) (same : IsSameActor a a1) (k k' : Kern
       let d : Applied k a.thread.0 (Release pass.mutex) s k' = subst (λ (z : MutexId × Result Reply Refusal). Applied k a.thread.0 (Release z.0) z.1 k') (λ i. (is i, told i)) done in
       (entry, d.entered entry)
 
-  -- and behind which the word was given
+  -- and after which the word was given
   pub releases_on : (next : Option ThreadId) (more : Bool) (a2 : ActorState) → r ≡ Ok (Handed next more) → AtSeat pass.mutex.0 a1.mutexes a2.mutexes (GivesTo next more) → Releases a k pass (Ok tt) a2 k'
   releases_on next more a2 told at = (next, more, release_entered (Ok (Handed next more)) told refl, subst (λ seats. AtSeat pass.mutex.0 seats a2.mutexes (GivesTo next more)) same.mutexes at)
 

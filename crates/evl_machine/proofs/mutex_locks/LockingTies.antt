@@ -165,7 +165,7 @@ module _ {C : Type 0} where
         ap (λ (x : MutexView). owns x.held.role) (part_is a.me.0 a.places i its) ∙ ap owns (owner_is a.me.0 a.places i its pass there),
       )
 
-  -- the same of an actor that a function was lent
+  -- what holds of an actor holds of the one that a function was lent
   module _ (x a : SeatedActor C) (is : x ≡ a) where
     pub just_as : (k : KernelView C) → HasJustTaken a k → HasJustTaken x k
     just_as k just = subst (λ (z : SeatedActor C). HasJustTaken z k) (sym is) just

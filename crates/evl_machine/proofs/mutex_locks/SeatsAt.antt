@@ -1,4 +1,4 @@
--- What a thread's token and its places tell of its seats at the mutexes.
+-- What a thread's token and its places say of its seats at the mutexes.
 use Rattle.std.proofs.Common.{◌≡◌, ◌<◌, ℕ, ◌+◌, ◌||◌, nat_lt, List, [], ◌∷◌, length, map, Option, Some, None, IsSomeAnd, slice_get, refl, sym, ap, ◌∙◌, subst}
 use Rattle.std.specs.Option.{option_map, option_map_or}
 use Rattle.std.proofs.lemmas.List.{length-map}
@@ -71,7 +71,7 @@ module _ {C : Type 0} (table : TableId) (hand : CoreHand C) where
       by None is said = absurd said
       by (Some p) is said = subst (λ j. n < (part_of hand j).held.seats) (placed i p is) said
 
-  -- a token that knows the same of each mutex is of the same seats
+  -- a token that keeps what it knows of each mutex has the same seats
   pub seats_kept : (new : CoreHand C) (ps : List MutexPlace) → KeepsPlaces hand new → seats_at table new ps ≡ seats_at table hand ps
   seats_kept new [] kept = refl
   seats_kept new (p ∷ ps) kept = λ j. record { table = table; mutex = p.mutex; number = p.number; depth = p.depth; view = kept.parts p.mutex.0 j } ∷ seats_kept new ps kept j
@@ -109,7 +109,7 @@ module _ {C : Type 0} where
   acting_kept a table me same kept = λ j. record { thread = a.thread; stage = a.stage; wait = a.wait; staxes = a.staxes; mutexes = (ap (λ (t : TableId). seats_at t me.0 a.places) same ∙ seats_kept a.table a.me.0 me.0 a.places kept) j }
 
 module _ {C : Type 0} (x a : SeatedActor C) (is : x ≡ a) (id : TableId) (first : KernelView C) where
-  -- the same of an actor that a function was lent
+  -- an actor that a function was lent is at its table
   pub at_table_of : IsActor x → (a.table ≡ id) × (first_of a.me.0 ≡ first) → IsAtTable id first x.table x.me.0 x.places
   at_table_of own at = at_table x id first (ap (λ (z : SeatedActor C). z.table) is ∙ at.0) (ap (λ (z : SeatedActor C). first_of z.me.0) is ∙ at.1) own.places
 
@@ -117,6 +117,6 @@ module _ {C : Type 0} (x a : SeatedActor C) (is : x ≡ a) (id : TableId) (first
   pub holds_for : HasKernel a.me.0 → (i : ℕ) → HasKernelFor i x.me.0
   holds_for holds i = subst (λ (z : SeatedActor C). HasKernelFor i z.me.0) (sym is) (holds i)
 
-  -- what a step, or two, tell of the core
+  -- what a step, or two, show of the core
   pub core_of_step : (table : TableId) (me : KernelMe C) (ps : List MutexPlace) → (a.table ≡ id) × (first_of a.me.0 ≡ first) → TellsTheSame x.me me → IsAtTable id first table me.0 ps → TellsTheSame a.me me × (table ≡ a.table)
   core_of_step table me ps at core is_at = (subst (λ (z : SeatedActor C). TellsTheSame z.me me) is core, is_at.same ∙ sym at.0)

@@ -1,4 +1,4 @@
--- What one seat does at a stax, told of the list in which it stands.
+-- What one seat does at a stax, by the list that the seat is in.
 use Rattle.std.proofs.Common.{◌≡◌, ◌≢◌, ℕ, ◌+◌, ◌≤◌, ◌<◌, ◌==◌, ◌&&◌, nat_lt, cond, Bool, true, false, if◌then◌else◌, List, [], ◌∷◌, ◌++◌, length, length-append, get_or, take, map, Option, Some, None, is_some, Result, Ok, Err, is_ok, IfOk, IfErr, MatchOption, slice_get, slice_set, refl, sym, ap, ◌∙◌, subst, arith}
 use Rattle.std.specs.List.{range_with_len}
 use Rattle.std.proofs.lemmas.List.{length-map, map-append, take_more}
@@ -19,7 +19,7 @@ use Rattle.evl_machine.specs.stax_locks.StaxSeats.{is_held, stax_passes, AreFres
 use Rattle.evl_core.proofs.words.DealLaws.{fresh-counted, range-more}
 use Rattle.evl_core.proofs.words.SeatLists.{set-same, same-place, same-length}
 
--- the seat that stands at a place, which is the gate's there
+-- the seat at a place, which is the gate's there
 pub found : (xs old : List SeatState) (gs now : List GateState) (i : ℕ) (seat : SeatState) (gate : GateState) → xs ≡ old → gs ≡ now → map stax_home old ≡ map gate_home now
     → i < length gs → seat ≡ get_or xs i seat → gate ≡ get_or gs i gate → (slice_get xs i ≡ Some seat) × IsSeatOf seat gate
 found xs old gs now i seat gate same_seats same_gates homes within here there =

@@ -37,7 +37,7 @@ pub retries_once : (i : ℕ) (stage : Stage) (old : List SeatState) (was : Bool)
 retries_once i stage old was mid now new (refusals, before, marked) (refusal, one, is) =
     (refusals ++ refusal ∷ [], retries_more i stage false old refusals mid refusal new before (subst (λ b. Retry i stage b mid refusal new) marked one), is ∙ (ap (λ b. b || is_again refusal) marked ∙ sym (marked_more false refusals refusal)))
 
--- the seat that stands at a place of a thread's seats
+-- the seat at a place of a thread's seats
 pub seat_there : (xs old : List SeatState) (gs now : List GateState) (i : ℕ) (seat : SeatState) (gate : GateState) → xs ≡ old → gs ≡ now → map stax_home old ≡ map gate_home now
     → i < length old → seat ≡ get_or xs i seat → gate ≡ get_or gs i gate → (slice_get xs i ≡ Some seat) × IsSeatOf seat gate
 seat_there xs old gs now i seat gate same_seats same_gates homes within =

@@ -27,6 +27,8 @@ stage_in h thread = stage_of h.state.sched thread
 abbrev pub AreHeldAt : Stage → List SeatState → Type 0
 AreHeldAt stage seats = (i : ℕ) (s : SeatState) (held : Stage) → slice_get seats i ≡ Some s → s.view.held.stage ≡ Some held → held ≡ stage
 
+-- rule: A caller has its thread, stage, unfinished wait, seats at staxes and mutexes, and the number of its passes.
+--   also: Actors.IsActor; AtSeats.AreCounted
 pub record ActorState : Type 0 where
   pub thread : ThreadId
   pub stage : Stage
@@ -87,6 +89,9 @@ abbrev pub same_truth : Bool → Bool → Bool
 same_truth true b = b
 same_truth false b = not b
 
+-- rule: The caller's own state refuses a call before any step, exactly as `own_refusal` says.
+--   clauses: Machine::{try_call, call}; Held::apply
+--   rows: machine_2; stax_stages; own_refusals
 -- What refuses a call by what its caller has itself: by its unfinished wait, by whether it holds a stax, and a mutex. Mutexes are claimed, released and raised, and waits for them finished, by calls of their own; a Finish keeps the stage exactly where something is held; who holds a stax stays on its stage, and who holds a mutex stays attached
 abbrev pub call_refusal : Option Unfinished → Bool → Bool → Call → Option Refusal
 call_refusal wait stax mutex (Claim id owner until) = Some Invalid

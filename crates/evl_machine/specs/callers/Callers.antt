@@ -21,6 +21,6 @@ module _ {C : Type 0} where
   abbrev pub IsResting : SeatedActor C → Type 0
   IsResting a = IsCaller (seen a.me) a.thread × Suits (acting a) (account_of (seen a.me)).seen
 
-  -- it has a kernel of this machine, whose board is within its limits, and knows its thread's stage and wait there; and what stands of each mutex's word is tied to what the kernel records
+  -- it has a kernel of this machine, whose board is within its limits, and knows its thread's stage and wait there; and what holds of each mutex's word is tied to what the kernel records
   abbrev pub HasInHand : MachineState C → SeatedActor C → KernelView C → Type 0
   HasInHand machine a k = (machine ≡ machine_by a) × IsHeld (seen a.me) a.thread k × ComesFrom (first_of a.me.0) k × Suits (acting a) k.history × IsSettled a.me.0 k.history.state × (board_fits k.history.board ≡ true)

@@ -72,5 +72,10 @@ new_mutex t h = record { table = h.table; mutex = record { 0 = h.number }; numbe
 abbrev pub newcomer_of : {C : Type 0} → MachineState C → ℕ → CallerState C
 newcomer_of m t = caller_of m (newcomer m.first.history t) new_lock (map (new_stax t) m.staxes) (map (new_mutex t) m.mutexes)
 
+-- rule: A machine has a caller for each thread of its board, in order, a stax for each limit, a word for each mutex.
+--   also: Seats.IsCaller; Homes.AreHomes
+--   clauses: Machine::{new, over}
+--   rows: each_request_for_a_machine_is_refused_once; machine_has_a_range;
+--   each_request_of_a_contended_mutex_is_refused_once
 abbrev pub newcomers_of : {C : Type 0} → MachineState C → ℕ → List (CallerState C)
 newcomers_of m n = map (newcomer_of m) (range_with_len 0 n)

@@ -43,7 +43,7 @@ module _ {C : Type 0} where
     pub own : IsActor new
     pub event : FailsToTake (first_of old.me.0) (account_of (seen old.me)) (lock_in old.me.0) (account_of (seen new.me)) (lock_in new.me.0)
 
-  -- It may put this kernel into the table: the kernel goes on from the one that it took, by calls of its one thread, and what stands of each mutex's word is tied to what the kernel records
+  -- It may put this kernel into the table: the kernel goes on from the one that it took, by calls of its one thread, and what holds of each mutex's word is tied to what the kernel records
   pub record MayShut (table : TableId) (a : SeatedActor C) (k : KernelView C) : Type 0 where
     pub machine : a.table ≡ table
     pub comes : ComesFrom (first_of a.me.0) k

@@ -13,13 +13,17 @@ use Rattle.evl_core.specs.words.Noted.{MakesOne}
 use Rattle.evl_machine.specs.callers.Handles.{CallerState}
 
 module _ {C : Type 0} where
-  -- what the caller is told is what the thread k knows: of the kernel, as which it was made, of the core's lock, and of each mutex's word
+  -- what the caller is shown is what the thread k knows: of the kernel, as which it was made, of the core's lock, and of each mutex's word
   pub record IsOfThread (k : ℕ) (v : ThreadView (KernelView C) MutexView) (c : CallerState C) : Type 0 where
     pub account : account_at k v.core ≡ c.account
     pub first : v.core.first ≡ c.machine.first
     pub lock : v.core.lock ≡ c.lock
     pub mutexes : (i : ℕ) (s : MutexSeatState) → slice_get c.mutexes i ≡ Some s → mutex_of s.mutex.0 v ≡ s.view
 
+  -- rule: A step on a mutex's word is one event of the one world of core and mutex words: the step of a call without
+  --   the kernel, and each step between a call's take and its give, from what the one before it left.
+  --   also: OneSteps.StepsOnWords; MutexLocks.{WordCall, SpendsAtWord}; Visits.Visited
+  --   clauses: Machine::{try_lock_mutex, unlock_mutex_fast, try_unlock_mutex, begin_lock_mutex, finish_lock_mutex}
   -- the caller made a step of this kind, which was an event of the one world
   pub record StepsInOne (kind : OneKind (KernelView C)) (old new : CallerState C) : Type 0 where
     pub number : ℕ

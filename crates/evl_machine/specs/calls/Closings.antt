@@ -17,6 +17,11 @@ abbrev pub TakenByFirst : {C : Type 0} → MachineState C → List (CallerState 
 TakenByFirst m [] k = Unit {0}
 TakenByFirst m (first ∷ others) k = (l : LockView) × Takes m.first first.account first.lock (saw k.history k.room first.account) l
 
+-- rule: `close` gives the kernel; its history begins with all that each caller had seen and has exactly each caller's
+--   own calls. Otherwise all come back: `Invalid` without a caller, `CoreBusy`, or `Invalid` if a caller is missing.
+--   also: Closings.{KeepsOpen, LacksCaller}
+--   clauses: Machine::close
+--   rows: close_machine; close_with_a_dropped_holder; core_is_kept
 -- The machine's kernel, which the first caller took, and whose history is legal. It begins with all that each caller had seen, of each caller's thread it has just that caller's own calls, and it has none of a thread that isn't on the board. There is a caller at least, and there are no fewer than the board has threads
 pub record Closes {C : Type 0} (m : MachineState C) (callers : List (CallerState C)) (k : KernelView C) : Type 0 where
   pub some_caller : 0 < length callers
@@ -41,6 +46,8 @@ pub record LacksCaller {C : Type 0} (m : MachineState C) (first : CallerState C)
   pub takes : Takes m.first first.account first.lock (saw history room first.account) between
   pub gives : (k : KernelView C) × (k.history ≡ history) × Gives m.first (saw history room first.account) between k (up_to_date history (saw history room first.account)) lock
 
+-- refusals: close
+--   order: Invalid (no caller), CoreBusy, Invalid (a caller is missing)
 -- why the machine isn't closed, and the callers that come back: nobody was handed in, the first one found the core taken, which it counts as lost, or one is missing
 abbrev pub KeepsOpen : {C : Type 0} → MachineState C → List (CallerState C) → Refusal → List (CallerState C) → Type 0
 KeepsOpen m [] refusal back = (refusal ≡ Invalid) × (back ≡ [])

@@ -17,6 +17,9 @@ module _ {C : Type 0} where
   abbrev pub actor_of : CallerState C → ActorState
   actor_of c = record { thread = record { 0 = c.account.thread }; stage = stage_of_caller c; wait = wait_of_caller c; staxes = c.staxes; mutexes = c.mutexes }
 
+  -- rule: A call on a mutex takes the kernel at most once. Either the caller's own calls grow by just what it entered,
+  --   or the take was lost and nothing else changed (but the step of `try_unlock_mutex` at the word).
+  --   also: Visits.Visits; MutexLocks.MutexCall
   -- The caller took the kernel and gave it back. What it gave goes on from what it took, by calls of its thread alone, which are what is new of its own calls. It has now seen the history that it gave. In between it did this, by steps on the words of mutexes, each from what the one before it left, the first from what the take left
   pub record Visited (old : CallerState C) (deed : ActorState → KernelView C → ActorState → KernelView C → Type 0) (new : CallerState C) : Type 0 where
     pub held : HeldState C
@@ -38,7 +41,7 @@ module _ {C : Type 0} where
   abbrev pub FindsTaken : CallerState C → CallerState C → Type 0
   FindsTaken old new = (new ≡ turned_away new.lock old) × FailsToTake old.machine.first old.account old.lock new.account new.lock
 
-  -- it takes the kernel and gives it back, or is told that another caller has it
+  -- it takes the kernel and gives it back, or learns that another caller has it
   abbrev pub Visits : Type 0 → CallerState C → (ActorState → KernelView C → ActorState → KernelView C → Type 0) → CallerState C → Type 0
   Visits busy old does new = (busy × FindsTaken old new) ⊎ Visited old does new
 

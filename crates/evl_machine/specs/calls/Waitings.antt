@@ -65,6 +65,13 @@ module _ {C : Type 0} where
     pub finished : Called limit over (finish_of over) r new
     pub told : r ≢ Err Again
 
+  -- rule: A call that waits for an element makes one `Begin..`. If that began a wait it looks at the kernel, without
+  --   entries, until the wait is over, and in that take makes the `Finish` whose answer it gives, never `Again` or
+  --   `CoreBusy`. Want of room at the end leaves the wait unfinished.
+  --   also: Waitings.{WaitsOut, Look}
+  --   clauses: Machine::{get_sem, wait_flags, read_xbuf, write_xbuf}
+  --   rows: machine_1; machine_3; full_history_leaves_a_wait; wait_stops_at_its_beginning_without_memory;
+  --   wait_stops_at_its_end_in_a_full_history; wait_stops_at_its_end_without_memory
   -- The caller called this, and where that began a wait, it waited it out, which gave the answer; else the call's answer is the answer
   pub record Waits (limit : ℕ) (old : CallerState C) (begin : Call) (r : Result Reply Refusal) (new : CallerState C) : Type 0 where
     pub answer : Result Reply Refusal

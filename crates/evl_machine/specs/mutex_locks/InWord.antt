@@ -1,4 +1,4 @@
--- What stands in a mutex's word, and what a look at it tells the caller that has the kernel.
+-- What is in a mutex's word, and what a look at it shows the caller that has the kernel.
 use Rattle.std.specs.Prelude.{◌≡◌, ℕ, ◌-◌, ◌/◌, ◌%◌, ◌==◌, Bool, true, false, Option, Some, None, if◌then◌else◌}
 use Rattle.std.specs.Option.{option_map}
 use Rattle.evl_base.specs.declared.numbers.ThreadId.{ThreadId}
@@ -24,7 +24,7 @@ owner_of Seizing = None
 abbrev pub in_word : ℕ → InWord
 in_word word = record { owner = if number_in word == 0 then None else Some (record { 0 = number_in word - 1 }); is_offered = word / 1073741824 % 2 == 1; is_claimed = is_claimed word }
 
--- whom a state has recorded as the owner of the mutex i stands in its word, and where somebody waits for the mutex, so does the mark
+-- whom a state has recorded as the owner of the mutex i is in its word, and where somebody waits for the mutex, so is the mark
 abbrev pub Agrees : State → ℕ → InWord → Type 0
 Agrees s i w = (m : Mutex) → record_at s i ≡ Some m → ((o : ℕ) → m.owner ≡ Some o → option_map (λ (t : ThreadId). t.0) w.owner ≡ Some o) × (is_nobody m.waiters ≡ false → w.is_claimed ≡ true)
 

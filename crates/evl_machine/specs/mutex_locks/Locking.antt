@@ -69,11 +69,30 @@ module _ {C : Type 0} where
   abbrev pub Accepts : KernelView C → ℕ → Call → KernelView C → Type 0
   Accepts k thread c k' = (reply : Reply) × EntersOne k thread c (Ok reply) k'
 
-  -- The try of a mutex with a ceiling. Of a try that took it the kernel is told, and accepts that; a refused one isn't entered. There was room before the word was tried
+  -- rule: With the kernel in hand a taken mutex with a ceiling is raised. A release gives the word to whom the kernel
+  --   names, with the mark if more wait, or to nobody. A lock begins with a claim, for which the kernel learns the
+  --   owner that the word named, and ends with its own accept and `Finish`, or with a forgetting and a `Finish` that
+  --   timed out.
+  --   also: Locking.{Releases, Begins, Finishes}; MutexLocks.{FinishesToLock, TriesToUnlock, UnlocksFast}
+  --   clauses: Machine::{try_lock_mutex, begin_lock_mutex, unlock_mutex_fast, try_unlock_mutex, finish_lock_mutex}
+  --   rows: contended_mutex; racing_callers_8; ceiling_is_tried_in_a_full_history; ceiling_is_tried_without_memory;
+  --   taken_ceiling_is_tried
+  -- rule: The kernel accepts the `Raise` of a mutex with a ceiling that was taken.
+  --   also: Locking.{RaisesIf, Accepts}
+  --   rows: ceiling_mutex
+  -- rule: A call refused for want of room has made no step of the word under the kernel.
+  --   also: Locking.{FailsToBegin, FailsToFinish, IsNotFull}
+  --   rows: racing_callers_1; ceiling_is_tried_while_the_core_is_held; ceiling_is_unlocked_in_a_full_history;
+  --   ceiling_is_unlocked_while_the_core_is_held; ceiling_is_unlocked_without_memory;
+  --   contended_unlock_in_a_full_history; contended_unlock_while_the_core_is_held; contended_unlock_without_memory;
+  --   lock_begins_while_the_core_is_held; lock_begins_without_memory
+  -- The try of a mutex with a ceiling. A try that took it is reported to the kernel, which accepts that; a refused one isn't entered. There was room before the word was tried
   abbrev pub LocksRaised : List MutexKind → ActorState → KernelView C → MutexId → Result MutexPass Refusal → ActorState → KernelView C → Type 0
   LocksRaised kinds a k mutex (Ok pass) a' k' = TriesMutex kinds a.mutexes mutex.0 (Ok pass) a'.mutexes × Accepts k a.thread.0 (Raise mutex) k'
   LocksRaised kinds a k mutex (Err refusal) a' k' = EntersNone k k' × (((a'.mutexes ≡ a.mutexes) × FindsNoRoom k refusal) ⊎ (IsNotFull k × TriesMutex kinds a.mutexes mutex.0 (Err refusal) a'.mutexes))
 
+  -- rule: The kernel refuses the `Release` of an unlocking only for want of room; then the pass comes back.
+  --   also: KernelCalls.FindsNoRoom
   -- The kernel hands a mutex on, and the word is given to whom it names. It refuses that for want of room alone: then the pass comes back and the word stays
   abbrev pub Releases : ActorState → KernelView C → MutexPass → Result (Unit {0}) (Refusal × MutexPass) → ActorState → KernelView C → Type 0
   Releases a k pass (Ok done) a' k' = (next : Option ThreadId) × (more : Bool) × EntersOne k a.thread.0 (Release pass.mutex) (Ok (Handed next more)) k' × AtSeat pass.mutex.0 a.mutexes a'.mutexes (GivesTo next more)
@@ -84,7 +103,12 @@ module _ {C : Type 0} where
   RaisesIf true k thread mutex k' = Accepts k thread (Raise mutex) k'
   RaisesIf false k thread mutex k' = EntersNone k k'
 
-  -- Why a lock doesn't begin: there is no room, or the kernel refuses the wait, and the claim stands
+  -- rule: A refused `Claim` leaves the claim mark: the owner's fast unlock is then `Busy`; the other unlock unlocks.
+  --   also: MutexLocks.{FastAnswer, UnlocksAtWord}
+  --   rows: racing_callers_3; refused_claim_leaves_its_mark
+  -- rule: No claim finds another winner; the word refuses no wait that is over.
+  --   also: Locking.FailsToFinish; Ties.{OwnerTie, peopled, OfferTie}
+  -- Why a lock doesn't begin: there is no room, or the kernel refuses the wait, and the claim stays
   abbrev pub FailsToBegin : ActorState → KernelView C → MutexId → Option ℕ → Refusal → ActorState → KernelView C → Type 0
   FailsToBegin a k mutex until refusal a' k' =
       (EntersNone k k' × (a'.mutexes ≡ a.mutexes) × FindsNoRoom k refusal)
@@ -98,10 +122,17 @@ module _ {C : Type 0} where
       (owner : ThreadId) × AtSeat mutex.0 a.mutexes a'.mutexes (Claims (Queued owner)) × EntersOne k a.thread.0 (AsksToWait mutex owner until) (Ok Began) k'
   Begins ceiling a k mutex until (Err refusal) a' k' = FailsToBegin a k mutex until refusal a' k'
 
+  -- rule: The `Finish` of a wait for a mutex keeps the stage if a stax or mutex is held then.
   -- the thread's wait is finished, and it keeps its stage where a stax or a mutex is held then
   abbrev pub EndsWait : ActorState → KernelView C → Reply → ActorState → KernelView C → Type 0
   EndsWait a k ended a' k' = EntersOne k a.thread.0 (Finish (keeps_stage (holds_stax a.staxes) (holds_mutex a'.mutexes))) (Ok ended) k'
 
+  -- rule: A finish while the wait goes on is `Again`, without an entry. Once it is over only want of room refuses it;
+  --   every refusal leaves the wait and the word.
+  --   also: Visits.FindsTaken
+  --   rows: racing_callers_2; finish_in_a_full_history; finish_while_the_core_is_held; finish_without_memory;
+  --   late_finish_in_a_full_history; late_finish_while_the_core_is_held; late_finish_without_memory;
+  --   wait_is_finished_while_the_core_is_held; second_waiter_comes_while_the_core_is_held
   -- Why a wait for a mutex isn't finished: it goes on, or it is over and there is no room. The word stays, and the kernel has no entry of it
   abbrev pub FailsToFinish : ActorState → KernelView C → Refusal → ActorState → Type 0
   FailsToFinish a k refusal a' =

@@ -48,7 +48,7 @@ abbrev pub awaited_mutex : Option Unfinished → Option MutexId
 awaited_mutex (Some (Mutex mutex)) = Some mutex
 awaited_mutex wait = None
 
--- a word's answer as a call without the kernel tells it: a pass comes back where others claim the mutex
+-- a word's answer as a call without the kernel says it: a pass comes back where others claim the mutex
 abbrev pub FastAnswer : Result (Unit {0}) (Refusal × MutexPass) → Unlock → Type 0
 FastAnswer r Done = r ≡ Ok tt
 FastAnswer r (Claimed back) = r ≡ Err (Busy, back)
@@ -69,9 +69,14 @@ module _ {C : Type 0} where
   abbrev pub kind_of : CallerState C → MutexId → Option MutexKind
   kind_of c mutex = slice_get (kinds_of c) mutex.0
 
+  -- refusals: try_lock_mutex, begin_lock_mutex, finish_lock_mutex
+  --   also: MutexLocks.{TriesToLock, BeginsToLock, FinishesToLock}
   abbrev pub own_lock_refusal : CallerState C → MutexId → Option Refusal
   own_lock_refusal c mutex = lock_refusal (kind_of c mutex) (wait_of_caller c) (stage_of_caller c) (depth_at c.mutexes mutex.0)
 
+  -- rule: A try and a begin by a recursive mutex's owner get it once more, without a step.
+  --   also: MutexSeats.Gains; MutexLocks.BeginsToLock
+  --   rows: nesting
   -- A try of a mutex. The kernel is taken for a mutex with a ceiling alone; another one is tried at its word, unless the caller has it
   abbrev pub TriesToLock : CallerState C → MutexId → Result MutexPass Refusal → CallerState C → Type 0
   TriesToLock old mutex r new = MatchOption (own_lock_refusal old mutex)
@@ -98,6 +103,8 @@ module _ {C : Type 0} where
   abbrev pub SpendsAtWord : CallerState C → MutexPass → Unlock → CallerState C → Type 0
   SpendsAtWord old pass told new = WordCall (depth_at old.mutexes pass.mutex.0 ≡ 1) (on_word pass.mutex.0 unlocks) old (λ was is. UnlocksMutex was pass (Ok told) is) new
 
+  -- refusals: unlock_mutex_fast, try_unlock_mutex
+  --   also: MutexLocks.TriesToUnlock
   -- a pass is spent at the word alone, and comes back where others claim the mutex
   abbrev pub UnlocksFast : CallerState C → MutexPass → Result (Unit {0}) (Refusal × MutexPass) → CallerState C → Type 0
   UnlocksFast old pass r new = MatchOption (fast_refusal (kind_of old pass.mutex) (wait_of_caller old) old.mutexes pass)
@@ -108,6 +115,9 @@ module _ {C : Type 0} where
   abbrev pub HandsOn : CallerState C → MutexPass → Result (Unit {0}) (Refusal × MutexPass) → CallerState C → Type 0
   HandsOn old pass r new = Visits (r ≡ Err (CoreBusy, pass)) old (λ a k a' k'. Releases a k pass r a' k') new
 
+  -- rule: An unlock that finds a claim has made the entry `Unlock`, `Claimed` before it takes the kernel; that entry
+  --   changes nothing.
+  --   rows: racing_callers_2
   -- the word is unlocked, or it is claimed and its mutex is handed on
   abbrev pub UnlocksAtWord : CallerState C → MutexPass → Result (Unit {0}) (Refusal × MutexPass) → CallerState C → Type 0
   UnlocksAtWord old pass r new =

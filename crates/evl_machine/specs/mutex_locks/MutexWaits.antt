@@ -41,6 +41,14 @@ module _ {C : Type 0} where
   EndsLock (Ok begun.Waiting) found r new = Lasts FinishesToLock found r new
   EndsLock (Err refusal) found r new = (r ≡ Err refusal) × (new ≡ found)
 
+  -- rule: `lock_mutex` repeats `begin_lock_mutex`, then `finish_lock_mutex`, while they answer `CoreBusy` or `Again`;
+  --   `unlock_mutex` repeats `try_unlock_mutex` while that is `CoreBusy`.
+  --   also: MutexWaits.UnlocksAtLast
+  --   clauses: Machine::{lock_mutex, unlock_mutex}
+  --   rows: machine_1; racing_callers_6; racing_callers_7; lock_stops_at_its_finish
+  -- refusals: lock_mutex, unlock_mutex
+  --   also: MutexWaits.UnlocksAtLast
+  --   clauses: Machine::lock_mutex: lasts
   -- A lock is begun, and where the caller has to wait, its wait is finished once it is over
   abbrev pub WaitsForMutex : CallerState C → MutexId → Option ℕ → Result Ended Refusal → CallerState C → Type 0
   WaitsForMutex old mutex until r new = (answer : Result Begun Refusal) × (found : CallerState C) × Lasts (λ c s c'. BeginsToLock c mutex until s c') old answer found × EndsLock answer found r new

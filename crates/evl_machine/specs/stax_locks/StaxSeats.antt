@@ -29,6 +29,9 @@ holds_stax seats = list_any is_held seats
 abbrev pub AreFresh : List SeatState → Type 0
 AreFresh seats = AreCounted (λ s. s.gate.0) stax_passes seats 0
 
+-- refusals: try_lock_stax, lock_stax, unlock_stax
+--   also: StaxSeats.leave_refusal
+--   clauses: Machine::try_lock_stax: tried; Machine::lock_stax: waited; Machine::unlock_stax: left
 -- what refuses an entry with no step: there is no such stax, or its seat holds it
 abbrev pub stax_refusal : List SeatState → ℕ → Option Refusal
 stax_refusal seats i = option_map_or (λ seat. if is_held seat then Some Busy else None) (slice_get seats i) (Some Unknown)
@@ -43,6 +46,11 @@ abbrev pub IsOfStax : ℕ → Result StaxPass Refusal → Type 0
 IsOfStax i (Ok pass) = pass.gate.0 ≡ i
 IsOfStax i (Err refusal) = Unit {0}
 
+-- rule: A caller holds a stax at its thread's stage, so callers of two stages never hold one together. The last one out
+--   that finds the claim mark clears it and learns of it.
+--   also: StaxSeats.LeavesStax; Calls.HoldsAtItsStage
+--   clauses: Machine::{try_lock_stax, unlock_stax}; callers_agree
+--   rows: stax_stages
 abbrev pub TriesStax : List SeatState → ℕ → Stage → Result StaxPass Refusal → List SeatState → Type 0
 TriesStax old i stage result new = MatchOption (stax_refusal old i) (IsOfStax i result × AtSeat i old new (Enters stage result)) (λ refusal. (result ≡ Err refusal) × (new ≡ old))
 
@@ -50,6 +58,9 @@ TriesStax old i stage result new = MatchOption (stax_refusal old i) (IsOfStax i 
 abbrev pub pass_refusal : StaxPass → SeatState → Option Refusal
 pass_refusal pass seat = if pass.gate.0 == seat.gate.0 && pass.seat == seat.number && is_held seat then None else Some NotOwner
 
+-- rule: A pass whose number is not on the board is `NotOwner` and comes back.
+--   also: MutexSeats.unlock_refusal
+--   rows: passes_come_back
 abbrev pub leave_refusal : List SeatState → StaxPass → Option Refusal
 leave_refusal seats pass = option_map_or (pass_refusal pass) (slice_get seats pass.gate.0) (Some NotOwner)
 
@@ -58,7 +69,7 @@ abbrev pub is_wanted : Left → Bool
 is_wanted (Last claimed) = claimed
 is_wanted Others = false
 
--- the last seat of a gate takes the mark away, if it stands
+-- the last seat of a gate takes the mark away, if it is set
 abbrev pub Clears : Bool → SeatState → SeatState → Type 0
 Clears wanted between is = MatchBool wanted (Makes between unclaims is × Calls between Unclaim Done is None) (is ≡ between)
 

@@ -46,6 +46,11 @@ abbrev pub Retries : ℕ → Stage → Bool → List SeatState → List Refusal 
 Retries i stage marked old [] new = new ≡ old
 Retries i stage marked old (refusal ∷ refusals) new = (next : List SeatState) × Retry i stage marked old refusal next × Retries i stage (marked || is_again refusal) next refusals new
 
+-- rule: Waiting for a stax tries again after `Again`, `Limit` and `Raced`, and sets the claim mark after the first
+--   `Again`.
+--   also: StaxWaits.Retries
+--   clauses: Machine::lock_stax
+--   rows: machine_1; racing_callers_5; no_stax_is_waited_for
 -- Tries that were refused and made again, and the last one, which gave the answer: a pass, or a refusal that doesn't pass
 pub record WaitsForStax (i : ℕ) (stage : Stage) (old : List SeatState) (result : Result StaxPass Refusal) (new : List SeatState) : Type 0 where
   pub refusals : List Refusal

@@ -8,7 +8,12 @@ use crate::named::Named;
 use std::alloc::Allocator;
 
 impl<C: Named, A: Allocator> PipelineOf<C, A> {
-    /// Whether both pipelines stand alike: the same is pending, stalled and counted, and the same stands on each line.
+    // rule: Two of a kind are alike exactly if their states are the same, with each callback's name in its place, of
+    //   kernels over one bank; a free place of a queue holds a fixed value.
+    //   clauses: Pipeline::is_like; Clock::is_like; Sched::is_like; are_alike; Alike::is_alike; WaitQueue::is_like;
+    //   ArrivalQueue::is_like; Sem::is_like; FlagGroup::is_like; Owners::is_like; Xbuf::is_like; Kernel::is_like
+    //   rows: kernels_stand_alike
+    /// Whether both pipelines stand alike: the same is pending, stalled and counted, and the same is on each line.
     /// Of two callbacks the names are compared.
     pub fn is_like<B: Allocator>(&self, other: &PipelineOf<C, B>) -> bool
         ensures alike { result ≡ true → named_pipeline C.name self.now ≡ named_pipeline C.name other.now }

@@ -12,7 +12,7 @@ use crate::shown::Shown;
 use std::alloc::Allocator;
 
 impl<C: Named, A: Allocator> SideOf<C, A> {
-    /// Whether both stages stand alike: their stall bits, pending lines and counts are the same, and so is what stands
+    /// Whether both stages stand alike: their stall bits, pending lines and counts are the same, and so is what is
     /// on each line. Of two callbacks the names are compared.
     pub fn is_like<B: Allocator>(&self, other: &SideOf<C, B>) -> bool
         ensures alike { result ≡ true → named_side C.name self.now ≡ named_side C.name other.now }
@@ -24,7 +24,7 @@ impl<C: Named, A: Allocator> SideOf<C, A> {
             && are_lines_alike(self, other)
     }
 
-    // What a line shows of its callback, if one stands there.
+    // What a line shows of its callback, if one is there.
     fn shown(&self, line: u16) -> Option<Shown>
         ensures shown { result ≡ option_map (shown C.name) (callback_on self.now line) }
     {
@@ -38,7 +38,7 @@ impl<C: Named, A: Allocator> SideOf<C, A> {
 }
 
 impl<C, A: Allocator> SideOf<C, A> {
-    // A line from which on no callback stands.
+    // A line from which on there is no callback.
     fn end(&self) -> usize
         ensures free { (line : ℕ) → result ≤ line → callback_on self.now line ≡ None }
         ensures within { result ≤ line_count }
@@ -48,7 +48,7 @@ impl<C, A: Allocator> SideOf<C, A> {
     }
 }
 
-// Whether the same stands on each line.
+// Whether the same is on each line.
 fn are_lines_alike<C: Named, A: Allocator, B: Allocator>(
     ours: &SideOf<C, A>,
     theirs: &SideOf<C, B>,
@@ -64,7 +64,7 @@ fn are_lines_alike<C: Named, A: Allocator, B: Allocator>(
     true
 }
 
-// Whether the same stands on a line.
+// Whether the same is on a line.
 fn is_line_alike<C: Named, A: Allocator, B: Allocator>(
     ours: &SideOf<C, A>,
     theirs: &SideOf<C, B>,

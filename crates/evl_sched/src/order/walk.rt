@@ -1,4 +1,4 @@
-//! The ready threads one after another: they are told into a list, and those of two orders are compared.
+//! The ready threads one after another: they are written into a list, and those of two orders are compared.
 ghost use Rattle.std.specs.Prelude.{◌≡◌, ◌++◌, ℕ, true, length, map, take, OnErr, OnOk};
 ghost use Rattle.evl_sched.specs.Orders.{AreStamped, in_order};
 ghost use Rattle.evl_sched.specs.Walks.{IsNext};

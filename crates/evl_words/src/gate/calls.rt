@@ -13,8 +13,11 @@ use evl_base::{Refusal, Stage};
 use std::alloc::Allocator;
 
 impl<A: Allocator> StaxGate<A> {
-    /// Leaves the gate, by one subtraction that keeps the stage bit (Dovetail: stax). The last to leave is told whether
-    /// the claim mark stands. NotOwner, with the pass back and no step, for a pass that isn't this seat's at this gate,
+    // refusals: StaxGate::unlock
+    //   order: NotOwner (local), with the pass
+    //   clauses: StaxGate::unlock: err
+    /// Leaves the gate, by one subtraction that keeps the stage bit (Dovetail: stax). The last to leave learns whether
+    /// the claim mark is set. NotOwner, with the pass back and no step, for a pass that isn't this seat's at this gate,
     /// or where the seat holds nothing.
     pub fn unlock(&self, seat: &mut StaxSeat, pass: StaxPass) -> Result<Left, (Refusal, StaxPass)>
         requires { IsSeatOf seat.old self.now }
@@ -37,7 +40,7 @@ impl<A: Allocator> StaxGate<A> {
         }
     }
 
-    /// Sets the claim mark, by which the last to leave is told of others that want in.
+    /// Sets the claim mark, by which the last to leave learns of others that want in.
     pub fn claim(&self, seat: &mut StaxSeat)
         requires { IsSeatOf seat.old self.now }
         ensures seat { IsSameSeat seat.old seat.new }

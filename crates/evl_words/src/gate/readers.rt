@@ -1,4 +1,4 @@
-//! What a pass and a seat of a gate tell.
+//! What a pass and a seat of a gate say.
 ghost use Rattle.std.specs.Prelude.{◌≡◌};
 
 use super::{StaxPass, StaxSeat};

@@ -23,7 +23,7 @@ pub struct GateWord {
 }
 
 impl GateWord {
-    /// What a word tells.
+    /// What a word says.
     pub fn of(word: u64) -> GateWord
         ensures { (result.holders ≡ count_in word) × (result.stage ≡ stage_in word) × (result.claimed ≡ mark_in word) }
     {
@@ -38,7 +38,7 @@ impl GateWord {
         }
     }
 
-    /// The word that tells it.
+    /// The word that says it.
     pub fn pack(self) -> u64
         ensures { result ≡ packed_gate self.holders self.stage self.claimed }
     {

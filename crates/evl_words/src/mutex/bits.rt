@@ -15,6 +15,10 @@ pub const CLAIM_MARK: u64 = 1 << 31;
 // The bits of the owner's number.
 const NUMBER_MASK: u64 = (1 << 16) - 1;
 
+// rule: Readers give the numbers and depth of a seat, pass and place, and whether a word has an offer or a claim.
+//   clauses: claim_on; is_offered_to; offered_word; StaxPass::{gate, seat}; StaxSeat::{of_token, gate, number, held};
+//   MutexSeat::{of_token, mutex, number, depth}; MutexPass::{mutex, seat}; MutexPlace::{new, mutex, number, depth, own,
+//   nest, fits, spend}
 /// What a claim on this word is answered.
 pub fn claim_on(word: u64) -> Claim
     ensures { reply_of result ≡ claim_reply word }

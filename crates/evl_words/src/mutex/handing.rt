@@ -14,7 +14,7 @@ use std::alloc::Allocator;
 use std::marker::Brand;
 
 impl<A: Allocator> MutexWord<A> {
-    /// Sets the claim mark, and tells what stood before (Xenomai 4: the claim bit). On a free mutex its caller has won,
+    /// Sets the claim mark, and says what stood before (Xenomai 4: the claim bit). On a free mutex its caller has won,
     /// and alone settles.
     pub fn claim(&self, seat: &mut MutexSeat) -> Claim
         requires { IsSeatOf seat.old self.now }

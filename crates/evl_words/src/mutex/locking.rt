@@ -42,6 +42,9 @@ impl<A: Allocator> MutexWord<A> {
         }
     }
 
+    // refusals: MutexWord::unlock
+    //   order: NotOwner (local), with the pass
+    //   clauses: MutexWord::unlock: err
     /// Spends a pass. At depth 1 the mutex is given up by one exchange of the seat's number for 0, unless it is claimed
     /// (Xenomai 4: the claim bit sends the unlocker to the core). A pass that isn't this seat's at this mutex comes
     /// back with NotOwner.

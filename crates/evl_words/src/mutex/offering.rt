@@ -25,6 +25,9 @@ impl<A: Allocator> MutexWord<A> {
         is_offered_to(word, seat.here.number())
     }
 
+    // refusals: MutexWord::forget
+    //   order: Busy
+    //   clauses: MutexWord::forget: err
     /// The seat waits for the mutex no more. Busy where the mutex is offered to it.
     pub fn forget(&self, seat: &mut MutexSeat) -> Result<(), Refusal>
         requires { IsSeatOf seat.old self.now }
@@ -71,6 +74,9 @@ impl<A: Allocator> MutexWord<A> {
         seat.here.own()
     }
 
+    // refusals: MutexWord::accept
+    //   order: Again
+    //   clauses: MutexWord::accept: err
     /// Accepts what is offered to the seat, which then owns the mutex. Again without an offer to it.
     pub fn accept(&self, seat: &mut MutexSeat) -> Result<MutexPass, Refusal>
         requires { IsSeatOf seat.old self.now }

@@ -1,4 +1,4 @@
-//! What a pass and a seat of a mutex tell.
+//! What a pass and a seat of a mutex say.
 ghost use Rattle.std.specs.Prelude.{◌≡◌};
 
 use super::{MutexPass, MutexSeat};

@@ -1,4 +1,4 @@
-//! The calls on a cross-buffer with the services told into a list of the caller's, so that no such list is moved.
+//! The calls on a cross-buffer with the services entered into a list of the caller's, so that no such list is moved.
 ghost use Rattle.std.specs.Prelude.{◌≡◌, ◌<◌, ◌≤◌, ◌+◌, ◌&&◌, true, false, [], None, Some, Ok, IfErr, IfNone, IfOk, IfSome, if◌then◌else◌};
 ghost use Rattle.std.specs.Option.{option_map};
 ghost use Rattle.evl_base.specs.Limits.{thread_limit};
@@ -16,7 +16,7 @@ use std::alloc::Allocator;
 const MAX_TRANSFER: u16 = 256;
 
 impl<A: Allocator> XbufOf<A> {
-    /// Writes as `try_write` does, and tells whom that served into a list where nobody stands yet. (Xenomai 4: EVL
+    /// Writes as `try_write` does, and enters whom that served into a list where nobody is yet. (Xenomai 4: EVL
     /// cross-buffer; this profile)
     #[inline(always)]
     pub fn try_write_telling(
@@ -57,8 +57,8 @@ impl<A: Allocator> XbufOf<A> {
         }
     }
 
-    /// Reads as `try_read` does, into two boxes of `spares`, where that is accepted, nobody waits and the bytes lie in one
-    /// piece; none, and nothing changes, else or where a box was refused. (Xenomai 4: EVL cross-buffer; this profile)
+    /// Reads as `try_read` does, into a box of `spares`, where that is accepted, nobody waits and the bytes lie in one
+    /// piece; none, and nothing changes, else. (Xenomai 4: EVL cross-buffer; this profile)
     #[inline(always)]
     pub fn read_unserved<B: Allocator>(
         &mut self,
@@ -66,10 +66,10 @@ impl<A: Allocator> XbufOf<A> {
         way: Way,
         len: u16,
         spares: &mut Spares<B>,
-    ) -> Option<(Transfer, Transfer)>
-        ensures step { IfSome result (λ two. try_read stage way len self.old ≡ Ok ((two.0.items, []), self.new)) }
-        ensures twice { IfSome result (λ two. two.1.items ≡ two.0.items) }
-        ensures spent { spares.old ≤ spares.new + 2 }
+    ) -> Option<Transfer>
+        requires boxes { 1 ≤ spares.old }
+        ensures step { IfSome result (λ read. try_read stage way len self.old ≡ Ok ((read.items, []), self.new)) }
+        ensures spent { spares.old ≤ spares.new + 1 }
         ensures kept { IfNone result ((self.new ≡ self.old) × (spares.new ≡ spares.old)) }
     {
         if len > MAX_TRANSFER || !reads(stage, way) {
@@ -81,8 +81,8 @@ impl<A: Allocator> XbufOf<A> {
         }
     }
 
-    /// Reads as `try_read` does, in the place of the bytes that `got` had, and tells whom that served into a list where
-    /// nobody stands yet. (Xenomai 4: EVL cross-buffer; this profile)
+    /// Reads as `try_read` does, in the place of the bytes that `got` had, and enters whom that served into a list where
+    /// nobody is yet. (Xenomai 4: EVL cross-buffer; this profile)
     #[inline(always)]
     pub fn try_read_telling(
         &mut self,
@@ -110,8 +110,8 @@ impl<A: Allocator> XbufOf<A> {
         }
     }
 
-    /// Writes or begins to wait as `begin_write` does, says whether it was done at once, and tells whom that served
-    /// into a list where nobody stands yet. (Xenomai 4: EVL cross-buffer)
+    /// Writes or begins to wait as `begin_write` does, says whether it was done at once, and enters whom that served
+    /// into a list where nobody is yet. (Xenomai 4: EVL cross-buffer)
     pub fn begin_write_telling(
         &mut self,
         thread: ThreadId,
@@ -137,8 +137,8 @@ impl<A: Allocator> XbufOf<A> {
         }
     }
 
-    /// Reads or begins to wait as `begin_read` does, with what was read at once, and tells whom that served into a list
-    /// where nobody stands yet. (Xenomai 4: EVL cross-buffer; this profile)
+    /// Reads or begins to wait as `begin_read` does, with what was read at once, and enters whom that served into a list
+    /// where nobody is yet. (Xenomai 4: EVL cross-buffer; this profile)
     pub fn begin_read_telling(
         &mut self,
         thread: ThreadId,
@@ -167,8 +167,8 @@ impl<A: Allocator> XbufOf<A> {
         }
     }
 
-    /// Lets a thread wait this way no more as `drop_waiter` does, and tells whom that served into a list where nobody
-    /// stands yet.
+    /// Lets a thread wait this way no more as `drop_waiter` does, and enters whom that served into a list where nobody
+    /// is yet.
     pub fn drop_waiter_telling(&mut self, thread: ThreadId, way: Way, told: &mut Services)
         requires nobody { told.old ≡ [] }
         ensures step { (told.new, self.new) ≡ drop_waiter thread.0 way self.old }

@@ -1,4 +1,4 @@
-//! What a caller does in a row, and what it is told. Of the caller its machine alone is told by the clauses.
+//! What a caller does in a row, and what it is answered. The clauses say only of which machine the caller is.
 ghost use Rattle.std.specs.Prelude.{◌≡◌};
 ghost use Rattle.evl_kernel.specs.state.Callbacks.{AnswersByPlan};
 
@@ -100,7 +100,7 @@ pub enum Element {
     Written,
 }
 
-/// What it is told.
+/// What it is answered.
 #[derive(Clone, Copy, PartialEq)]
 pub enum Told {
     Done,
@@ -146,7 +146,7 @@ pub const SHORT: Told = Told::Refused(Refusal::NoMemory);
 
 pub const UNKNOWN: Told = Told::Refused(Refusal::Unknown);
 
-/// What the kernel's answer tells.
+/// What the kernel's answer says.
 pub fn told_by(answer: Result<Reply, Refusal>) -> Told {
     match answer {
         Ok(Reply::Done) => Told::Done,

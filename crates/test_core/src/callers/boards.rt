@@ -1,4 +1,4 @@
-//! The board of the rows, and what stands in the word of its first mutex.
+//! The board of the rows, and what is in the word of its first mutex.
 use super::acts::{AGAIN, Act, Ask, DONE, PASSED, Told, WAITING};
 use super::phases::{Left, Seen, Step};
 use crate::boards::bare_board;
@@ -50,7 +50,7 @@ pub const CONTENDED: [Step; 4] = steps![
     0 ATTACH => DONE, 1 ATTACH => DONE, 0 Act::Lock(FIRST) => PASSED, 1 Act::Begin(FIRST, None) => WAITING,
 ];
 
-/// What the first two are told once the core is free, which one of them had for one put.
+/// What the first two are answered once the core is free, which one of them had for one put.
 pub const ONCE_FREE: [Step; 5] = steps![
     1 GET => DONE, 1 PUT => DONE, 0 GET => DONE, 0 GET => AGAIN, 1 PEEK => Told::Count(0),
 ];

@@ -33,7 +33,7 @@ fn call_without_memory(rt: HostRuntime) {
     assert!(rt; is_row(&rt, rt.alloc(), NORMAL, 100, &CALLED_SHORT));
 }
 
-// Calls under one take, of which the history has room for the first: it stands, and the others see it.
+// Calls under one take, of which the history has room for the first: it remains, and the others see it.
 const HELD_IN_FULL: [Phase<'_>; 3] = phases![
     Free (&ATTACHED) Left::Free(2);
     Applied [3 PUT => DONE, 3 PUT => FULL, 3 PEEK => FULL] Left::Free(3);
@@ -58,7 +58,7 @@ fn held_calls_stop_without_memory(rt: HostRuntime) {
     assert!(rt; is_row(&rt, rt.alloc(), NORMAL, 100, &HELD_SHORT));
 }
 
-// Room that a caller made serves whoever calls next, however short memory is then.
+// Room that a caller made serves the next caller, however short memory is then.
 const RESERVED: [Phase<'_>; 4] = phases![
     Free (&GROWN) Left::Free(4);
     Applied [3 Reserve(2) => DONE, 3 Reserve(97) => FULL] Left::Free(4);
@@ -80,6 +80,8 @@ const CORE_LOST: [Phase<'_>; 3] = phases![
         0 UnlockFast(SECOND) => DONE, 1 Lock(FIRST) => CORE_BUSY] Left::Unseen;
 ];
 
+// rule: A caller dropped while it has the kernel leaves the core taken.
+//   rows: close_with_a_dropped_holder; what_a_dropped_caller_has_stays_taken; lost_pass_keeps_the_mutex
 #[test]
 fn core_is_lost_with_its_caller(rt: HostRuntime) {
     assert!(rt; is_row(&rt, rt.alloc(), CEILING, 100, &CORE_LOST));

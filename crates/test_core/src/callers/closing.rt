@@ -143,7 +143,7 @@ fn is_history(history: &[Entry], count: usize, puts: (usize, usize)) -> bool {
 #[derive(Clone, Copy)]
 pub enum End {
     Unasked,
-    // How many calls there are behind both attachments, and how many of them are done puts of each thread.
+    // How many calls there are after both attachments, and how many of them are done puts of each thread.
     Calls(usize, (usize, usize)),
     // How many plays there were.
     Plays(usize),
@@ -152,18 +152,21 @@ pub enum End {
 }
 
 // Whether a kernel has what is wanted.
-fn kernel_has<C: Handler, A: Allocator>(kernel: &KernelOf<C, A>, end: End) -> bool {
+fn kernel_has<C: Handler, A: Allocator>(alloc: Global, kernel: &KernelOf<C, A>, end: End) -> bool {
+    let Ok(entries) = kernel.history().to_vec(alloc) else {
+        return false;
+    };
     match end {
         End::Unasked => true,
-        End::Calls(count, puts) => is_history(kernel.history(), count, puts),
+        End::Calls(count, puts) => is_history(entries.as_slice(), count, puts),
         End::Plays(count) => kernel.plays().len() == count,
-        End::Row(alloc) => is_history_of_row(alloc, kernel.history()),
+        End::Row(alloc) => is_history_of_row(alloc, entries.as_slice()),
     }
 }
 
-// The same of a kernel that goes.
-fn has_at_last<C: Handler, A: Allocator>(kernel: KernelOf<C, A>, end: End) -> bool {
-    let has = kernel_has(&kernel, end);
+// Whether a kernel that goes has what is wanted.
+fn has_at_last<C: Handler, A: Allocator>(alloc: Global, kernel: KernelOf<C, A>, end: End) -> bool {
+    let has = kernel_has(alloc, &kernel, end);
     leave_kernel(kernel);
     has
 }
@@ -176,8 +179,9 @@ pub fn closes_with<C: Handler>(
 ) -> bool
     requires { All (λ c. c.machine ≡ machine) callers.items }
 {
+    let alloc = *callers.allocator();
     match machine.close(callers) {
-        Ok(kernel) => has_at_last(kernel, end),
+        Ok(kernel) => has_at_last(alloc, kernel, end),
         Err((_, machine, callers)) => {
             leave(machine, callers);
             false
@@ -194,8 +198,9 @@ fn closed(
     requires { All (λ c. c.machine ≡ machine.of) callers.items }
     ensures { IfErr result (λ e. (e.1.of ≡ machine.of) × All (λ c. c.machine ≡ machine.of) e.2.items) }
 {
+    let alloc = *callers.allocator();
     match machine.close(callers) {
-        Ok(kernel) => Ok(has_at_last(kernel, End::Row(alloc))),
+        Ok(kernel) => Ok(has_at_last(alloc, kernel, End::Row(alloc))),
         Err(open) => Err(open),
     }
 }

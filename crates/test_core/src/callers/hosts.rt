@@ -8,7 +8,7 @@ use super::threads::{Task, Turn};
 use evl_base::{ActionKinds, Policy, Stage};
 use evl_pipeline::{Action, Answer, Callback, Fire, Plan};
 
-// A row: the steps before, both tasks with how much each is told, the steps after, and what the kernel has at last.
+// A row: the steps before, both tasks with each one's number of answers, the steps after, and the kernel at last.
 macro_rules! thread_row {
     ($before:expr; $one:expr, $other:expr => $told:expr; $after:expr; $end:expr) => {
         ThreadRow { before: $before, tasks: ($one, $other), told: $told, after: $after, end: $end }
@@ -30,7 +30,7 @@ fn machine_3(rt: HostRuntime) {
 }
 
 // Row machine_4: the first caller has the kernel for one put on a host thread, until the second one's five tries on
-// another are answered, of which no call is entered, and both are told what they are to be once the core is free.
+// another are answered, of which no call is entered, and both are answered as is wanted once the core is free.
 const HELD: ThreadRow<'_> = thread_row![
     &ATTACHED;
     Task::HoldsAPut, Task::Beside(Turn::TriesAll) => (2, 2);
@@ -102,7 +102,7 @@ fn callers_meet(rt: HostRuntime) {
     assert!(rt; is_thread_row(&rt, rt.alloc(), 100, &MEET));
 }
 
-// The bank's one callback stands on a line, on which events arrive from two host threads: whichever has the kernel
+// The bank's one callback is on a line, on which events arrive from two host threads: whichever has the kernel
 // calls the stored closure.
 const BOTH_ARRIVE: ThreadRow<'_> = thread_row![
     &[(0, Act::Call(Ask::Request(LINE, Stage::Oob)), DONE)];

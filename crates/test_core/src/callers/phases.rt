@@ -1,4 +1,4 @@
-//! Phases of a row as data: who calls what and is told what, beside whom, and what is left then.
+//! Phases of a row as data: who calls what and is answered what, beside whom, and what is left then.
 ghost use Rattle.std.specs.Prelude.{◌≡◌, All, IfSome};
 ghost use Rattle.evl_kernel.specs.state.Callbacks.{AnswersByPlan};
 
@@ -13,10 +13,10 @@ use evl_pipeline::Handler;
 use std::alloc::Allocator;
 use std::sync::Wait;
 
-/// A step: by which caller, what it does, and what it is told.
+/// A step: by which caller, what it does, and what it is answered.
 pub type Step = (usize, Act, Told);
 
-/// What stands still while the steps of a phase are made.
+/// What stays still while the steps of a phase are made.
 #[derive(Clone, Copy, PartialEq)]
 pub enum Side {
     // Nothing.
@@ -35,7 +35,7 @@ pub enum Side {
     Lost,
 }
 
-/// What is seen: how many entries, what stands in the word of the first mutex, and what the kernel records of it.
+/// What is seen: how many entries, what is in the word of the first mutex, and what the kernel records of it.
 #[derive(Clone, Copy, PartialEq)]
 pub struct Seen {
     pub entries: usize,
@@ -91,7 +91,7 @@ macro_rules! listed {
 pub(crate) use listed;
 pub(crate) use phases;
 
-/// What the caller at this place is told.
+/// What the caller at this place is answered.
 pub fn answer<C: Handler, A: Allocator, R: Wait>(
     rt: &R,
     machine: &MachineOf<C, A>,

@@ -37,7 +37,7 @@ const CONTENDED_MUTEX: [Step; 9] = steps![
     1 UnlockFast(FIRST) => DONE,
 ];
 
-// Its five calls of the kernel stand, and nobody has the mutex.
+// Its five calls of the kernel remain, and nobody has the mutex.
 const LEFT: Left = Left::Free(5);
 
 // Whether a step is refused for memory, and then answered as it is wanted when it is made once more; none where it is
@@ -139,7 +139,7 @@ fn met_over<R: Wait>(rt: &R, boxes: Global, memory: &Refusing<LocalHeap>) -> Opt
     }
 }
 
-// The same of memory that refuses the request behind so many.
+// Where the row meets the refusal of memory that refuses the request after so many.
 fn met<R: Wait>(rt: &R, alloc: Global, granted: u64) -> Option<Site> {
     match LocalHeap::new(alloc, ENOUGH) {
         Ok(heap) => met_over(rt, alloc, &Refusing::after(heap, granted)),
@@ -163,5 +163,5 @@ fn requests<R: Wait>(rt: &R, alloc: Global) -> Option<[u32; 2]> {
 
 #[test]
 fn each_request_of_a_contended_mutex_is_refused_once(rt: HostRuntime) {
-    assert!(rt; requests(&rt, rt.alloc()) == Some([70, 4]));
+    assert!(rt; requests(&rt, rt.alloc()) == Some([70, 6]));
 }

@@ -50,7 +50,7 @@ fn is_phase<C: Handler, A: Allocator, R: Wait>(
     told && left
 }
 
-// The same of one phase after another.
+// Whether phases are answered and leave what is wanted, one after another.
 fn are_phases<C: Handler, A: Allocator, R: Wait>(
     rt: &R,
     memory: Memory<'_>,

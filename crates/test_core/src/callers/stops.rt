@@ -10,7 +10,7 @@ use super::rows::is_row;
 use crate::rows::steps;
 
 // A mutex with a ceiling is tried, and begun, while the core is held: the word stays free, and the next try takes it
-// and is told to the kernel.
+// and is reported to the kernel.
 const TRIED_WHILE_HELD: [Phase<'_>; 3] = phases![
     Free (&ATTACHED) Left::Free(2);
     Held [0 Lock(FIRST) => CORE_BUSY, 1 Begin(FIRST, None) => CORE_BUSY] Left::Free(2);
@@ -119,7 +119,7 @@ fn lost_pass_keeps_the_mutex(rt: HostRuntime) {
     assert!(rt; is_row(&rt, rt.alloc(), NORMAL, 100, &LOST));
 }
 
-// A second one that would wait finds the core held: the first one's wait stands as before.
+// A second one that would wait finds the core held: the first one's wait is as before.
 const SECOND_WAITER: [Phase<'_>; 5] = phases![
     Free (&CONTENDED) Left::Awaited(3, 0, 1);
     Free [2 ATTACH => DONE] Left::Awaited(4, 0, 1);
@@ -180,7 +180,7 @@ fn finish_without_memory(rt: HostRuntime) {
     assert!(rt; is_row(&rt, rt.alloc(), NORMAL, 100, &FINISHED_SHORT));
 }
 
-// The deadline came, and the core is held: the wait stays unfinished, and the mark stands. It stays behind the finish
+// The deadline came, and the core is held: the wait stays unfinished, and the mark remains. It stays after the finish
 // too, so that the owner asks the kernel when it unlocks.
 const LATE_WHILE_HELD: [Phase<'_>; 5] = phases![
     Free (&ATTACHED) Left::Free(2);

@@ -15,7 +15,7 @@ use std::alloc::{Allocator, Global};
 use std::sync::Wait;
 use std::thread::Threads;
 
-/// What two host threads do, and of how much each is told, between steps on one; the first one takes all passes with it.
+/// What two host threads do, and each one's number of answers, between steps on one; the first takes all passes.
 #[derive(Clone, Copy)]
 pub struct ThreadRow<'a> {
     pub before: &'a [Step],
@@ -40,7 +40,7 @@ fn meet<C: Handler, A: Allocator>(
     machine.agree(one, other);
 }
 
-// Whether both callers are told on two host threads what is wanted, and come back.
+// Whether both callers are answered on two host threads what is wanted, and come back.
 fn told_on_threads<C: Handler + Send, R: Threads + Wait + Sync>(
     rt: &R,
     alloc: Global,

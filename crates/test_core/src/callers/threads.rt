@@ -17,7 +17,7 @@ use std::thread::Threads;
 // The most turns that a host thread waits for another one's sign.
 const MOST_TURNS: u32 = 1_000_000_000;
 
-/// Where each of two host threads tells the other how far it is.
+/// Where each of two host threads shows the other how far it is.
 #[derive(Drop)]
 pub struct Signs {
     pub taken: AtomicBool,
@@ -70,7 +70,7 @@ pub enum Turn {
     TriesAll,
 }
 
-// What is done in a turn, and told.
+// What is done in a turn, and answered.
 fn acts_of(turn: Turn) -> &'static [(Act, Told)] {
     match turn {
         Turn::Puts => &[(PUT_AT_LAST, DONE)],
@@ -172,7 +172,7 @@ fn holds_a_put<C: Handler, A: Allocator>(
     }
 }
 
-// Takes a turn while the other thread has the kernel, and tells that thread; 2 where that one's sign came, and all of
+// Takes a turn while the other thread has the kernel, and signals that; 2 where that one's sign came, and all of
 // the turn was answered as it is wanted.
 fn takes_turn_beside<C: Handler, A: Allocator, R: Wait>(
     rt: &R,
@@ -273,7 +273,7 @@ fn both_work<M: Sync, W: Worker<M> + Send, R: Threads + Wait + Sync>(
     )
 }
 
-/// Both hands work at once on a machine: their callers come back, with of how much each was told.
+/// Both hands work at once on a machine: their callers come back, with each one's number of answers.
 pub fn both_call<C: Handler + Send, R: Threads + Wait + Sync>(
     rt: &R,
     machine: &MachineOf<C, Global>,

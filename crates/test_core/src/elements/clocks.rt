@@ -50,7 +50,7 @@ const TIMER: TimerId = TimerId(0);
 
 const THREAD: ThreadId = ThreadId(255);
 
-// Whether a periodic timer fires once, and tells how many periods it missed.
+// Whether a periodic timer fires once, and reports how many periods it missed.
 fn is_late<C: Handler, A: Allocator>(clock: &mut ClockOf<C, A>, callback: C) -> bool {
     let made = is_made(clock.new_timer(callback, TAG), 0);
     let started = clock.start(TIMER, 100, 10) == Ok(false);

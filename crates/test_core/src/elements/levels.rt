@@ -82,7 +82,7 @@ fn keeps_two<L: Level>(set: &mut L, number: u16) -> bool
     first && both && second && set.is_empty()
 }
 
-// The same of all numbers below a limit: so on both sides of each word's edge, in each level.
+// Whether all numbers below a limit do: so on both sides of each word's edge, in each level.
 fn keeps_neighbours<L: Level>(set: &mut L, limit: u16) -> bool
     requires { limit ≤ L.limit set.old }
     ensures { L.limit set.new ≡ L.limit set.old }

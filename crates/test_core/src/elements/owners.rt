@@ -19,7 +19,7 @@ const NORMAL: [MutexKind; 2] = [MutexKind::Normal, MutexKind::Normal];
 
 const KINDS: [MutexKind; 2] = [MutexKind::Ceiling(50), MutexKind::Normal];
 
-// What is done, and what it is told.
+// What is done, and what it is answered.
 #[derive(Clone, Copy)]
 enum Step {
     SetBase(ThreadId, u16),
@@ -44,7 +44,7 @@ fn has_ranks<A: Allocator>(owners: &OwnersOf<A>, wanted: [u16; 4]) -> bool {
     ranks == wanted
 }
 
-// Whether a step is told what it says.
+// Whether a step is answered what it says.
 fn is_told<A: Allocator>(owners: &mut OwnersOf<A>, step: Step) -> bool {
     match step {
         Step::SetBase(thread, rank) => owners.set_base(thread, rank).is_ok(),
@@ -79,7 +79,7 @@ fn are_told<A: Allocator>(owners: &mut OwnersOf<A>, steps: &[Step]) -> bool {
     true
 }
 
-// The same of new records of so many threads.
+// Whether each step of new records of so many threads is.
 fn is_row<A: Allocator + Clone>(
     alloc: A,
     threads: u16,

@@ -7,7 +7,7 @@ use std::alloc::Allocator;
 
 pub const THREADS: u16 = 256;
 
-/// The plain program: what was told of each thread. Who owns what, the records are asked.
+/// The plain program: what was reported of each thread. The records are asked who owns what.
 #[derive(Drop)]
 pub struct Plain {
     base: [u16; 256],
@@ -86,7 +86,7 @@ impl Plain {
         rank
     }
 
-    /// Whether the records tell just these ranks, one by one and all at once.
+    /// Whether the records give just these ranks, one by one and all at once.
     pub fn is_like<A: Allocator>(&self, owners: &OwnersOf<A>, kinds: &[MutexKind]) -> bool {
         let mut ranks = [7; 257];
         owners.ranks(&mut ranks);

@@ -16,7 +16,7 @@ const RR: Policy = Policy::Rr {
 
 const QUOTA: Policy = Policy::Quota { group: 0, prio: 5 };
 
-/// What is done, and what it is told.
+/// What is done, and what it is answered.
 #[derive(Clone, Copy)]
 pub(crate) enum Step {
     Attach(ThreadId, Policy, Result<(), Refusal>),
@@ -37,7 +37,7 @@ pub(crate) enum Step {
     Stage(ThreadId, Stage),
 }
 
-// Whether a step is told what it says.
+// Whether a step is answered what it says.
 fn is_told<A: Allocator>(sched: &mut SchedOf<A>, step: Step) -> bool {
     match step {
         Step::Attach(thread, policy, told) => sched.attach(thread, policy, Stage::Oob) == told,
@@ -87,7 +87,7 @@ fn are_told<A: Allocator>(sched: &mut SchedOf<A>, steps: &[Step]) -> bool {
     true
 }
 
-// What is asked of a new scheduler: that each step is told what it says, or that it is full and takes no more of its
+// What is asked of a new scheduler: that each step is answered so, or that it is full and takes no more of its
 // heap.
 #[derive(Clone, Copy)]
 enum Asked<'a> {
@@ -116,7 +116,7 @@ fn is_so_of_new<A: Allocator + Clone>(
     }
 }
 
-/// Whether each step is told what it says, of a new scheduler of eight threads.
+/// Whether each step is answered what it says, of a new scheduler of eight threads.
 pub(crate) fn is_row(alloc: Global, groups: &[u8], steps: &[Step]) -> bool {
     is_so_of_new(alloc, 8, groups, Asked::Steps(steps)) == Ok(true)
 }
@@ -143,7 +143,7 @@ fn a_blocked_thread_comes_back(rt: HostRuntime) {
     assert!(rt; is_row(rt.alloc(), &[10], &BLOCKED));
 }
 
-// What is told once 256 threads are attached.
+// What is answered once 256 threads are attached.
 const FULL: [Step; 3] = calls![
     Attach(ThreadId(256), RR, Err(Refusal::Unknown)); Charge(100); Pick(ONE);
 ];
@@ -216,7 +216,7 @@ fn a_boosted_thread_stands_where_it_became_ready(rt: HostRuntime) {
     assert!(rt; is_row(rt.alloc(), &[], &COMES_BETWEEN));
 }
 
-// Ranks above all policies' are told apart, and equal ones are in order.
+// Ranks above all policies' are distinct, and equal ones are in order.
 const ARE_ABOVE: [Step; 14] = calls![
     Attach(ZERO, HIGHEST, Ok(())); Attach(ONE, HIGHEST, Ok(())); Attach(TWO, HIGHEST, Ok(()));
     Attach(THREE, HIGHEST, Ok(())); Attach(FOUR, HIGHEST, Ok(())); Boost(FOUR, 65535);

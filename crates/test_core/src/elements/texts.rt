@@ -23,7 +23,7 @@ fn play_text(alloc: Global, play: Play) -> Result<Vec<u8>, Refusal> {
     Ok(text)
 }
 
-// The texts of these calls, one behind another.
+// The texts of these calls, one after another.
 fn call_texts(alloc: Global, calls: &[Call]) -> Result<Vec<u8>, Refusal> {
     let mut text = Vec::new(alloc);
     for call in calls {

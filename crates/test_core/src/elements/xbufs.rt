@@ -89,7 +89,7 @@ fn lets_in<A: Allocator>(xbuf: &mut XbufOf<A>) -> bool
     nobody && is_written(&served, TWO) && is_read(xbuf, b"af")
 }
 
-// The same of a new cross-buffer.
+// Whether a writer that waits no more lets the next one in, of a new cross-buffer.
 fn new_lets_in<A: Allocator + Clone>(alloc: A) -> bool {
     match XbufOf::new(alloc, 1, 4) {
         Ok(mut xbuf) => lets_in(&mut xbuf),

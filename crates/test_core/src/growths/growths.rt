@@ -35,7 +35,7 @@ enum Asked {
     Room(usize),
 }
 
-// Asks for room for some calls, and tells why it is refused.
+// Asks for room for some calls, and answers why it is refused.
 fn refusal_of_room<C: Handler, A: Allocator>(
     kernel: &mut KernelOf<C, A>,
     calls: usize,
@@ -136,7 +136,10 @@ fn is_traced<C, A: Allocator>(alloc: Global, kernel: &KernelOf<C, A>, row: &Row)
     let Some((board, limit)) = board_of(alloc, row) else {
         return false;
     };
-    match trace_history(alloc, &board, limit, kernel.history(), kernel.plays()) {
+    let Ok(entries) = kernel.history().to_vec(alloc) else {
+        return false;
+    };
+    match trace_history(alloc, &board, limit, entries.as_slice(), kernel.plays()) {
         Ok(trace) => trace.as_str() == row.trace,
         Err(_) => false,
     }
@@ -264,7 +267,7 @@ fn met_over<R: Threads + Wait + Sync>(
     }
 }
 
-// The same of memory that refuses the request behind so many.
+// Where a row meets the refusal of memory that refuses the request after so many.
 fn met<R: Threads + Wait + Sync>(
     rt: &R,
     alloc: Global,

@@ -12,7 +12,7 @@ pub(crate) struct Row {
 pub(crate) const ROWS: [Row; 8] = [
     // first_semaphore
     Row {
-        requests: [38, 4, 3],
+        requests: [38, 5, 5],
         scenario: r#"limit = 100
 step = [
   { do = "try_get", who = 0, sem = 0 }, { do = "put", who = 0, sem = 0 }, { do = "try_get", who = 0, sem = 0 },
@@ -31,7 +31,7 @@ sems = [0]
     },
     // lowest_line_first
     Row {
-        requests: [38, 6, 6],
+        requests: [38, 7, 8],
         scenario: r#"step = [
   { do = "request", who = 0, line = 9, stage = "oob", callback = 0 },
   { do = "request", who = 0, line = 2, stage = "oob", callback = 7 },
@@ -61,7 +61,7 @@ sems = [0]
     },
     // periodic_timer
     Row {
-        requests: [37, 5, 5],
+        requests: [37, 6, 7],
         scenario: r#"step = [
   { do = "new_timer", who = 0, callback = 0, tag = 0 },
   { do = "start_timer", who = 0, timer = 0, date = 100, interval = 10 }, { do = "tick", who = 0, delta = 135 },
@@ -87,7 +87,7 @@ threads = 1
     },
     // timer_before_deadline
     Row {
-        requests: [38, 5, 5],
+        requests: [38, 6, 7],
         scenario: r#"step = [
   { do = "new_timer", who = 0, callback = 1, tag = 0 },
   { do = "start_timer", who = 0, timer = 0, date = 50, interval = 0 },
@@ -112,7 +112,7 @@ sems = [0]
     },
     // inheritance_chain
     Row {
-        requests: [40, 6, 6],
+        requests: [40, 7, 8],
         scenario: r#"step = [
   { do = "attach", who = 1, policy = "fifo 8", stage = "oob" },
   { do = "attach", who = 2, policy = "fifo 28", stage = "oob" },
@@ -145,7 +145,7 @@ mutexes = ["normal", "normal"]
     },
     // cross_buffer
     Row {
-        requests: [44, 6, 5],
+        requests: [44, 7, 8],
         scenario: r#"step = [
   { do = "attach", who = 1, policy = "fifo 10", stage = "oob" },
   { do = "write", who = 0, xbuf = 0, way = "in", bytes = "61626364" },
@@ -178,7 +178,7 @@ xbufs = [[4, 4]]
     },
     // flag_waiters
     Row {
-        requests: [38, 6, 5],
+        requests: [38, 7, 7],
         scenario: r#"step = [
   { do = "attach", who = 1, policy = "fifo 20", stage = "oob" },
   { do = "attach", who = 2, policy = "fifo 10", stage = "oob" },
@@ -206,7 +206,7 @@ flags = [0]
     },
     // quota_refill
     Row {
-        requests: [38, 5, 4],
+        requests: [38, 6, 6],
         scenario: r#"step = [
   { do = "attach", who = 1, policy = "quota 0 5", stage = "oob" }, { do = "rank_of", who = 0, thread = 1 },
   { do = "pick", who = 0 }, { do = "tick", who = 0, delta = 100000000 }, { do = "pick", who = 0 },

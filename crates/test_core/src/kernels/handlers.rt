@@ -71,7 +71,7 @@ pub(crate) fn quiet_bank<A: Allocator + Clone>(
     Ok(bank)
 }
 
-/// A board of so many threads and one semaphore, which stands at a count.
+/// A board of so many threads and one semaphore with a count.
 pub(crate) fn board_of(threads: u16, count: u32) -> Board
     ensures flags { result.flags.items ≡ [] }
     ensures xbufs { result.xbufs.items ≡ [] }

@@ -1,4 +1,4 @@
-//! Kernels: their room, stored closures, waits, and what their readers tell.
+//! Kernels: their room, stored closures, waits, and what their readers report.
 ghost use Rattle.evl_kernel.specs.state.Callbacks.{AnswersByPlan};
 ghost use Rattle.std.specs.Prelude.{◌≡◌};
 
@@ -124,7 +124,7 @@ fn a_bank_has_a_range(rt: HostRuntime) {
 
 const STRANGER: ThreadId = ThreadId(9);
 
-// Whether these are what the readers tell of a thread: it has a wait, which has ended, and by its deadline.
+// Whether these are what the readers report of a thread: it has a wait, which has ended, and by its deadline.
 fn tells<C, A: Allocator>(kernel: &KernelOf<C, A>, thread: ThreadId, told: [bool; 3]) -> bool {
     kernel.waits(thread) == told[0]
         && kernel.finished(thread) == told[1]
@@ -179,21 +179,21 @@ fn times_out<C: Handler, A: Allocator>(kernel: &mut KernelOf<C, A>) -> bool
         && tells(kernel, CALLER, [false, false, false])
 }
 
-/// Whether the readers tell of two waits; the first one is served by the semaphore, which stood at 1.
+/// Whether the readers report two waits; the first one is served by the semaphore, which was at 1.
 pub(crate) fn tells_of_two_waits<C: Handler, A: Allocator>(kernel: &mut KernelOf<C, A>) -> bool
     requires { AnswersByPlan C.declared C.plan kernel.old.callbacks }
 {
     is_served(kernel) && times_out(kernel)
 }
 
-// A wait that is served at once, then one whose deadline has come; of a stranger all readers tell false.
+// A wait that is served at once, then one whose deadline has come; of a stranger all readers say false.
 #[test]
 fn readers_tell_of_waits(rt: HostRuntime) {
     let alloc = rt.alloc();
     assert!(rt; on_a_quiet_kernel(alloc, alloc, board_of(1, 1), 10, Row::TwoWaits) == Ok(true));
 }
 
-// Whether these are the rank, the readiness and the pick that the readers tell of thread 0.
+// Whether these are the rank, the readiness and the pick that the readers report of thread 0.
 fn stands<C, A: Allocator>(kernel: &KernelOf<C, A>, rank: Option<u16>, ready: bool) -> bool {
     let picked = match kernel.picked() {
         Some(thread) => thread.0 == CALLER.0,
@@ -228,7 +228,7 @@ fn awaits_sem<C, A: Allocator>(kernel: &KernelOf<C, A>) -> bool {
     }
 }
 
-/// Thread 0 is attached, and then waits for the semaphore, which stands at 0, until after the date has moved.
+/// Thread 0 is attached, and then waits for the semaphore, which is at 0, until after the date has moved.
 pub(crate) fn goes_and_waits<C: Handler, A: Allocator>(kernel: &mut KernelOf<C, A>) -> bool
     requires { AnswersByPlan C.declared C.plan kernel.old.callbacks }
 {

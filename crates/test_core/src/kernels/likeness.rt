@@ -1,4 +1,4 @@
-//! Kernels that stand alike, whatever calls led there, and the ready list.
+//! Kernels that are alike, whatever calls led there, and the ready list.
 ghost use Rattle.evl_kernel.specs.state.Callbacks.{AnswersByPlan};
 
 use super::handlers::{ATTACH, SEM, board_of, does};
@@ -19,7 +19,7 @@ fn is_ready_alone<C, A: Allocator>(alloc: Global, kernel: &KernelOf<C, A>) -> bo
     told && ready.as_slice() == [ThreadId(0)].as_slice()
 }
 
-// Whether a thread that is attached out-of-band stands in the ready list.
+// Whether a thread that is attached out-of-band is in the ready list.
 fn is_listed<C: Handler, A: Allocator>(alloc: Global, kernel: &mut KernelOf<C, A>) -> bool
     requires { AnswersByPlan C.declared C.plan kernel.old.callbacks }
     ensures { AnswersByPlan C.declared C.plan kernel.new.callbacks }

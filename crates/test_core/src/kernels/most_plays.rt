@@ -70,7 +70,7 @@ fn widest_board() -> Board {
     board
 }
 
-// Whether a callback stands on a line out-of-band, of which an event is pending then.
+// Whether a callback is on a line out-of-band, of which an event is pending then.
 fn stands<C: Handler, A: Allocator>(kernel: &mut KernelOf<C, A>, number: u8) -> bool
     requires { AnswersByPlan C.declared C.plan kernel.old.callbacks }
     ensures { AnswersByPlan C.declared C.plan kernel.new.callbacks }
@@ -87,7 +87,7 @@ fn stands<C: Handler, A: Allocator>(kernel: &mut KernelOf<C, A>, number: u8) -> 
     requested && arrived
 }
 
-// Whether a callback stands in a timer, which is due.
+// Whether a callback is in a timer, which is due.
 fn is_due<C: Handler, A: Allocator>(kernel: &mut KernelOf<C, A>, callback: u8) -> bool
     requires { AnswersByPlan C.declared C.plan kernel.old.callbacks }
     ensures { AnswersByPlan C.declared C.plan kernel.new.callbacks }
@@ -124,7 +124,7 @@ fn waits<C: Handler, A: Allocator>(kernel: &mut KernelOf<C, A>, thread: ThreadId
     attached && begun
 }
 
-// Whether three callbacks stand on lines, each with a pending event.
+// Whether three callbacks are on lines, each with a pending event.
 fn lines_stand<C: Handler, A: Allocator>(kernel: &mut KernelOf<C, A>) -> bool
     requires { AnswersByPlan C.declared C.plan kernel.old.callbacks }
     ensures { AnswersByPlan C.declared C.plan kernel.new.callbacks }
@@ -136,7 +136,7 @@ fn lines_stand<C: Handler, A: Allocator>(kernel: &mut KernelOf<C, A>) -> bool
     all
 }
 
-// Whether all other callbacks stand in timers, each of which is due.
+// Whether all other callbacks are in timers, each of which is due.
 fn timers_are_due<C: Handler, A: Allocator>(kernel: &mut KernelOf<C, A>) -> bool
     requires { AnswersByPlan C.declared C.plan kernel.old.callbacks }
     ensures { AnswersByPlan C.declared C.plan kernel.new.callbacks }

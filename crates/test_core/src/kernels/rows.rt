@@ -15,7 +15,7 @@ use evl_pipeline::{Handler, PipelineOf};
 use std::alloc::{Allocator, Global};
 use std::cell::Cell;
 
-/// What is asked of a kernel, each told in the function that has its name below.
+/// What is asked of a kernel, each explained at the function that has its name below.
 #[derive(Clone, Copy)]
 pub(crate) enum Row<'a> {
     ThreePlaces,

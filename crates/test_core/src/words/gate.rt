@@ -33,7 +33,7 @@ enum Act {
     Race(Stage),
 }
 
-// What it is told.
+// What it is answered.
 #[derive(Clone, Copy, PartialEq)]
 enum Told {
     Entered,
@@ -46,7 +46,7 @@ enum Told {
     Nothing,
 }
 
-// A step of a row: by which seat, what it does, and what it is told.
+// A step of a row: by which seat, what it does, and what it is answered.
 type Step = (usize, Act, Told);
 
 type Passes = [Option<StaxPass>; 4];
@@ -88,7 +88,7 @@ fn shows(pass: &Option<StaxPass>) -> Told {
     }
 }
 
-// What one seat is told, with this pass.
+// What one seat is answered, with this pass.
 fn one_step(gate: &StaxGate, seat: &mut StaxSeat, pass: &mut Option<StaxPass>, act: Act) -> Told
     requires { IsSeatOf seat.old gate.now }
     ensures { IsSameSeat seat.old seat.new }
@@ -114,7 +114,7 @@ fn one_step(gate: &StaxGate, seat: &mut StaxSeat, pass: &mut Option<StaxPass>, a
     }
 }
 
-// What the first seat's exchange is told where the second one entered after the first one's load.
+// What the first seat's exchange is answered where the second one entered after the first one's load.
 fn exchanges(gate: &StaxGate, first: &mut StaxSeat, second: &mut StaxSeat, stage: Stage) -> Told
     requires mine { IsSeatOf first.old gate.now × IsSeatOf second.old gate.now }
     ensures first { IsSameSeat first.old first.new }
@@ -142,7 +142,7 @@ fn comes_back(gate: &StaxGate, seats: &mut Vec<StaxSeat>, seat: StaxSeat) -> boo
     seats.push(seat).is_ok()
 }
 
-// What the seat of this number is told, which the last one races.
+// What the seat of this number is answered, which the last one races.
 fn races(gate: &StaxGate, seats: &mut Vec<StaxSeat>, number: usize, stage: Stage) -> Told
     requires mine { All (λ seat. IsSeatOf seat gate.now) seats.old.items }
     ensures mine { All (λ seat. IsSeatOf seat gate.now) seats.new.items }
@@ -158,7 +158,7 @@ fn races(gate: &StaxGate, seats: &mut Vec<StaxSeat>, number: usize, stage: Stage
     if back { told } else { Told::Nothing }
 }
 
-// What the seat of this number is told.
+// What the seat of this number is answered.
 fn answer(
     gate: &StaxGate,
     seats: &mut Vec<StaxSeat>,
@@ -193,7 +193,7 @@ fn answers(gate: &StaxGate, seats: &mut Vec<StaxSeat>, passes: &mut Passes, step
     true
 }
 
-// The same of the steps so often, one round after another.
+// Whether the steps are answered as is wanted, made so often, one round after another.
 fn all_answer(gate: &StaxGate, seats: &mut Vec<StaxSeat>, times: u16, steps: &[Step]) -> bool
     requires mine { All (λ seat. IsSeatOf seat gate.now) seats.old.items }
     ensures mine { All (λ seat. IsSeatOf seat gate.now) seats.new.items }
@@ -327,7 +327,7 @@ fn the_word_shows_the_claim_mark(rt: HostRuntime) {
     assert!(rt; words_are(rt.alloc(), whole(2, 2), &CLAIM_ROW, &CLAIM_WORDS));
 }
 
-// Row gate_4: a pass tells its gate and its seat, of which alone it is one.
+// Row gate_4: a pass names its gate and its seat, of which alone it is one.
 const PASS: [Step; 6] = steps![
     0 OUT => ENTERED, 0 Act::Show => Told::Shows(StaxId(0), 0),
     0 Act::Held => Told::Holds(Some(Stage::Oob)), 1 Act::Held => Told::Holds(None),

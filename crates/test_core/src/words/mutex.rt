@@ -1,4 +1,4 @@
-//! The mutex word's rows as data: which seat does what, and what it is told.
+//! The mutex word's rows as data: which seat does what, and what it is answered.
 ghost use Rattle.std.specs.Prelude.{◌≡◌, ◌<◌, true, All, IfOk, IfSome, length};
 ghost use Rattle.evl_words.specs.MutexCalls.{IsPassOf, IsSeatOf, IsSameSeat};
 
@@ -28,7 +28,7 @@ enum Act {
     SeeOffer,
 }
 
-// What it is told.
+// What it is answered.
 #[derive(Clone, Copy, PartialEq)]
 enum Told {
     Passed,
@@ -40,7 +40,7 @@ enum Told {
     Nothing,
 }
 
-// A step of a row: by which seat, what it does, and what it is told.
+// A step of a row: by which seat, what it does, and what it is answered.
 type Step = (u16, Act, Told);
 
 // A pass that came is the last one.
@@ -113,7 +113,7 @@ fn free(word: &MutexWord, seat: &mut MutexSeat, pass: Option<MutexPass>) -> Told
     }
 }
 
-// What one seat of so many is told.
+// What one seat of so many is answered.
 fn one_step(
     word: &MutexWord,
     count: u16,
@@ -152,7 +152,7 @@ fn place_of(seats: &[MutexSeat], number: u16) -> Option<usize>
     None
 }
 
-// What the seat of this number is told.
+// What the seat of this number is answered.
 fn answer(
     word: &MutexWord,
     count: u16,
@@ -200,7 +200,7 @@ enum Part<'a> {
     Win(u16, &'a [Step]),
 }
 
-// The same of the steps so often.
+// Whether the steps are answered as is wanted, made so often.
 fn round_answers(
     word: &MutexWord,
     count: u16,
@@ -258,7 +258,7 @@ fn wins_around(
     }
 }
 
-// The same of one part.
+// Whether one part is answered as is wanted.
 fn part_answers(
     word: &MutexWord,
     count: u16,
@@ -276,7 +276,7 @@ fn part_answers(
     }
 }
 
-// The same of one part after another.
+// Whether parts are answered as is wanted, one after another.
 fn all_answer(
     word: &MutexWord,
     count: u16,
@@ -327,7 +327,7 @@ fn word_after(alloc: Global, kind: Kind, parts: &[Part<'_>]) -> Option<u64> {
     }
 }
 
-// The same of a mutex of so many seats that doesn't nest, whose steps are made once.
+// The word at which a mutex of so many seats closes that doesn't nest, whose steps are made once.
 fn word_of(alloc: Global, seats: u16, steps: &[Step]) -> Option<u64> {
     word_after(alloc, plain(seats), &[Part::Steps(1, steps)])
 }

@@ -1,8 +1,9 @@
-//! The list of the calls, what is found in texts, and how machines stand, as JSON.
+//! The list of the calls, what is found in texts, and how machines are, as JSON.
 use lab_faults::check;
-use lab_json::{write_call_of, write_calls, write_faults, write_judged, write_warnings};
+use lab_json::{
+    write_call_of, write_calls, write_faults, write_judged, write_states, write_warnings,
+};
 use lab_reports::program_plans;
-use lab_states::write_states;
 use std::alloc::Global;
 
 const REQUEST: &str =
@@ -17,7 +18,7 @@ const BEGIN_GET: &str =
     r#"{"word": "begin_get", "keys": [{"key": "sem", "default": null, "kind": "number", "most": 65535, "values": []}, {"key": "until", "default": "none", "kind": "date", "most": 18446744073709551615, "values": ["none"]}], "answers": ["begun"]}
 "#;
 
-// Whether just this is told of a word.
+// Whether just this is reported of a word.
 fn is_told(alloc: Global, word: &str, wanted: &str) -> bool {
     let mut json = String::new(alloc);
     match write_call_of(&mut json, word) {
@@ -72,7 +73,7 @@ const JUDGED: &str =
     r#"{"file": "a.toml", "kind": "unexpected", "line": 3, "byte": null, "step": 2, "says": "step 2: count 2 is expected, count 1 is answered"}
 "#;
 
-// Whether the first fault of a text is told so.
+// Whether the first fault of a text is reported so.
 fn is_first(alloc: Global, text: &str, wanted: &str) -> bool {
     let mut json = String::new(alloc);
     match check(alloc, text.as_bytes()) {
@@ -84,13 +85,13 @@ fn is_first(alloc: Global, text: &str, wanted: &str) -> bool {
     }
 }
 
-// Whether warnings are told so.
+// Whether warnings are reported so.
 fn are_warnings(alloc: Global, warned: &str, wanted: &str) -> bool {
     let mut json = String::new(alloc);
     write_warnings(alloc, &mut json, "a.toml", warned).is_ok() && json.as_str() == wanted
 }
 
-// Whether what is judged of a step is told so.
+// Whether what is judged of a step is reported so.
 fn is_judged(alloc: Global, line: &str, wanted: &str) -> bool {
     let mut json = String::new(alloc);
     write_judged(alloc, &mut json, "a.toml", false, line).is_ok() && json.as_str() == wanted

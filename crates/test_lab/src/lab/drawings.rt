@@ -1,8 +1,8 @@
 //! Traces that are read and drawn.
 use evl_plans::trace_plans;
 use lab_drawing::{
-    Condition, Lane, Moment, lanes_of, marks_of, told_moments, write_down, write_svg, write_told,
-    write_told_down,
+    Condition, Drawn, Goes, Lane, Mark, Moment, Shows, lanes_of, marks_of, shown_with,
+    told_moments, write_svg,
 };
 use lab_moments::moments_of;
 use lab_reports::{program_plans, write_events};
@@ -65,15 +65,35 @@ fn drawn(alloc: Global, trace: &str, form: Form) -> Result<Vec<u8>, AllocError> 
     let Ok(lines) = read_lines(alloc, trace) else {
         return Ok(Vec::new(alloc));
     };
-    let marks = marks_of(alloc, lines.as_slice())?;
-    let moments = told_moments(alloc, marks.as_slice())?;
+    let list = marks_of(alloc, lines.as_slice())?;
+    let marks = list.as_slice();
+    let told = told_moments(alloc, marks)?;
+    let none = Vec::new(alloc);
     match form {
-        Form::Events => Ok(write_events(alloc, marks.as_slice())?.into_bytes()),
-        Form::Picture => write_svg(alloc, marks.as_slice(), &[]),
-        Form::PictureDown => write_down(alloc, marks.as_slice(), &[]),
-        Form::TellingPicture => write_told(alloc, marks.as_slice(), moments.as_slice()),
-        Form::TellingDown => write_told_down(alloc, marks.as_slice(), moments.as_slice()),
+        Form::Events => Ok(write_events(alloc, marks)?.into_bytes()),
+        Form::Picture => picture(alloc, marks, none, Shows::Waits, Goes::Across),
+        Form::PictureDown => picture(alloc, marks, none, Shows::Waits, Goes::Down),
+        Form::TellingPicture => picture(alloc, marks, told, Shows::Words, Goes::Across),
+        Form::TellingDown => picture(alloc, marks, told, Shows::Words, Goes::Down),
     }
+}
+
+// The first page of a picture.
+fn picture(
+    alloc: Global,
+    marks: &[Mark<'_>],
+    moments: Vec<Moment>,
+    shows: Shows,
+    goes: Goes,
+) -> Result<Vec<u8>, AllocError> {
+    let drawn = Drawn {
+        marks,
+        moments,
+        shows,
+        goes,
+        page: 0,
+    };
+    write_svg(alloc, &drawn)
 }
 
 // Whether what is made of a trace begins and ends as SVG does.
@@ -126,7 +146,7 @@ step = [
 threads = 2
 "#;
 
-// How a lane stands after a step.
+// How a lane is after a step.
 fn stands(moments: &[Moment], step: usize, lane: Lane) -> Option<(Condition, Option<u16>)> {
     let standing = moments.get(step)?.standing(lane)?;
     Some((standing.condition, standing.number))
@@ -147,7 +167,7 @@ fn moments_tell_how_a_thread_stands(rt: HostRuntime) {
     assert!(rt; stands_so(rt.alloc()) == Some(true));
 }
 
-// Whether a stax stands as callers' lines show it until it is free, a mutex as its word was shown last, and the core.
+// Whether a stax is as callers' lines show it until it is free, a mutex as its word was shown last, and the core.
 fn words_stand(alloc: Global, told: &str) -> Option<bool> {
     let lines = read_lines(alloc, told).ok()?;
     let marks = marks_of(alloc, lines.as_slice()).ok()?;
@@ -200,11 +220,21 @@ fn lent(alloc: Global) -> Option<Vec<u8>> {
     let plans = program_plans(alloc).ok()?;
     let trace = trace_plans(alloc, plans.as_slice(), LENT.as_bytes(), None).ok()?;
     let lines = read_lines(alloc, str::from_utf8(trace.as_slice()).ok()?).ok()?;
-    let marks = marks_of(alloc, lines.as_slice()).ok()?;
-    let lanes = lanes_of(alloc, marks.as_slice()).ok()?;
+    let list = marks_of(alloc, lines.as_slice()).ok()?;
+    let marks = list.as_slice();
+    let lanes = lanes_of(alloc, marks).ok()?;
     let moments = moments_of(alloc, plans.as_slice(), LENT.as_bytes(), lanes.as_slice()).ok()?;
-    let mut both = write_down(alloc, marks.as_slice(), moments.as_slice()).ok()?;
-    let across = write_svg(alloc, marks.as_slice(), moments.as_slice()).ok()?;
+    let shows = shown_with(moments.as_slice());
+    let mut drawn = Drawn {
+        marks,
+        moments,
+        shows,
+        goes: Goes::Down,
+        page: 0,
+    };
+    let mut both = write_svg(alloc, &drawn).ok()?;
+    drawn.goes = Goes::Across;
+    let across = write_svg(alloc, &drawn).ok()?;
     both.extend_from_slice(across.as_slice()).ok()?;
     Some(both)
 }

@@ -1,8 +1,8 @@
-//! Scenarios with faults, and what is told of them.
+//! Scenarios with faults, and what is reported of them.
 use lab_faults::report;
 use std::alloc::Global;
 
-// A scenario with a fault of the board, an unknown key, an unknown word, and a value that can't stand where it does.
+// A scenario with a fault of the board, an unknown key, an unknown word, and a value that can't be where it is.
 const FAULTY: &str = r#"[board]
 threads = 257
 [[step]]
@@ -22,7 +22,7 @@ do = "put"
 who = 0
 "#;
 
-// What is told of it.
+// What is reported of it.
 const TOLD: &str = r#"a.toml:2:11: threads = 257: a number from 1 to 256 is wanted
 a.toml:6:1: step 1: arrive has no key "lien"; did you mean "line"? (keys: line)
 a.toml:8:6: step 2: there is no call "puut"; did you mean "put"?
@@ -30,7 +30,7 @@ a.toml:14:9: step 3: delta = "01": a number from 0 to 18446744073709551615, abov
 a.toml:16:1: step 4: put needs a key "sem": a number from 0 to 65535 is wanted there
 "#;
 
-// Steps in a list, with an unknown word and values that can't stand where they do.
+// Steps in a list, with an unknown word and values that can't be where they are.
 const LISTED: &str = r#"step = [
   { do = "attach", who = 1, policy = "fifo 10", stage = "oob" }, { do = "puut", who = 0, sem = 0 },
   { do = "post_flags", who = 0, flags = 0, bits = [1] }, { who = 0, do = "now" },
@@ -40,14 +40,14 @@ threads = 2
 xbufs = [[8, 8], [0, 8]]
 "#;
 
-// What is told of them.
+// What is reported of them.
 const LISTED_TOLD: &str =
     r#"a.toml:7:9: xbufs = [[8, 8], [0, 8]]: a list of at most 16 pairs of numbers from 1 to 256 is wanted
 a.toml:2:73: step 2: there is no call "puut"; did you mean "put"?
 a.toml:3:51: step 3: bits = [1]: a number from 0 to 4294967295 is wanted
 "#;
 
-// Steps and a limit that stand below the board.
+// Steps and a limit that are below the board.
 const BELOW: &str = r#"[board]
 threads = 2
 sems = [0]
@@ -55,7 +55,7 @@ step = [ { do = "put", who = 0, sem = 0 } ]
 limit = 100
 "#;
 
-// What is told of them.
+// What is reported of them.
 const BELOW_TOLD: &str =
     r#"a.toml:4:1: the board has no key "step"; it stands above [board] (keys: threads, sems, flags, xbufs, mutexes, groups)
 a.toml:5:1: the board has no key "limit"; it stands above [board] (keys: threads, sems, flags, xbufs, mutexes, groups)
@@ -89,7 +89,7 @@ const EACH_WORD: &str = r#"step = [
 threads = 1
 "#;
 
-// Whether just this is told of a text in a file `a.toml`.
+// Whether just this is reported of a text in a file `a.toml`.
 fn is_told(alloc: Global, text: &str, told: &str) -> bool {
     let mut lines = String::new(alloc);
     match report(alloc, "a.toml", text.as_bytes(), &mut lines) {

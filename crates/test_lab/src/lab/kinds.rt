@@ -1,4 +1,4 @@
-//! Texts of each kind with faults, and what is told of them.
+//! Texts of each kind with faults, and what is reported of them.
 use lab_kinds::{TextKind, checked_kind, kind_of, report_kind};
 use std::alloc::{AllocError, Global};
 
@@ -8,14 +8,14 @@ do = [{ post_sem = 0 }, { every = 0, put_sem = 1 }]
 accept = 2
 "#;
 
-// What is told of it.
+// What is reported of it.
 const BANK_TOLD: &str =
     r#"a.toml:2:35: row 2: every = 0: a number from 1 to 18446744073709551615, above 9223372036854775807 as a string, is wanted
 a.toml:2:38: row 2: no key "put_sem"; did you mean "post_sem"? (keys: every, post_sem, post_flags, bits, propagate, post_oob, stop_timer)
 a.toml:3:1: a callback: no key "accept"; did you mean "accepts"? (keys: accepts, do)
 "#;
 
-// What is told of a text in a file `a.toml`, where it is of this kind.
+// What is reported of a text in a file `a.toml`, where it is of this kind.
 fn told(alloc: Global, kind: TextKind, text: &str) -> Result<String, AllocError> {
     let mut lines = String::new(alloc);
     if kind_of(alloc, text.as_bytes())? == kind {
@@ -26,7 +26,7 @@ fn told(alloc: Global, kind: TextKind, text: &str) -> Result<String, AllocError>
     Ok(lines)
 }
 
-// Whether just this is told of it.
+// Whether just this is reported of it.
 fn is_told(alloc: Global, kind: TextKind, text: &str, wanted: &str) -> bool {
     match told(alloc, kind, text) {
         Ok(lines) => lines.as_str() == wanted,
@@ -77,7 +77,7 @@ mutex = 0
 as = "m"
 "#;
 
-// The same with lines behind it.
+// The same with lines after it.
 fn steps_with(alloc: Global, lines: &str) -> Result<String, AllocError> {
     let mut text = String::from_str(alloc, STEPS)?;
     text.push_str(lines)?;

@@ -1,4 +1,4 @@
-//! Texts of lines: what they mean, what is told of those that can't be read, and scenarios as lines.
+//! Texts of lines: what they mean, what is reported of those that can't be read, and scenarios as lines.
 use crate::rows::cases;
 use lab_lines::{LinesFault, callers_text, is_lines, plain_text, read_lines, write_lines};
 use std::alloc::Global;
@@ -11,7 +11,7 @@ const MEANT: [(&str, &str); 4] = cases![
     "board threads=1 mutexes=[]\n   T0 write bytes=- xbuf=0 way=in\n" => "limit = 1000\n\n[board]\nthreads = 1\nsems = []\nflags = []\nxbufs = []\nmutexes = []\ngroups = []\n\n[[step]]\ndo = \"write\"\nwho = 0\nxbuf = 0\nway = \"in\"\nbytes = \"\"\n";
 ];
 
-// Texts of lines that can't be read: the line, the byte, and what is told.
+// Texts of lines that can't be read: the line, the byte, and what is reported.
 const REFUSED: [(&str, (usize, usize, &str)); 9] = cases![
     "board threads=257\n" => (1, 7, "threads = \"257\": a number from 1 to 256 is wanted");
     "board threads=1 semms=[0]\n" => (1, 17, "the board has no key \"semms\"; did you mean \"sems\"? (keys: threads, sems, flags, xbufs, mutexes, groups)");

@@ -126,7 +126,7 @@ fn comes_to(alloc: Global, session: &mut Session, asked: Asked<'_>) -> bool {
     }
 }
 
-// The same of a new one: the one place where a machine is let go.
+// What a new machine comes to: the one place where a machine is let go.
 fn is_driven(alloc: Global, asked: Asked<'_>) -> bool {
     match open(alloc, FIRST) {
         Ok(mut session) => comes_to(alloc, &mut session, asked),
@@ -191,7 +191,7 @@ fn a_path_stands_behind_its_word(rt: HostRuntime) {
     assert!(rt; path_behind("save ", b"draw a.svg").is_none());
 }
 
-// A thread that waits, and how all stands then.
+// A thread that waits, and how all is then.
 const STANDING: [(&str, &str); 3] = cases![
     "T1 attach policy=fifo 10 stage=oob" => "2 T1 attach policy=fifo 10 stage=oob -> done\n";
     "T1 begin_get sem=0" => "3 T1 begin_get sem=0 until=none -> begun\n";

@@ -1,4 +1,4 @@
-//! What is told of scenarios that were played.
+//! What is reported of scenarios that were played.
 use crate::rows::cases;
 use lab_reports::{find_differences, write_json};
 use lab_traces::read_lines;
@@ -20,7 +20,7 @@ const JSON: &str =
 {"file": "a \"b\"", "number": null, "who": 0, "call": "begin_get", "keys": {"sem": 0, "until": null}, "answer": {"kind": "refused", "value": "HistoryFull"}, "refused": true, "plays": []}
 "#;
 
-// Whether a trace is told so.
+// Whether a trace is reported so.
 fn is_told(alloc: Global, trace: &str, wanted: &str) -> bool {
     let Ok(lines) = read_lines(alloc, trace) else {
         return false;

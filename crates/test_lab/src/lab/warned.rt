@@ -4,7 +4,7 @@ use lab_reports::program_plans;
 use lab_warnings::warnings;
 use std::alloc::Global;
 
-// A scenario of which something is told: T1 calls while T2 is picked and waits, a semaphore isn't there, a thread is
+// A scenario with warnings: T1 calls while T2 is picked and waits, a semaphore isn't there, a thread is
 // busy, and a line is pending in the end.
 const ODD: &str = r#"step = [
   { do = "attach", who = 1, policy = "fifo 10", stage = "oob" }, { do = "attach", who = 2, policy = "fifo 20", stage = "oob" },

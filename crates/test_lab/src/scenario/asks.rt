@@ -52,7 +52,7 @@ fn what_is_told_of_outcomes_is_asked(rt: HostRuntime) {
     }
 }
 
-// Whether this order is told.
+// Whether this order is reported.
 fn is_after(first: &First, order: &[u16]) -> bool {
     match first {
         First::After(found) => found.as_slice() == order,

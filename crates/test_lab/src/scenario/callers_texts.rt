@@ -17,7 +17,7 @@ const EACH_WORD: &str = "[board]\nthreads = 2\nmutexes = [\"normal\"]\nstaxes = 
 [[step]]\ndo = \"tick\"\nwho = 0\ndelta = 5
 [[step]]\ndo = \"give\"\nwho = 0\n";
 
-// What its steps are, as they are told.
+// What its steps are, as they are reported.
 const EACH_TOLD: &str = "T1 try_lock_stax stax=1 as=p-1
 T1 unlock_stax pass=p-1
 T0 try_lock_mutex mutex=0 as=m_0
@@ -31,7 +31,7 @@ T0 tick delta=5
 T0 give
 ";
 
-// Whether the steps of a text are told so, a line each.
+// Whether the steps of a text are reported so, a line each.
 fn has_steps(alloc: Global, text: &CallersText, wanted: &str) -> Result<bool, AllocError> {
     let mut told = String::new(alloc);
     for step in text.steps.as_slice() {
@@ -79,7 +79,7 @@ fn fault_of(alloc: Global, text: &str) -> Option<Fault> {
     }
 }
 
-// Whether each of these second steps, behind a good one, is refused.
+// Whether each of these second steps, after a good one, is refused.
 fn are_refused(alloc: Global, steps: &[&str]) -> bool {
     for step in steps {
         let Ok(text) = format!(in alloc;

@@ -3,8 +3,7 @@ ghost use Rattle.std.specs.Prelude.{◌≡◌, ◌<◌, true};
 ghost use Rattle.lab_orders.specs.Tallies.{told_weight};
 ghost use Rattle.lab_orders.specs.Weights.{count_limit};
 
-use lab_answers::{put_answers, put_head};
-use lab_orders::Tally;
+use lab_orders::{Tally, put_answers, put_head};
 use lab_scenario_orders::{
     NoCallbacks, OrderFault, ask_alone, is_stuck, leaving, outcomes_of, play_order, read_ask,
     read_callers, read_order, write_report,
@@ -219,7 +218,7 @@ const AT_TAKEN: &str = "# 3 orders, 2 outcomes, 7 moments
 # T1 step 2: done in 2 orders, not made in 1 order
 # T2 step 1: done in 1 order, Again in 2 orders\n";
 
-// Whether a count tells the orders of all outcomes.
+// Whether a count gives the orders of all outcomes.
 fn are_counted(outcomes: &[Tally]) -> bool
     ensures { result ≡ true → told_weight (λ told. 1) outcomes.now < count_limit }
 {
@@ -233,7 +232,7 @@ fn are_counted(outcomes: &[Tally]) -> bool
     count < u128::MAX
 }
 
-// What is told of the answers of each caller's steps, below the counts.
+// What is reported of the answers of each caller's steps, below the counts.
 fn told(alloc: Global, text: &str) -> Option<Vec<u8>> {
     let callers = read_callers(alloc, text.as_bytes()).ok()?;
     let found = outcomes_of(alloc, &callers, &NoCallbacks, &[], 1000).ok()?;

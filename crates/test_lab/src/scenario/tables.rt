@@ -120,7 +120,7 @@ fn two_locks(alloc: Global) -> Result<Table, AllocError> {
     Ok(Table { rows })
 }
 
-// How many orders there are, and in how many of them both have all steps behind them.
+// How many orders there are, and in how many of them both have made all steps.
 fn counts(alloc: Global, steps: usize, most: usize) -> Result<(u128, u128, bool), OrdersError> {
     let Ok(table) = two_locks(alloc) else {
         return Err(OrdersError::Memory);

@@ -147,7 +147,7 @@ fn forms_of_no_number(rt: HostRuntime) {
     }
 }
 
-// Whether a text whose limit is written so is played, and its first line tells a limit of 10.
+// Whether a text whose limit is written so is played, and its first line has a limit of 10.
 fn is_limit_ten(alloc: Global, limit: &str) -> bool {
     let trace = "board threads=1 sems=0 flags=0 xbufs=0 mutexes=0 groups=0 limit=10\n";
     let parts = ["limit = ", limit, "\n[board]\nthreads = 1\n"];

@@ -53,10 +53,13 @@ fn is_traced<F: Files + AllocGlobal, C>(
 ) -> bool {
     let alloc = rt.alloc();
     let written = without_staxes(board());
-    let Ok(scenario) = write_scenario(alloc, &written, LIMIT, kernel.history()) else {
+    let Ok(entries) = kernel.history().to_vec(alloc) else {
         return false;
     };
-    let Ok(trace) = trace_kernel(alloc, kernel, &board(), LIMIT) else {
+    let Ok(scenario) = write_scenario(alloc, &written, LIMIT, entries.as_slice()) else {
+        return false;
+    };
+    let Ok(trace) = trace_kernel(alloc, alloc, kernel, &board(), LIMIT) else {
         return false;
     };
     trace.as_str() == wanted && ends(rt, scenario.as_str(), 0, trace.as_str(), "")

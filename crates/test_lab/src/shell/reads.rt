@@ -30,7 +30,7 @@ fn fails_at_each<F: Files + AllocGlobal>(rt: &F, text: &str, trace: &str, most: 
     reads > 1
 }
 
-// The same of a scenario.
+// Whether each read of a scenario in turn ends the program, with nothing written.
 fn is_unread_at_each<F: Files + AllocGlobal>(rt: &F, length: &Length, most: usize) -> bool {
     match played(rt.alloc(), length) {
         Some((text, trace)) => fails_at_each(rt, text.as_str(), trace.as_str(), most),

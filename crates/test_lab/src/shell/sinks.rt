@@ -1,4 +1,4 @@
-//! Runs into sinks that take little, fail at each write in turn, or tell how they were used.
+//! Runs into sinks that take little, fail at each write in turn, or report how they were used.
 use super::texts::{ABOUT_A_PART, BOARD, LONG, Length, SHORTEST, TEXT, TRACE, came, played, puts};
 use super::writers::Narrow;
 use evl_shell::Fault;

@@ -63,7 +63,7 @@ pub(crate) fn ends<F: Files + AllocGlobal>(
     ends_by(rt, &NO_WORDS, text, status, written, said)
 }
 
-/// What a writer took of a run that ended at its fault, which the program told; none where it ended otherwise.
+/// What a writer took of a run that ended at its fault, which the program reported; none where it ended otherwise.
 pub(crate) fn taken_at_fault<F: Files + AllocGlobal>(
     rt: &F,
     words: &[&str],
@@ -228,7 +228,7 @@ fn refuses_words(rt: HostRuntime) {
     }
 }
 
-// Whether the program tells of a write fault where its help isn't taken whole.
+// Whether the program reports a write fault where its help isn't taken whole.
 fn breaks<F: Files + AllocGlobal>(rt: &F, words: &[&str]) -> bool {
     taken_at_fault(rt, words, "", Narrow::new(rt.alloc(), 10, 2, true)).is_some()
 }

@@ -98,7 +98,7 @@ pub(crate) fn comes_to(
     has_come(answer, written.as_slice(), wanted)
 }
 
-// Texts behind one another.
+// Texts one after another.
 fn joined(alloc: Global, parts: &[&str]) -> Result<String, AllocError> {
     let mut text = String::new(alloc);
     for part in parts {
@@ -107,7 +107,7 @@ fn joined(alloc: Global, parts: &[&str]) -> Result<String, AllocError> {
     Ok(text)
 }
 
-/// The same of texts behind one another.
+/// Whether texts one after another come to this.
 pub(crate) fn parts_come_to(alloc: Global, parts: &[&str], wanted: Result<&str, Fault>) -> bool {
     match joined(alloc, parts) {
         Ok(text) => comes_to(alloc, text.as_bytes(), None, wanted),

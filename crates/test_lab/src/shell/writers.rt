@@ -1,4 +1,4 @@
-//! Writers and readers that take or give little, fail, or tell how they were used.
+//! Writers and readers that take or give little, fail, or report how they were used.
 ghost use Rattle.std.specs.Prelude.{◌≡◌, []};
 
 use std::alloc::Global;

@@ -104,7 +104,7 @@ const KEPT: [Row; 2] = crew![Oob &[WordCall::TryLockMutex(M0)]; Oob BEGINNING];
 const HANDED: [Row; 2] =
     crew![Oob &[WordCall::TryLockMutex(M0), WordCall::TryUnlockMutex(M0)]; Oob BEGINNING];
 
-// How many orders of threads of rank 10 end with this told.
+// How many orders of threads of rank 10 end with this reported.
 fn orders_with(alloc: Global, rows: &[Row], told: &str) -> Option<u128> {
     let counts = counts_by(alloc, &EQUAL, rows, CoreUse::Whole, None, told)?;
     Some(counts.with_answer)

@@ -128,7 +128,7 @@ fn counted(found: &StepOutcomes, answer: &str) -> Counts {
     }
 }
 
-// The counts of these callers' orders; none where they can't be told.
+// The counts of these callers' orders; none where they can't be reported.
 fn counts_of(alloc: Global, rows: &[Row], answer: &str) -> Option<Counts> {
     let crew = crew_of(alloc, 2, rows).ok()?;
     let found = step_outcomes_of(alloc, &crew, 100_000).ok()?;

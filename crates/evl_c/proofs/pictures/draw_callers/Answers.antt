@@ -1,7 +1,8 @@
 use Rattle.std.proofs.Common.{◌∙◌, ◌++◌, List, ℕ, map, subst}
 use Rattle.evl_plans.specs.Told.{handler_of}
 use Rattle.evl_scenario.specs.Lines.{line_feed}
-use Rattle.evl_c.specs.Pictures.{DrawsWhole, callers}
+use Rattle.lab_caller_pictures.specs.Drawings.{callers}
+use Rattle.evl_c.specs.Pictures.{DrawsWhole}
 use Rattle.evl_c.proofs.PictureLemmas.{ends_as}
 use Rattle.evl_c.proofs.pictures.draw_callers.Goals as goal
 

@@ -3,7 +3,8 @@ use Rattle.std.specs.Prelude.{IfSome}
 use Rattle.evl_plans.specs.Told.{handler_of}
 use Rattle.evl_scenario.specs.declared.faults.Fault.{Fault}
 use Rattle.evl_shell.specs.Runs.{trace_of}
-use Rattle.evl_c.specs.Pictures.{DrawsPlayed, DrawsTrace, Outcome, scenario, text_in}
+use Rattle.lab_caller_pictures.specs.Drawings.{scenario}
+use Rattle.evl_c.specs.Pictures.{DrawsPlayed, DrawsTrace, Outcome, text_in}
 use Rattle.evl_c.proofs.PictureLemmas.{ends_as, unplayed}
 use Rattle.evl_c.proofs.pictures.draw_scenario.Goals as goal
 
@@ -14,7 +15,7 @@ returns-in-Ok c =
     let form = c.args.asked.form in
     let text = c.args.text.now in
     let traced = c.in-Ok.ensures.traced ∙ ap (λ (t : List ℕ). Ok t) (sym c.as_slice.ensures.value) in
-    ends_as (DrawsTrace bank page form (scenario text) (text_in c.as_slice.result.now)) (DrawsPlayed bank page form text c.args.line (trace_of bank None text)) c.draw_trace.result
+    ends_as (DrawsTrace page form (scenario bank text) (text_in c.as_slice.result.now)) (DrawsPlayed bank page form text c.args.line (trace_of bank None text)) c.draw_trace.result
     (λ outcome h. subst (λ (r : Result (List ℕ) Fault). DrawsPlayed bank page form text c.args.line r outcome) (sym traced) h) c.draw_trace.ensures
 
 pub returns-in-Err : goal.returns-in-Err

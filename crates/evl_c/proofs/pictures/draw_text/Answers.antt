@@ -1,7 +1,8 @@
 use Rattle.std.proofs.Common.{◌++◌, inl, inr, map}
 use Rattle.evl_plans.specs.Told.{handler_of}
 use Rattle.evl_scenario.specs.Lines.{line_feed}
-use Rattle.evl_c.specs.Pictures.{DrawsText, DrawsWhole, callers, trace}
+use Rattle.lab_caller_pictures.specs.Drawings.{callers, trace}
+use Rattle.evl_c.specs.Pictures.{DrawsText, DrawsWhole}
 use Rattle.evl_c.proofs.PictureLemmas.{ends_as}
 use Rattle.evl_c.proofs.pictures.draw_text.Goals as goal
 

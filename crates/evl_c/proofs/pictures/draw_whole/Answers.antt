@@ -1,6 +1,7 @@
 use Rattle.std.proofs.Common.{inl, inr, map, refl}
 use Rattle.evl_plans.specs.Told.{handler_of}
-use Rattle.evl_c.specs.Pictures.{DrawsGiven, DrawsLines, DrawsWhole, origin_of}
+use Rattle.lab_caller_pictures.specs.Drawings.{origin_of}
+use Rattle.evl_c.specs.Pictures.{DrawsGiven, DrawsLines, DrawsWhole}
 use Rattle.evl_c.proofs.PictureLemmas.{ends_as, line_of_misread, lines_are}
 use Rattle.evl_c.proofs.pictures.draw_whole.Goals as goal
 
@@ -14,7 +15,7 @@ returns-in-Ok c =
     let lines = c.as_slice.result.now in
     let told = c.in-Ok.ensures in
     let are = lines_are read read lines c.in-Ok.lines.items c.as_slice.ensures.value refl told.says told.whole told.apart in
-    ends_as (DrawsLines bank page form origin lines) (DrawsWhole bank page form origin read c.args.text.now) c.draw_lines.result (λ outcome h. inl (lines, are, h)) c.draw_lines.ensures
+    ends_as (DrawsLines page form origin lines) (DrawsWhole bank page form origin read c.args.text.now) c.draw_lines.result (λ outcome h. inl (lines, are, h)) c.draw_lines.ensures
 
 pub returns-in-Err-Line : goal.returns-in-Err-Line
 returns-in-Err-Line c =

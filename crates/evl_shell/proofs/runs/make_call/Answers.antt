@@ -1,4 +1,4 @@
-use Rattle.std.proofs.Common.{◌∙◌, sym, length, refl}
+use Rattle.std.proofs.Common.{◌∙◌, ap, sym, length, refl}
 use Rattle.evl_shell.specs.Moments.{number_after}
 use Rattle.evl_shell.proofs.TurnLemmas.{made, wanted}
 use Rattle.evl_shell.proofs.runs.make_call.Goals as goal
@@ -10,7 +10,7 @@ returns-clause-turn g c =
     call.ensures.entry call.ensures.none call.ensures.full call.ensures.limit (sym c.wants_memory.ensures ∙ c.if-wants_memory.false) in
     record {
       turns = told.turns;
-      number_is = c.number_after-number.ensures ∙ (λ i. number_after (length (c.history-before.ensures.entries i)) (length (c.history.ensures.entries i))) ∙ told.number_is;
+      number_is = c.number_after-number.ensures ∙ (λ i. number_after ((c.len-before.ensures ∙ ap length c.history.ensures.entries) i) ((c.len.ensures ∙ ap length c.history-2.ensures.entries) i)) ∙ told.number_is;
       answer_is = told.answer_is;
     }
 

@@ -22,6 +22,8 @@ returns c =
     let local_as_scenario = c.in_ok-as_scenario.ensures.globals ∙ ap₂ ◌||◌ local_as_trace c.form_word-4.ensures.1 in
     let as_svg = c.in_ok-as_svg.ensures.shape c.form_word-5.ensures.1 ∙ ap₂ with_rule as_scenario c.form_word-5.ensures.0 in
     let local_as_svg = c.in_ok-as_svg.ensures.globals ∙ ap₂ ◌||◌ local_as_scenario c.form_word-5.ensures.1 in
-    let with_file = c.in_ok-with_file.ensures.shape c.run_file.ensures.1 ∙ ap₂ with_rule as_svg c.run_file.ensures.0 in
-    let local_with_file = c.in_ok-with_file.ensures.globals ∙ ap₂ ◌||◌ local_as_svg c.run_file.ensures.1 in
+    let with_bounds = c.in_ok-with_bounds.ensures.shape c.form_word-6.ensures.1 ∙ ap₂ with_rule as_svg c.form_word-6.ensures.0 in
+    let local_with_bounds = c.in_ok-with_bounds.ensures.globals ∙ ap₂ ◌||◌ local_as_svg c.form_word-6.ensures.1 in
+    let with_file = c.in_ok-with_file.ensures.shape c.run_file.ensures.1 ∙ ap₂ with_rule with_bounds c.run_file.ensures.0 in
+    let local_with_file = c.in_ok-with_file.ensures.globals ∙ ap₂ ◌||◌ local_with_bounds c.run_file.ensures.1 in
     λ old new adds. adds.shape local_with_file ∙ ap (λ app. with_subcommand (app_of old) app.top) with_file

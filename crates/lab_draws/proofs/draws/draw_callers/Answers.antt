@@ -2,7 +2,8 @@ use Rattle.std.proofs.Common.{◌∙◌, ◌++◌, List, ℕ, subst, map}
 use Rattle.evl_kernel.specs.state.States.{Handler}
 use Rattle.evl_plans.specs.Told.{handler_of}
 use Rattle.evl_scenario.specs.Lines.{line_feed}
-use Rattle.lab_draws.specs.Draws.{DrawsWhole, callers}
+use Rattle.lab_caller_pictures.specs.Drawings.{callers}
+use Rattle.lab_draws.specs.Draws.{DrawsWhole}
 use Rattle.lab_streams.proofs.OutputLemmas.{written_as}
 use Rattle.lab_draws.proofs.draws.draw_callers.Goals as goal
 

@@ -1,7 +1,8 @@
 use Rattle.std.proofs.Common.{◌∙◌, List, ap, map, subst}
 use Rattle.lab_drawing.specs.Marks.{told_of}
 use Rattle.lab_drawing.specs.declared.marks.Mark.{Mark}
-use Rattle.lab_draws.specs.Draws.{DrawsLines, DrawsMarks, origin_of}
+use Rattle.lab_caller_pictures.specs.Drawings.{origin_of}
+use Rattle.lab_draws.specs.Draws.{DrawsLines, DrawsMarks}
 use Rattle.lab_streams.proofs.OutputLemmas.{written_as}
 use Rattle.lab_draws.proofs.draws.draw_lines.Goals as goal
 

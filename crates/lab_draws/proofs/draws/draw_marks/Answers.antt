@@ -1,6 +1,7 @@
 use Rattle.std.proofs.Common.{refl, subst, sym}
 use Rattle.std.specs.Prelude.{IfOk}
-use Rattle.lab_draws.specs.Draws.{DrawsMarks, events_of, origin_of}
+use Rattle.lab_caller_pictures.specs.Drawings.{origin_of}
+use Rattle.lab_draws.specs.Draws.{DrawsMarks, events_of}
 use Rattle.lab_streams.specs.Outputs.{Writes}
 use Rattle.lab_streams.specs.declared.words.Form.{Form}
 use Rattle.lab_streams.specs.declared.words.Form.TheVariants.{Events}

@@ -1,8 +1,9 @@
-use Rattle.std.proofs.Common.{ℕ, IfOk, map, subst, sym}
+use Rattle.std.proofs.Common.{ℕ, IfOk, subst, sym}
 use Rattle.std.proofs.lemmas.List.{length-map}
 use Rattle.evl_plans.specs.Told.{handler_of}
 use Rattle.lab_drawing.specs.Callbacks.{missing_callback}
-use Rattle.lab_draws.specs.Draws.{DrawsLines, SaysFirst, missing_text, origin_of}
+use Rattle.lab_caller_pictures.specs.Drawings.{origin_of}
+use Rattle.lab_draws.specs.Draws.{DrawsLines, SaysFirst, missing_text}
 use Rattle.lab_streams.specs.Outputs.{Writes}
 use Rattle.lab_draws.proofs.DrawLemmas.{says_first}
 use Rattle.lab_draws.proofs.draws.draw_over.Goals as goal

@@ -4,7 +4,8 @@ use Rattle.evl_plans.specs.Told.{handler_of}
 use Rattle.evl_plans.specs.Traces.{Refuses}
 use Rattle.evl_scenario.specs.declared.faults.Fault.{Fault}
 use Rattle.evl_shell.specs.Runs.{trace_of}
-use Rattle.lab_draws.specs.Draws.{DrawsMade, DrawsPlayed, scenario}
+use Rattle.lab_caller_pictures.specs.Drawings.{scenario}
+use Rattle.lab_draws.specs.Draws.{DrawsMade, DrawsPlayed}
 use Rattle.lab_draws.proofs.DrawLemmas.{unplayed}
 use Rattle.lab_streams.proofs.OutputLemmas.{written_as}
 use Rattle.lab_draws.proofs.draws.draw_scenario.Goals as goal

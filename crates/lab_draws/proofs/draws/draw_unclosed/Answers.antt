@@ -1,7 +1,8 @@
 use Rattle.std.proofs.Common.{List, inl, inr, map}
 use Rattle.evl_kernel.specs.state.States.{Handler}
 use Rattle.evl_plans.specs.Told.{handler_of}
-use Rattle.lab_draws.specs.Draws.{DrawsUnclosed, DrawsWhole, callers, trace}
+use Rattle.lab_caller_pictures.specs.Drawings.{callers, trace}
+use Rattle.lab_draws.specs.Draws.{DrawsUnclosed, DrawsWhole}
 use Rattle.lab_streams.proofs.OutputLemmas.{written_as}
 use Rattle.lab_draws.proofs.draws.draw_unclosed.Goals as goal
 

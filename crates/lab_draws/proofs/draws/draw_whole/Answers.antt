@@ -1,7 +1,8 @@
 use Rattle.std.proofs.Common.{List, inl, inr, refl, map}
 use Rattle.evl_kernel.specs.state.States.{Handler}
 use Rattle.evl_plans.specs.Told.{handler_of}
-use Rattle.lab_draws.specs.Draws.{DrawsGiven, DrawsLines, DrawsWhole, origin_of}
+use Rattle.lab_caller_pictures.specs.Drawings.{origin_of}
+use Rattle.lab_draws.specs.Draws.{DrawsGiven, DrawsLines, DrawsWhole}
 use Rattle.lab_draws.proofs.DrawLemmas.{line_of_misread, lines_are}
 use Rattle.lab_streams.proofs.OutputLemmas.{written_as}
 use Rattle.lab_draws.proofs.draws.draw_whole.Goals as goal

@@ -13,4 +13,4 @@ returns-clause-told c =
     stepped c.args.kernel.now new c.args.step c.in_ok-make_step.ensures c.args.name.now c.args.counts (map handler_of c.args.bank.now) c.args.number c.spurious_so_far-before.result c.entry_count-start.result
     (string_bytes c.args.told.now) (string_bytes c.warn_of_reasons.new.told) second (string_bytes c.warn_of_entries.new.told)
     c.spurious_so_far-before.ensures c.entry_count-start.ensures c.in_ok-warn_of_reasons.ensures (rw c.callback_of.ensures at c.in_ok-warn_of_installed.ensures)
-    (c.in_ok-warn_of_entries.ensures ∙ ap (λ (es : List Entry). second ++ flat_map lines es) c.entries_since-since.ensures)
+    (c.in_ok-warn_of_entries.ensures ∙ ap (λ (es : List Entry). second ++ flat_map lines es) (c.as_slice-since.ensures.value ∙ c.in_ok-since.ensures))

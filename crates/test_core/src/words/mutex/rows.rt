@@ -87,7 +87,7 @@ fn a_seat_may_wait_no_more(rt: HostRuntime) {
     assert!(rt; word_of(rt.alloc(), 3, &FORGOTTEN) == Some(0));
 }
 
-// Row mutex_word_1: what seats 1 and 2 are told.
+// Row mutex_word_1: what seats 1 and 2 are answered.
 const OFFERED: [Step; 14] = steps![
     0 Try => PASSED, 1 Claims => QUEUED, 2 Claims => QUEUED, 0 Unlock => FOUND_CLAIMED,
     1 Accept => AGAIN, 0 Offer(1, true) => DONE, 2 SeeOffer => Told::Offered(false),

@@ -18,8 +18,8 @@ returns-in-Err c = rw (← c.self.view_is) (record {
 
 pub returns : goal.returns
 returns c =
-    let same : history_trace c.board.result.now c.limit.result c.history.result.now c.plays.result.now ≡ kernel_trace (arc_value c.self.inside.shared) c.in-Ok.held.kernel =
-    rw (c.board.ensures, c.deref-2.ensures, c.limit.ensures, c.deref-3.ensures, c.history.ensures.entries, c.kernel.ensures, c.plays.ensures.plays, c.kernel-2.ensures) refl in
+    let same : history_trace c.board.result.now c.limit.result c.kernel.result.now.history.entries c.kernel.result.now.history.plays ≡ kernel_trace (arc_value c.self.inside.shared) c.in-Ok.held.kernel =
+    rw (c.board.ensures, c.deref-2.ensures, c.limit.ensures, c.deref-3.ensures, c.kernel.ensures) refl in
     rw (← c.self.view_is) (record {
       traced = record {
         before = c.in-Some.caller;
@@ -35,7 +35,7 @@ returns c =
             c.give.ensures.given,
             given_back (arc_value c.self.inside.shared) c.self.inside.caller c.in-Some.caller c.in-Ok.held c.give.result (sym c.take.ensures.value ∙ c.in-Some.is) c.self.invariant c.in-Ok.ensures.taken c.give.ensures.event,
           ),
-          told c.trace_history-text.result _ _ same c.trace_history-text.ensures.trace c.trace_history-text.ensures.refused,
+          told c.trace_kernel-text.result _ _ same c.trace_kernel-text.ensures.trace c.trace_kernel-text.ensures.refused,
         );
         has = refl;
       };

@@ -14,7 +14,7 @@ use Rattle.evl_kernel.proofs.state.CallbackLaws.{answers-kept}
 use Rattle.evl_kernel.proofs.histories.HistoryLaws.{adds_by_calls, adds_nothing, counted_entry, kernel_adds, legal_more}
 use Rattle.evl_kernel.proofs.state.OnePlaceLaws.{are_in_one_place}
 use Rattle.evl_kernel.proofs.kernel.KernelOf.apply_and_settle.Goals as goal
-use Rattle.evl_kernel.proofs.kernel.KernelOf.apply_and_settle.Goals.{Joined-call, After-push_reserved, After-push_reserved-in-Ok}
+use Rattle.evl_kernel.proofs.kernel.KernelOf.apply_and_settle.Goals.{Joined-call, After-push}
 
 pub returns-in_err-find_room-clause-by_plan : goal.returns-in_err-find_room-clause-by_plan
 returns-in_err-find_room-clause-by_plan g c = rw (← c.self.view_is) at c.requires.by_plan
@@ -49,117 +49,67 @@ returns-in_err-find_room-clause-entry g c enters = absurd (false≢true (sym (no
 pub returns-in_err-find_room-clause-answers : goal.returns-in_err-find_room-clause-answers
 returns-in_err-find_room-clause-answers g c = rw (passed g c) (no_room_answers _ c.in_err-find_room.ensures.refusals)
 
-pub perform-requires-clause-by_plan : goal.perform-requires-clause-by_plan
-perform-requires-clause-by_plan g c = rw (← c.self.view_is) at c.requires.by_plan
+pub perform-answer-requires-clause-by_plan : goal.perform-answer-requires-clause-by_plan
+perform-answer-requires-clause-by_plan g c = rw (← c.self.view_is) at c.requires.by_plan
 
--- where the call was refused: what was pushed is its entry
-refused_entry : (g : _) (c : After-push_reserved g) → c.push_reserved.new.self.items ≡ c.self.inside.history.items ++ counted_entry c.args.caller.0 c.args.call (Err c.in-Err.refusal) (c.len.result - c.len-before.result) ∷ []
-refused_entry g c = rw (c.find_room.ensures.entries) at c.push_reserved.ensures.items
+-- what was pushed is the call's entry
+pushed_entry : (g : _) (c : After-push g) → c.push.new.self.entries ≡ c.self.inside.history.entries ++ counted_entry c.args.caller.0 c.args.call c.perform-answer.result (c.len.result - c.len-before.result) ∷ []
+pushed_entry g c = rw (c.find_room.ensures.entries) at c.push.ensures.entry
 
 -- the history after it
-abbrev after_refusal : (g : _) (c : After-push_reserved g) → History
-after_refusal g c = record {
+abbrev after_call : (g : _) (c : After-push g) → History
+after_call g c = record {
   board = c.self.inside.board;
-  bank = handlers_in c.perform.new.self.bank;
-  entries = c.push_reserved.new.self.items;
-  plays = c.perform.new.plays.items;
-  state = state_of c.perform.new.self;
+  bank = handlers_in c.perform-answer.new.self.bank;
+  entries = c.push.new.self.entries;
+  plays = c.perform-answer.new.plays.items;
+  state = state_of c.perform-answer.new.self;
 }
 
-refusal_adds : (g : _) (c : After-push_reserved g) → (plays : List Play) × Adds (kernel_view c.self.inside).history c.args.caller.0 c.args.call (Err c.in-Err.refusal) plays (after_refusal g c)
-refusal_adds g c =
-    let so = rw c.find_room.ensures.plays at c.in-Err.ensures.performed in (
+call_adds : (g : _) (c : After-push g) → (plays : List Play) × Adds (kernel_view c.self.inside).history c.args.caller.0 c.args.call c.perform-answer.result plays (after_call g c)
+call_adds g c =
+    let so = rw c.find_room.ensures.plays at c.perform-answer.ensures.performed in (
       so.made,
-      kernel_adds g.C.Handler.gives (whereabouts c.self.inside.records) (kernel_view c.self.inside).history (after_refusal g c) c.args.caller.0 c.args.call (Err c.in-Err.refusal) (c.len.result - c.len-before.result)
-          refl c.perform.ensures.stands.handlers_are so (refused_entry g c)
+      kernel_adds g.C.Handler.gives (whereabouts c.self.inside.records) (kernel_view c.self.inside).history (after_call g c) c.args.caller.0 c.args.call c.perform-answer.result (c.len.result - c.len-before.result)
+          refl c.perform-answer.ensures.stands.handlers_are so (pushed_entry g c)
           (omega (arith, ap (λ (ps : List Play). length ps) c.find_room.ensures.plays, ap (λ (ps : List Play). length ps) so.appended, length-append {A = Play} c.self.inside.plays.items so.made)),
     )
 
-refusal_legal : (g : _) (c : After-push_reserved g) → IsLegal (after_refusal g c)
-refusal_legal g c = legal_more (kernel_view c.self.inside).history (after_refusal g c) _ (refusal_adds g c).0 c.self.invariant.legal (refusal_adds g c).1.extends
+call_legal : (g : _) (c : After-push g) → IsLegal (after_call g c)
+call_legal g c = legal_more (kernel_view c.self.inside).history (after_call g c) _ (call_adds g c).0 c.self.invariant.legal (call_adds g c).1.extends
 
-pub invariant_of-self-in-Err : goal.invariant_of-self-in-Err
-invariant_of-self-in-Err g c = record {
-  legal = refusal_legal g c;
-  within = omega (arith, c.in_ok-find_room.ensures.within, ap (λ (es : List Entry). length es) (refused_entry g c), length-append {A = Entry});
+pub invariant_of-self-2 : goal.invariant_of-self-2
+invariant_of-self-2 g c = record {
+  legal = call_legal g c;
+  within = omega (arith, c.in_ok-find_room.ensures.within, ap (λ (es : List Entry). length es) (pushed_entry g c), length-append {A = Entry});
   limit = c.self.invariant.limit;
-  fence = λ below. let stood = c.find_room.ensures.fence (omega (arith, below, c.lower_fence.ensures.fence, c.push_reserved.ensures.len)) in
-      (omega (arith, stood.0, c.lower_fence.ensures.fence), omega (arith, stood.1, c.lower_fence.ensures.fence, c.push_reserved.ensures.capacity), c.lower_fence.ensures.room (omega (arith, below)));
+  fence = λ below. let stood = c.find_room.ensures.fence (omega (arith, below, c.lower_fence.ensures.fence, c.keep_box.ensures.fence, ap (λ (es : List Entry). length es) c.find_room.ensures.entries, ap (λ (es : List Entry). length es) (pushed_entry g c), length-append {A = Entry})) in
+      (omega (arith, stood.0, c.lower_fence.ensures.fence, c.keep_box.ensures.fence), c.lower_fence.ensures.room (omega (arith, below, c.keep_box.ensures.fence)), c.keep_box.ensures.boxes (omega (arith, below)));
 }
 
-pub returns-in-Err-clause-entry : goal.returns-in-Err-clause-entry
-returns-in-Err-clause-entry g c _ = rw (← c.self.view_is) (refusal_adds g c)
+pub push-requires : goal.push-requires
+push-requires g c = record { room = omega (arith, c.in_ok-find_room.ensures.room); few = omega (arith, c.self.invariant.limit, c.in_ok-find_room.ensures.within, ap (λ (es : List Entry). length es) c.find_room.ensures.entries) }
 
-pub returns-in-Err-clause-called : goal.returns-in-Err-clause-called
-returns-in-Err-clause-called g c =
-    rw (← c.self.view_is) (adds_by_calls g.C.Handler.gives (whereabouts c.self.inside.records) (kernel_view c.self.inside).history (after_refusal g c) c.args.caller.0 c.args.call (Err c.in-Err.refusal)
-    (rw c.find_room.ensures.plays at c.in-Err.ensures.performed))
+pub returns-clause-entry : goal.returns-clause-entry
+returns-clause-entry g c _ = rw (← c.self.view_is) (call_adds g c)
 
-pub returns-in-Err-clause-legal : goal.returns-in-Err-clause-legal
-returns-in-Err-clause-legal g c = refusal_legal g c
+pub returns-clause-brings : goal.returns-clause-brings
+returns-clause-brings g c = rw (← c.self.view_is) c.perform-answer.ensures.stands.brings
 
-pub returns-in-Err-clause-by_plan : goal.returns-in-Err-clause-by_plan
-returns-in-Err-clause-by_plan g c =
-    answers-kept g.C.Handler.declared g.C.Handler.plan c.self.inside.records c.perform.new.self c.perform.ensures.stands (rw (← c.self.view_is) at c.requires.by_plan)
+pub returns-clause-called : goal.returns-clause-called
+returns-clause-called g c =
+    rw (← c.self.view_is) (adds_by_calls g.C.Handler.gives (whereabouts c.self.inside.records) (kernel_view c.self.inside).history (after_call g c) c.args.caller.0 c.args.call c.perform-answer.result
+    (rw c.find_room.ensures.plays at c.perform-answer.ensures.performed))
 
-pub returns-in-Err-clause-places : goal.returns-in-Err-clause-places
-returns-in-Err-clause-places g c = are_in_one_place c.perform.new.self (after_refusal g c) (refusal_legal g c) refl refl
+pub returns-clause-legal : goal.returns-clause-legal
+returns-clause-legal g c = call_legal g c
 
--- where the call was answered: what was pushed is its entry
-answered_entry : (g : _) (c : After-push_reserved-in-Ok g) → c.push_reserved-in-Ok.new.self.items ≡ c.self.inside.history.items ++ counted_entry c.args.caller.0 c.args.call (Ok c.in-Ok.reply) (c.len-in-Ok.result - c.len-before.result) ∷ []
-answered_entry g c = rw (c.find_room.ensures.entries, c.doubled-given.ensures.entered) at c.push_reserved-in-Ok.ensures.items
+pub returns-clause-by_plan : goal.returns-clause-by_plan
+returns-clause-by_plan g c =
+    answers-kept g.C.Handler.declared g.C.Handler.plan c.self.inside.records c.perform-answer.new.self c.perform-answer.ensures.stands (rw (← c.self.view_is) at c.requires.by_plan)
 
--- the history after it
-abbrev after_answer : (g : _) (c : After-push_reserved-in-Ok g) → History
-after_answer g c = record {
-  board = c.self.inside.board;
-  bank = handlers_in c.perform.new.self.bank;
-  entries = c.push_reserved-in-Ok.new.self.items;
-  plays = c.perform.new.plays.items;
-  state = state_of c.perform.new.self;
-}
-
-answer_adds : (g : _) (c : After-push_reserved-in-Ok g) → (plays : List Play) × Adds (kernel_view c.self.inside).history c.args.caller.0 c.args.call (Ok c.in-Ok.reply) plays (after_answer g c)
-answer_adds g c =
-    let so = rw c.find_room.ensures.plays at c.in-Ok.ensures.performed in (
-      so.made,
-      kernel_adds g.C.Handler.gives (whereabouts c.self.inside.records) (kernel_view c.self.inside).history (after_answer g c) c.args.caller.0 c.args.call (Ok c.in-Ok.reply) (c.len-in-Ok.result - c.len-before.result)
-          refl c.perform.ensures.stands.handlers_are so (answered_entry g c)
-          (omega (arith, ap (λ (ps : List Play). length ps) c.find_room.ensures.plays, ap (λ (ps : List Play). length ps) so.appended, length-append {A = Play} c.self.inside.plays.items so.made)),
-    )
-
-answer_legal : (g : _) (c : After-push_reserved-in-Ok g) → IsLegal (after_answer g c)
-answer_legal g c = legal_more (kernel_view c.self.inside).history (after_answer g c) _ (answer_adds g c).0 c.self.invariant.legal (answer_adds g c).1.extends
-
-pub invariant_of-self-in-Ok : goal.invariant_of-self-in-Ok
-invariant_of-self-in-Ok g c = record {
-  legal = answer_legal g c;
-  within = omega (arith, c.in_ok-find_room.ensures.within, ap (λ (es : List Entry). length es) (answered_entry g c), length-append {A = Entry});
-  limit = c.self.invariant.limit;
-  fence = λ below. let stood = c.find_room.ensures.fence (omega (arith, below, c.lower_fence-in-Ok.ensures.fence, c.push_reserved-in-Ok.ensures.len)) in
-      (omega (arith, stood.0, c.lower_fence-in-Ok.ensures.fence), omega (arith, stood.1, c.lower_fence-in-Ok.ensures.fence, c.push_reserved-in-Ok.ensures.capacity), c.lower_fence-in-Ok.ensures.room (omega (arith, below)));
-}
-
-pub returns-in-Ok-clause-entry : goal.returns-in-Ok-clause-entry
-returns-in-Ok-clause-entry g c _ = rw (← c.self.view_is, c.doubled-given.ensures.given) (answer_adds g c)
-
-pub returns-in-Ok-clause-brings : goal.returns-in-Ok-clause-brings
-returns-in-Ok-clause-brings g c = rw (← c.self.view_is) c.perform.ensures.stands.brings
-
-pub returns-in-Ok-clause-called : goal.returns-in-Ok-clause-called
-returns-in-Ok-clause-called g c =
-    rw (← c.self.view_is) (adds_by_calls g.C.Handler.gives (whereabouts c.self.inside.records) (kernel_view c.self.inside).history (after_answer g c) c.args.caller.0 c.args.call (Ok c.in-Ok.reply)
-    (rw c.find_room.ensures.plays at c.in-Ok.ensures.performed))
-
-pub returns-in-Ok-clause-legal : goal.returns-in-Ok-clause-legal
-returns-in-Ok-clause-legal g c = answer_legal g c
-
-pub returns-in-Ok-clause-by_plan : goal.returns-in-Ok-clause-by_plan
-returns-in-Ok-clause-by_plan g c =
-    answers-kept g.C.Handler.declared g.C.Handler.plan c.self.inside.records c.perform.new.self c.perform.ensures.stands (rw (← c.self.view_is) at c.requires.by_plan)
-
-pub returns-in-Ok-clause-places : goal.returns-in-Ok-clause-places
-returns-in-Ok-clause-places g c = are_in_one_place c.perform.new.self (after_answer g c) (answer_legal g c) refl refl
+pub returns-clause-places : goal.returns-clause-places
+returns-clause-places g c = are_in_one_place c.perform-answer.new.self (after_call g c) (call_legal g c) refl refl
 
 pub returns-in_err-find_room-clause-places : goal.returns-in_err-find_room-clause-places
 returns-in_err-find_room-clause-places g c = are_in_one_place c.self.inside.records (kernel_view c.self.inside).history c.self.invariant.legal refl refl

@@ -24,8 +24,8 @@ invariant_of-self g c =
     let made = c.reset.ensures.opened in let r = c.reset.new.self in
     let handlers_are = opening-handlers g.C.Handler.declared g.C.Handler.plan c.self.inside.board (callbacks_in r.bank) r made in
     record {
-      legal = rw (c.clear.ensures.items, c.clear-2.ensures.items) (refl, made.state ∙ sym handlers_are);
-      within = omega (arith, ap length c.clear.ensures.items);
+      legal = rw (c.clear.ensures.empty, c.clear-2.ensures.items) (refl, made.state ∙ sym handlers_are);
+      within = omega (arith, ap length c.clear.ensures.empty);
       limit = c.self.invariant.limit;
       fence = λ below. (omega (arith, below), omega (arith, below), omega (arith, below));
     }
@@ -41,7 +41,7 @@ returns g c =
         board_is = refl;
         bank_is = handlers-filled g.C.Handler.declared g.C.Handler.plan (callbacks_in r.bank) r.bank made.filled;
         state = made.state ∙ sym handlers_are;
-        entries = c.clear.ensures.items;
+        entries = c.clear.ensures.empty;
         plays = c.clear-2.ensures.items;
         limit_is = refl;
         filled = made.filled;
@@ -53,8 +53,8 @@ returns g c =
       bank = c.reset.ensures.stands.handlers_are;
       by_plan = answers-kept g.C.Handler.declared g.C.Handler.plan c.self.inside.records r c.reset.ensures.stands (rw (← c.self.view_is) at c.requires.by_plan);
       places = are_in_one_place r h legal refl refl;
-      room = room_more (vec_capacity c.self.inside.history - vec_len c.self.inside.history) (vec_capacity c.clear.new.self - vec_len c.clear.new.self)
+      room = room_more c.self.inside.history.room c.clear.new.self.room
           (vec_capacity c.self.inside.plays - vec_len c.self.inside.plays) (vec_capacity c.clear-2.new.self - vec_len c.clear-2.new.self) c.self.inside.spares
-          (omega (arith, c.clear.ensures.capacity, c.clear.ensures.len)) (omega (arith, c.clear-2.ensures.capacity, c.clear-2.ensures.len));
-      legal = rw (c.clear.ensures.items, c.clear-2.ensures.items) legal;
+          c.clear.ensures.room (omega (arith, c.clear-2.ensures.capacity, c.clear-2.ensures.len));
+      legal = rw (c.clear.ensures.empty, c.clear-2.ensures.items) legal;
     })

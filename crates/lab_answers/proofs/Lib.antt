@@ -1,4 +1,0 @@
-pub mod AnswerLaws
-pub mod LineLaws
-pub mod OnceLaws
-pub mod SumLaws

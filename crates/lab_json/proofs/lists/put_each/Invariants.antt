@@ -1,0 +1,7 @@
+use Rattle.std.proofs.Common.{◌≡◌, ◌++◌, ◌==◌, decimal, drop, map, string_bytes, true}
+use Rattle.lab_json.specs.Texts.{json_list}
+use Rattle.lab_json.proofs.lists.put_each.Given as goal
+
+abbrev pub invariant-loop-i : goal.invariant-loop-i
+invariant-loop-i l =
+    string_bytes l.json ++ json_list (l.i == 0) (map decimal (drop l.i l.numbers)) ≡ string_bytes l.initial.json ++ json_list true (map decimal l.numbers)

@@ -1,2 +1,0 @@
-mod NoteLemmas
-mod StateLemmas

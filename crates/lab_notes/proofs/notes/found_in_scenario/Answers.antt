@@ -1,5 +1,0 @@
-use Rattle.lab_notes.proofs.NoteLemmas.{none_of}
-use Rattle.lab_notes.proofs.notes.found_in_scenario.Goals as goal
-
-pub returns : goal.returns
-returns c = record { read = λ is. none_of _ _ c.in_ok-found.ensures.first is; refused = c.in_ok-found.ensures.told }

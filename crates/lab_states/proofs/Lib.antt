@@ -1,2 +1,0 @@
-mod NumberLaws
-mod RunLaws

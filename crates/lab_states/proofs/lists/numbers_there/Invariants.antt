@@ -1,6 +1,0 @@
-use Rattle.std.proofs.Common.{◌≡◌, filter}
-use Rattle.lab_states.specs.Parts.{is_there, numbers_below}
-use Rattle.lab_states.proofs.lists.numbers_there.Given as goal
-
-abbrev pub invariant-loop-number : goal.invariant-loop-number
-invariant-loop-number g l = l.all.items ≡ filter (is_there l.kernel.history.state l.part) (numbers_below l.number)

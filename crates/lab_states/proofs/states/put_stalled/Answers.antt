@@ -1,4 +1,0 @@
-use Rattle.lab_states.proofs.states.put_stalled.Goals as goal
-
-pub returns : goal.returns
-returns g c = rw c.stalled-stalled.ensures.stalled at c.write.ensures.bytes
