@@ -1,4 +1,4 @@
--- What may go to another host thread: a struct where its fields may; an entry, a play, a board.
+-- All that may go to another host thread: a struct where its fields may; an entry, a play, a board.
 use denote.RattleType.{RattleType}
 use denote.Struct.Declared.{Declared, row, shape}
 use denote.Struct.Struct.{Struct}

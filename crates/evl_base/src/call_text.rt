@@ -1,4 +1,4 @@
-//! What a call says in a trace: its word, then each key with its value.
+//! A call's text in a trace: its word, then each key with its value.
 ghost use Rattle.std.specs.Prelude.{Some};
 
 use crate::call::Call;

@@ -1,4 +1,4 @@
-//! What is made of the list of the calls: the word with a number, the word of a call, and the values of the keys of
+//! All that is made of the list of the calls: the word with a number, the word of a call, and the values of the keys of
 //! a call.
 ghost use Rattle.std.specs.Prelude.{◌≡◌, slice_get};
 ghost use Rattle.evl_base.specs.Call.{call_word};
@@ -33,7 +33,7 @@ macro_rules! name {
     };
 }
 
-/// What is said of a field.
+/// All that is said of a field.
 macro_rules! told {
     ($field:ident Bytes) => { $field };
     ($field:ident $kind:ident) => { *$field };

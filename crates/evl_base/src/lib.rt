@@ -1,6 +1,6 @@
-//! What all layers share: stages, numbers, policies, calls, replies, plays, entries, refusals and boards, with their
+//! All that layers share: stages, numbers, policies, calls, replies, plays, entries, refusals and boards, with their
 //! texts.
-//! What names no source is this profile's own.
+//! All that names no source is this profile's own.
 #![tactic(auto)]
 
 mod action_kinds;

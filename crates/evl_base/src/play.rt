@@ -1,4 +1,4 @@
-//! What the kernel plays while it settles.
+//! The plays of the kernel while it settles.
 ghost use Rattle.std.specs.Prelude.{Some};
 
 use crate::numbers::{LineNo, ThreadId, TimerId};

@@ -1,4 +1,4 @@
-//! What the calls of the kernel answer.
+//! The answers of the calls of the kernel.
 ghost use Rattle.std.specs.Prelude.{◌≡◌, ◌≤◌, ◌+◌, Some};
 ghost use Rattle.evl_base.specs.Reply.{boxes_in};
 
@@ -8,7 +8,7 @@ use crate::way::Hex;
 use std::alloc::Allocator;
 use std::fmt;
 
-/// What a call that wasn't refused answers.
+/// The answer of a call that wasn't refused.
 #[derive(Drop)]
 pub enum Reply {
     /// The call is done, and there is nothing to say.
@@ -21,7 +21,7 @@ pub enum Reply {
     Bits(u32),
     /// A number: a timer's, a date, a rank, a room, overruns.
     Number(u64),
-    /// What was read from a cross-buffer.
+    /// All that was read from a cross-buffer.
     Bytes(Transfer),
     /// The thread that is picked, if there is one.
     Chosen(Option<ThreadId>),
@@ -42,7 +42,7 @@ pub enum ReplyKind {
     Bytes,
     Chosen,
     Handed,
-    /// What ends a wait: done, bits, bytes, or its deadline.
+    /// The end of a wait: done, bits, bytes, or its deadline.
     Outcome,
 }
 

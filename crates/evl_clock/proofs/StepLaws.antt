@@ -1,4 +1,4 @@
--- What a fire answers, and how many items are due after each step.
+-- The answer of a fire, and how many items are due after each step.
 use Rattle.std.proofs.Common.{◌≡◌, ℕ, ◌+◌, ◌≤◌, ◌==◌, true, bit_and, List, length, Option, Some, None, slice_set, subst, sym, ap, ◌∙◌, arith}
 use Rattle.std.proofs.lemmas.Bool.Decides.{nat_tests}
 use Rattle.std.proofs.lemmas.Nat.{and_assoc}

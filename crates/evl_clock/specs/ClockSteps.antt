@@ -1,4 +1,4 @@
--- What the next due item is to the clock: a timer is called, or a deadline is gone.
+-- The meaning of the next due item to the clock: a timer is called, or a deadline is gone.
 use Rattle.std.specs.Prelude.{◌≡◌, ℕ, ◌≤◌, true, length, Option, Some, None}
 use Rattle.evl_pipeline.specs.declared.answer.Answer.{Answer}
 use Rattle.evl_pipeline.specs.declared.fire.Fire.{Fire}
@@ -43,7 +43,7 @@ module _ {C : Type 0} where
   abbrev pub AreAllowed : (C → ℕ) → Clock C → Type 0
   AreAllowed declared c = (n : ℕ) (at : Timer C) → timer_at c n ≡ Some at → is_timer_allowed (declared at.callback) ≡ true
 
-  -- What bounds the plays of the layer above: an answer has few actions, and where the kinds of all callbacks are
+  -- The bounds on the plays of the layer above: an answer has few actions, and where the kinds of all callbacks are
   -- allowed, no answer of a timer posts an out-of-band line.
   abbrev pub IsBounded : (C → ℕ) → Clock C → Option Due → Type 0
   IsBounded declared old None = Unit {0}

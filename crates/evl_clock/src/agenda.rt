@@ -58,7 +58,7 @@ fn place_of(entries: &[Entry], entry: Entry) -> usize
     low
 }
 
-/// What falls due first.
+/// The entry that falls due first.
 pub fn first(entries: &[Entry]) -> Option<Entry>
     ensures first { result ≡ first_entry entries.now }
 {

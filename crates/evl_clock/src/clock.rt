@@ -149,7 +149,7 @@ impl<C, A: Allocator> ClockOf<C, A> {
         self.date
     }
 
-    // What is due next: what has the least date that isn't after now, at equal dates a timer before a deadline, and
+    // The next due item, with the least date that isn't after now, at equal dates a timer before a deadline, and
     // else the lower number.
     fn due_item(&self) -> Option<Item>
         ensures next { result ≡ next_due self.now }
@@ -196,7 +196,7 @@ impl<C, A: Allocator> ClockOf<C, A> {
         Ok(self.due_item().is_some())
     }
 
-    /// What the timer does, if there is such a timer. There is none above 63.
+    /// The timer's state, if there is such a timer. There is none above 63.
     pub fn state(&self, id: TimerId) -> Option<TimerState>
         ensures state { result ≡ option_map (λ t. t.state) (timer_at self.now id.0) }
         ensures outside { timer_count ≤ id.0 → result ≡ None }

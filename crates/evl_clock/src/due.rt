@@ -1,8 +1,8 @@
-//! What falls due.
+//! Items that fall due.
 use evl_base::{ThreadId, TimerId};
 use evl_pipeline::{Answer, Fire};
 
-/// What is due next, before it falls due.
+/// The item that is due next, before it falls due.
 #[derive(Clone, Copy, PartialEq, Eq)]
 pub enum Item {
     /// A timer.
@@ -11,18 +11,18 @@ pub enum Item {
     Deadline(ThreadId),
 }
 
-/// What fell due.
+/// An item that fell due.
 #[derive(Drop)]
 pub enum Due {
     /// A timer fired.
     Timer {
         /// Which timer.
         id: TimerId,
-        /// What its callback was called with.
+        /// The fire that its callback was called with.
         fire: Fire,
         /// How many whole periods lie between its date and the date now: 0 to 2^64 - 1.
         missed: u64,
-        /// What its callback answered.
+        /// The answer of its callback.
         answer: Answer,
     },
     /// The deadline of a thread's wait is gone.

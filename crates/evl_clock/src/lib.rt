@@ -1,5 +1,5 @@
 //! The date, timers and deadlines, and what falls due (Xenomai 4: EVL clocks and timers).
-//! What names no source is this profile's own.
+//! All that names no source is this profile's own.
 #![tactic(auto)]
 
 mod agenda;

@@ -12,7 +12,7 @@ pub fn free_place<C>(timers: &[Option<Timer<C>>]) -> Option<usize>
     timers.iter().position(|place| place.is_none())
 }
 
-/// Takes the timer out of its place, which is empty then. Where there is none, nothing changes.
+/// Takes the timer out of its place, which is empty then. Nothing changes where there is none.
 pub fn take_timer<C, A: Allocator>(
     timers: &mut Vec<Option<Timer<C>>, A>,
     n: u16,

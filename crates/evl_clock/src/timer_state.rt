@@ -1,8 +1,8 @@
-//! What a timer does.
+//! The state of a timer.
 ghost use Rattle.std.specs.Prelude.{◌≡◌};
 ghost use Rattle.evl_clock.specs.Timers.{date_of, missed_periods, missed_of, state_after};
 
-/// What a timer does (Xenomai 4: EVL timers; this profile).
+/// The state of a timer (Xenomai 4: EVL timers; this profile).
 #[derive(Clone, Copy, PartialEq, Eq)]
 pub enum TimerState {
     /// It doesn't run: it was never started, or stopped, or fired once with interval 0.
@@ -41,7 +41,7 @@ impl TimerState {
         }
     }
 
-    /// What a timer does after a fire at the date `now`.
+    /// The state of a timer after a fire at the date `now`.
     pub fn after_fire(&self, now: u64) -> TimerState
         ensures after { result ≡ state_after now self.now }
     {
@@ -63,7 +63,7 @@ fn missed_of(now: u64, date: u64, interval: u64) -> u64
     now.saturating_sub(date) / interval
 }
 
-// What a timer that runs does after a fire.
+// The state of a running timer after a fire.
 fn going_on(now: u64, date: u64, interval: u64) -> TimerState
     ensures state { result ≡ state_after now (TimerState.Running date interval) }
 {

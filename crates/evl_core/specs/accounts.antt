@@ -1,4 +1,4 @@
--- What is known of the kernel: a thread's account, what is read of a token, and what a call does to a kernel in hand.
+-- All that is known of the kernel: a thread's account, what is read of a token, and what a call does to a kernel in hand.
 pub mod Nothing
 pub mod Accounts
 pub mod Seats

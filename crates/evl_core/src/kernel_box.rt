@@ -1,4 +1,4 @@
-//! What lies in the slot: the kernel in a box, so that only a pointer moves where the kernel goes out or in.
+//! The slot's content: the kernel in a box, so that only a pointer moves where the kernel goes out or in.
 ghost use Rattle.std.specs.Prelude.{◌≡◌, IfOk};
 ghost use Rattle.evl_kernel.specs.state.Callbacks.{AnswersByPlan};
 ghost use Rattle.evl_core.specs.accounts.KernelCalls.{Applied, Reserves, ReservesFor};

@@ -9,7 +9,7 @@ ghost use Rattle.evl_core.specs.worlds.QuietCore.{LiesQuiet};
 ghost use Rattle.evl_core.specs.worlds.TiedCore.{LiesTied};
 ghost use Rattle.evl_core.specs.worlds.Tokens.{HasOneHistory};
 
-/// What holds of the core's word and slot, and of what its threads know, holds after any list of their atomic steps.
+/// The laws of the core's word and slot, and of what its threads know, hold after any list of their atomic steps.
 pub fn core_events_keep_order<C>()
     ensures { CoreEventsKeepOrder C }
 {}
@@ -22,14 +22,14 @@ pub fn core_world_stands<C>()
 {}
 
 /// From the opening of the one table on, its core's word and slot, each mutex's word, and what its threads know keep
-/// their conditions after any list of atomic steps, among which hands of threads are split and joined. Who has the
+/// their conditions after any list of atomic steps, among which hands of threads are split and joined. The one with the
 /// kernel alone claims, settles, offers, frees, accepts and forgets a mutex, and tries one with a ceiling, which no
 /// exchange unlocks.
 pub fn one_world_stands<C>()
     ensures { OneWorldStands C }
 {}
 
-/// What the running rule of a machine's table keeps is what holds of the one world, no less and no more: the table lies
+/// The running rule of a machine's table keeps what holds of the one world, no less and no more: the table lies
 /// as some world, with the hands of its tokens, that keeps its conditions; and any table that lies as such a world is
 /// within the rule.
 pub fn rule_is_one_world<C>()
@@ -41,16 +41,16 @@ pub fn rule_is_one_world<C>()
 //   the rule counts more lost takes, or fewer.
 //   clauses: takes_are_lost_to_another; free_core_turns_no_token_away
 //   rows: quiet_core_is_never_busy
-/// A take is lost to another thread alone. Of two worlds that keep their conditions and differ in what one thread knows,
-/// and in words and histories as they may, that thread has lost as many takes in the one as in the other, unless another
+/// A take is lost to another thread alone. Two worlds that keep their conditions and differ in what one thread knows,
+/// and in words and histories as they may, agree in how many takes that thread has lost, unless another
 /// thread had the kernel in the first: no step, whatever it does, counts a lost take while the core is free.
 pub fn takes_are_lost_to_another<C>()
     ensures { TakesAreLostToAnother C }
 {}
 
-/// So no step of a token at a free core counts a lost take. Of two states that the running rule of a machine's table
+/// So no step of a token at a free core counts a lost take. Two states that the running rule of a machine's table
 /// keeps, both with a free core, of which the second has another thread's view at one token, which acts for this thread
-/// alone, that thread has lost as many takes in the one as in the other, where each thread of the board is some token's.
+/// alone, agree in how many takes that thread has lost, where each thread of the board is some token's.
 pub fn free_core_turns_no_token_away<C>()
     ensures { FreeCoreTurnsNoTokenAway C }
 {}

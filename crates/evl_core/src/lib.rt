@@ -1,6 +1,6 @@
 //! The core without its callers: the table that the lock's word, the kernel's slot and the mutexes' words are in, its rule
 //! and what each thread knows of it, the steps on a mutex's word, and the laws of them all.
-//! What names no source is this profile's own.
+//! All that names no source is this profile's own.
 #![tactic(auto)]
 
 mod core_lock;

@@ -67,7 +67,7 @@ impl<A: Allocator> MutexPlaces<A> {
         place < self.places.len() && self.places[place].depth() == 0
     }
 
-    /// What refuses to spend a pass with no step: it isn't of the thread's place, or the thread doesn't have the mutex.
+    /// The refusal to spend a pass with no step: it isn't of the thread's place, or the thread doesn't have the mutex.
     #[inline(always)]
     pub fn refusal(&self, pass: &MutexPass) -> Option<Refusal>
         ensures refused { result ≡ spend_refusal_in self.now pass.now }

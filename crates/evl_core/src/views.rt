@@ -1,4 +1,4 @@
-//! What each thread knows. Views stand in proofs alone: no value of these types is made.
+//! All that each thread knows. Views stand in proofs alone: no value of these types is made.
 use evl_base::Entry;
 use evl_words::{View, WordEntry};
 use std::collections::LinkedList;
@@ -18,7 +18,7 @@ impl Model for Past {
     ghost view = { λ past. record no_history { entries = past.entries } };
 }
 
-/// What is known of one caller: the history that it has seen, its own calls there, for how many calls it found room
+/// All that is known of one caller: the history that it has seen, its own calls there, for how many calls it found room
 /// made in the kernel, at each time that it took it, and how often it found it taken.
 pub struct Account {
     pub thread: u64,
@@ -28,7 +28,7 @@ pub struct Account {
     pub lost: u64,
 }
 
-/// What is read of a token of the table: the history of the kernel that it took, if it has one, and the accounts of its
+/// A token of the table, as it is read: the history of the kernel that it took, if it has one, and the accounts of its
 /// threads.
 pub struct CoreView {
     pub taken: Option<Past>,
@@ -54,7 +54,7 @@ pub enum LockReply {
     Done,
 }
 
-/// What a thread knows of the core: the history of the kernel that it took, if it has one, the history that it has
+/// All that a thread knows of the core: the history of the kernel that it took, if it has one, the history that it has
 /// seen, its own calls there, for how many calls it found room made in the kernel, at each time that it took it, how
 /// often it found the core taken, the kernel as it was made, and what it has seen of the lock's own history.
 pub struct CorePart<F> {
@@ -68,7 +68,7 @@ pub struct CorePart<F> {
     pub lock: View<WordEntry<LockCall, LockReply>, bool>,
 }
 
-/// What a thread knows: of the core, and of each word beside it.
+/// All that a thread knows: of the core, and of each word beside it.
 pub struct ThreadView<F, M> {
     pub core: CorePart<F>,
     pub mutexes: LinkedList<M>,

@@ -1,4 +1,4 @@
--- What contracts see of a history.
+-- A history as contracts see it.
 use Rattle.std.specs.Prelude.{ℕ, List}
 use Rattle.evl_base.specs.declared.call.Call.{Call}
 use Rattle.evl_base.specs.declared.entry.Entry.{Entry}
@@ -11,7 +11,7 @@ pub record HistoryView : Type 0 where
   -- for how many entries more there is room, whatever they are
   pub room : ℕ
 
--- rule: What is entered comes after all entries, with its caller, call, answer and number of plays, whatever row it
+-- rule: The entry that is made comes after all entries, with its caller, call, answer and number of plays, whatever row it
 --   has; all others stay.
 --   clauses: History::{new, push, push_put, push_get, push_transfer, clear}
 -- the entry of a call with its answer and the number of its plays

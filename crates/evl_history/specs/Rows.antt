@@ -1,4 +1,4 @@
--- What a row of a history says: its entry.
+-- All that a row of a history says: its entry.
 use Rattle.std.specs.Prelude.{ℕ, Bool, ◌≡◌, ◌+◌, ◌≤◌, ◌<◌, List, [], ◌∷◌, length, slice_index_or, slice_range, Option, None, Some, Result, Ok, Err, true, false, ⊤}
 use Rattle.arrayvec.specs.ArrayVec.{ArrayVec}
 use Rattle.evl_base.specs.declared.call.Call.{Call}

@@ -5,7 +5,7 @@ ghost use Rattle.evl_history.specs.Rows.{Codes, entry, told};
 use crate::row::{Brief, Head, Row};
 use evl_base::{Call, Reply, ThreadId};
 
-/// Who made a call, and how many plays it made; none where either is above 255.
+/// The caller that made a call, and how many plays it made; none where either is above 255.
 #[inline(always)]
 pub(crate) fn head(caller: ThreadId, plays: usize) -> Option<Head>
     ensures caller { IfSome result (λ head. head.caller ≡ caller.0) }

@@ -1,5 +1,5 @@
 //! The history of a kernel: every call with its answer, most of them as a row of sixteen bytes.
-//! What names no source is this profile's own.
+//! All that names no source is this profile's own.
 #![tactic(auto)]
 
 mod answers;

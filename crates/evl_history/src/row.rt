@@ -1,7 +1,7 @@
-//! What a row of a history holds.
+//! All that a row of a history holds.
 use evl_base::{FlagId, LineNo, MutexId, SemId, Stage, Take, ThreadId, TimerId, Way, XbufId};
 
-/// Who made a call, and how many plays it made; each is at most 255.
+/// The caller that made a call, and how many plays it made; each is at most 255.
 #[derive(Clone, Copy)]
 pub(crate) struct Head {
     pub caller: u8,

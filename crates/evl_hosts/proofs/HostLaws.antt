@@ -1,4 +1,4 @@
--- What is said of a trace, the kernel that is given back, and the callers of a machine that are set apart one after the other.
+-- All that is said of a trace, the kernel that is given back, and the callers of a machine that are set apart one after the other.
 use Rattle.std.proofs.Common.{◌≡◌, ◌⊎◌, inl, inr, ℕ, List, [], ◌∷◌, ◌++◌, map, All, IfOk, IfErr, IsSomeAnd, Option, Some, Result, Ok, Err, String, Global, string_bytes, ap, subst, sym, ◌∙◌, refl, append_assoc}
 use Rattle.std.proofs.lemmas.List.Elements.{All-map}
 use Rattle.evl_base.specs.declared.refusal.Refusal.{Refusal}

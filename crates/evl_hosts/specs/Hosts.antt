@@ -135,7 +135,7 @@ abbrev pub TellsTrace : MachineState Planned → Result (List ℕ) Refusal → C
 TellsTrace machine r a b =
     FindsTaken machine r a b ⊎ ((k : KernelView Planned) × TakesAndGives machine k a b × ((r ≡ Ok (kernel_trace machine k)) ⊎ (r ≡ Err NoMemory)))
 
--- What the kernel that the caller takes says is given. Or another has the kernel.
+-- The answer of the kernel that the caller takes is given. Or another has the kernel.
 abbrev pub Looks : {T : Type 0} → MachineState Planned → (KernelView Planned → T) → Result T Refusal → CallerState Planned → CallerState Planned → Type 0
 Looks machine told_of r a b = FindsTaken machine r a b ⊎ ((k : KernelView Planned) × TakesAndGives machine k a b × (r ≡ Ok (told_of k)))
 

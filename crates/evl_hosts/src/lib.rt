@@ -1,5 +1,5 @@
 //! Callers of one machine that are kept apart: each has a share of the machine, and the passes that it got, so that host threads
-//! with nothing else in common make their calls. What names no source is this profile's own.
+//! with nothing else in common make their calls. All that names no source is this profile's own.
 #![tactic(auto)]
 
 mod hosts;

@@ -1,4 +1,4 @@
-//! What is read of the kernel by a caller that is kept apart.
+//! All that is read of the kernel by a caller that is kept apart.
 ghost use Rattle.std.specs.Prelude.{◌≡◌};
 ghost use Rattle.evl_hosts.specs.Hosts.{Looks, Steps};
 
@@ -8,16 +8,16 @@ use evl_kernel::KernelOf;
 use evl_plans::Planned;
 use std::alloc::Global;
 
-/// What may be asked of a kernel: the answer follows from the kernel's state and history alone.
+/// All that may be asked of a kernel: the answer follows from the kernel's state and history alone.
 pub trait Question {
     ghost use Rattle.std.specs.Prelude.{◌≡◌};
     ghost use Rattle.evl_kernel.specs.state.KernelViews.{KernelView};
     ghost use Rattle.evl_plans.specs.declared.planned.Planned.{Planned};
 
-    /// What is answered.
+    /// The answer.
     type Told;
 
-    /// What a kernel says.
+    /// A kernel's answer.
     ghost told_of: { Self → KernelView Planned → Self.Told };
 
     /// Asks a kernel.
@@ -26,7 +26,7 @@ pub trait Question {
 }
 
 impl Host {
-    /// What the kernel says to a question, by one take and one give: no call is entered. `CoreBusy` where another caller
+    /// The kernel's answer to a question, by one take and one give: no call is entered. `CoreBusy` where another caller
     /// has the kernel.
     pub fn look<Q: Question>(&mut self, question: &Q) -> Result<Q::Told, Refusal>
         ensures looked { Steps (λ a b. Looks self.old.machine (Q.told_of question.now) result a b) self.old.staxes self.old.mutexes self.old self.new }

@@ -52,7 +52,7 @@ impl<C> Named for Numbered<C> {
     }
 }
 
-/// What the callback of a place declares, if there is such a place.
+/// The kinds that the callback of a place declares, if there is such a place.
 pub(crate) fn kinds_in<C, A: Allocator>(
     bank: &Vec<BankPlace<C>, A>,
     number: u8,

@@ -330,7 +330,7 @@ impl<C, A: Allocator> KernelOf<C, A> {
         self.records.unhandled(line, stage)
     }
 
-    /// What a timer does, if there is such a timer; there is none above 63 (Xenomai 4: EVL timers).
+    /// The state of a timer, if there is such a timer; there is none above 63 (Xenomai 4: EVL timers).
     pub fn timer(&self, id: TimerId) -> Option<TimerState>
         ensures timer { result ≡ option_map (λ t. t.state) (timer_at self.now.history.state.clock id.0) }
         ensures outside { timer_count ≤ id.0 → result ≡ None }
@@ -379,7 +379,7 @@ impl<C, A: Allocator> KernelOf<C, A> {
         self.records.timed_out(thread)
     }
 
-    /// Who is recorded as the owner of a mutex, if anybody is: while somebody waits for it, and at a ceiling also while
+    /// The recorded owner of a mutex, if there is one: while somebody waits for it, and at a ceiling also while
     /// nobody does; nobody where there is no such mutex (Xenomai 4: EVL mutex; this profile).
     pub fn owner(&self, mutex: MutexId) -> Option<ThreadId>
         ensures owner { option_map (λ thread. thread.0) result ≡ owner_at (record_at self.now.history.state mutex.0) }

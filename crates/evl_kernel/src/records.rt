@@ -268,7 +268,7 @@ impl<C, A: Allocator> Records<C, A> {
         self.pipeline.unhandled(line, stage)
     }
 
-    /// What a timer does, if there is such a timer.
+    /// The state of a timer, if there is such a timer.
     pub(crate) fn timer(&self, id: TimerId) -> Option<TimerState>
         ensures timer { result ≡ option_map (λ t. t.state) (timer_at self.now.clock id.0) }
         ensures outside { timer_count ≤ id.0 → result ≡ None }
@@ -323,7 +323,7 @@ impl<C, A: Allocator> Records<C, A> {
         }
     }
 
-    /// Who is recorded as the owner of a mutex, if anybody is.
+    /// The recorded owner of a mutex, if there is one.
     pub(crate) fn owner(&self, mutex: MutexId) -> Option<ThreadId>
         ensures owner { option_map (λ thread. thread.0) result ≡ owner_at (record_at (state_of self.now) mutex.0) }
     {

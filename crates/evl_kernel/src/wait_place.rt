@@ -9,7 +9,7 @@ use evl_base::{Refusal, Reply, Spares, Transfer};
 use std::alloc::{Allocator, Global};
 use std::marker::Model;
 
-/// What ends a wait: an answer, or bytes that were read.
+/// The end of a wait: an answer, or bytes that were read.
 #[derive(Drop)]
 pub(crate) enum Outcome<'a> {
     Told(Reply),
@@ -93,7 +93,7 @@ impl WaitPlace {
         }
     }
 
-    /// What ended the wait, which is finished then; where it carries bytes, a box of `spares` takes the place of
+    /// The end of the wait, which is finished then; where it carries bytes, a box of `spares` takes the place of
     /// theirs. The first that applies: `Invalid` (there is no wait), `Again` (it goes on). A refused call changes
     /// nothing.
     #[inline(always)]

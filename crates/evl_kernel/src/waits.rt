@@ -11,7 +11,7 @@ use evl_base::{
 };
 use std::alloc::Allocator;
 
-/// What a thread waits for (Xenomai 4: EVL elements).
+/// The element that a thread waits for (Xenomai 4: EVL elements).
 #[derive(Clone, Copy, PartialEq, Eq, Drop)]
 pub enum Awaited {
     /// A semaphore.
@@ -35,7 +35,7 @@ impl Awaited {
     }
 }
 
-/// What a thread wants that begins to wait: a semaphore, bits of a flag group, to write bytes into a cross-buffer, to
+/// The aim of a thread that begins to wait: a semaphore, bits of a flag group, to write bytes into a cross-buffer, to
 /// read so many from it, or a mutex of this owner.
 #[derive(Drop)]
 pub(crate) enum Wanted {
@@ -101,7 +101,7 @@ pub(crate) struct Wait {
     pub(crate) outcome: Option<Reply>,
 }
 
-/// What a thread waits for or waited for, while its wait is unfinished.
+/// The element that a thread waits for or waited for, while its wait is unfinished.
 pub(crate) fn awaited_by<A: Allocator>(
     waits: &Vec<WaitPlace, A>,
     thread: ThreadId,
@@ -165,7 +165,7 @@ pub(crate) fn end<A: Allocator>(
     }
 }
 
-/// What ended a thread's wait, which is finished then; bytes come in a box of `spares`. The first that applies:
+/// The end of a thread's wait, which is finished then; bytes come in a box of `spares`. The first that applies:
 /// `Invalid` (there is no wait), `Again` (it goes on). A refused call changes nothing.
 #[inline(always)]
 pub(crate) fn take_outcome<A: Allocator>(

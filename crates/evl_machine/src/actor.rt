@@ -1,4 +1,4 @@
-//! Who acts for a thread: its token at the core's table, and what it has beside it.
+//! A thread's actor: its token at the core's table, and what it has beside it.
 ghost use Rattle.std.specs.Prelude.{◌≡◌, ◌==◌, ◌&&◌, nat_lt, true, false, Some, None, if◌then◌else◌, All, length, map};
 ghost use Rattle.evl_base.specs.declared.refusal.Refusal.TheVariants.{Busy, HoldsStax};
 ghost use Rattle.evl_base.specs.declared.stage.Stage.TheVariants.{Inband};
@@ -22,13 +22,13 @@ use evl_words::MutexPass;
 use std::alloc::Allocator;
 use std::marker::Model;
 
-/// Who acts for a thread of the board: its token at the core's table, and all that it has beside it. A caller has it
+/// The actor of a thread of the board: its token at the core's table, and all that it has beside it. A caller has it
 /// while it is at rest, and while it has the kernel; it goes from one to the other whole.
 #[derive(Drop)]
 pub struct Actor<C, A: Allocator> {
     pub(crate) seat: CoreSeat<C, A>,
     pub(crate) thread: ThreadId,
-    /// That of its thread at the end of what it has seen.
+    /// Its thread's stage at the end of what it has seen.
     pub(crate) stage: Stage,
     pub(crate) wait: Option<Unfinished>,
     pub(crate) staxes: StaxSeats<A>,
@@ -46,7 +46,7 @@ impl<C, A: Allocator> Model for Actor<C, A> {
 }
 
 impl<C, A: Allocator> Actor<C, A> {
-    /// Who acts for a thread that has made no call.
+    /// The actor of a thread that has made no call.
     pub(crate) fn new(
         seat: CoreSeat<C, A>,
         thread: ThreadId,
@@ -68,7 +68,7 @@ impl<C, A: Allocator> Actor<C, A> {
         }
     }
 
-    /// What refuses a call of the kernel by what the caller has itself, before any step.
+    /// The refusal of a call of the kernel by what the caller has itself, before any step.
     #[inline(always)]
     pub(crate) fn refusal(&self, call: &Call) -> Option<Refusal>
         ensures refused { result ≡ call_refusal self.now.wait (holds_stax self.now.staxes) (holds_mutex (acting self.now).mutexes) call.now }
@@ -92,7 +92,7 @@ impl<C, A: Allocator> Actor<C, A> {
         }
     }
 
-    /// What refuses to lock a mutex of this kind by what the caller has itself, before any step.
+    /// The refusal to lock a mutex of this kind by what the caller has itself, before any step.
     #[inline(always)]
     pub(crate) fn lock_refusal(&self, kind: Option<MutexKind>, mutex: MutexId) -> Option<Refusal>
         ensures refused { result ≡ lock_refusal kind self.now.wait self.now.stage (depth_at (acting self.now).mutexes mutex.0) }
@@ -108,7 +108,7 @@ impl<C, A: Allocator> Actor<C, A> {
         }
     }
 
-    /// What refuses to spend a pass by what the caller has itself, before any step.
+    /// The refusal to spend a pass by what the caller has itself, before any step.
     #[inline(always)]
     pub(crate) fn spend_refusal(&self, pass: &MutexPass) -> Option<Refusal>
         ensures refused { result ≡ spend_refusal self.now.wait (acting self.now).mutexes pass.now }
@@ -151,7 +151,7 @@ impl<C, A: Allocator> Actor<C, A> {
         self.places.is_free(mutex)
     }
 
-    // What refuses to spend a pass with no step: it isn't its own, or it doesn't have the mutex.
+    // The refusal to spend a pass with no step: it isn't its own, or it doesn't have the mutex.
     #[inline(always)]
     fn pass_refusal(&self, pass: &MutexPass) -> Option<Refusal>
         ensures refused { result ≡ unlock_refusal (acting self.now).mutexes pass.now }
@@ -205,7 +205,7 @@ impl<C: Handler, A: Allocator> Actor<C, A> {
     }
 }
 
-// What refuses who has a mutex of this kind so often, and tries again.
+// The refusal to one that has a mutex of this kind so often, and tries again.
 fn owner_refusal(kind: MutexKind, depth: u8) -> Option<Refusal>
     ensures { result ≡ owner_refusal kind depth }
 {

@@ -1,4 +1,4 @@
-//! What two callers of one machine know together.
+//! All that two callers of one machine know together.
 ghost use Rattle.std.specs.Prelude.{◌≡◌, map};
 ghost use Rattle.evl_machine.specs.callers.Actors.{acting};
 ghost use Rattle.evl_core.specs.accounts.Seats.{IsCaller, account_of};

@@ -38,7 +38,7 @@ pub struct Machine {
     ghost by_plan: { AnswersByPlan (λ c. c.kinds.0) (λ c. c.plan.value) of.first.callbacks },
 }
 
-/// A caller that has the kernel. Where it is dropped without `give`, the core stays taken.
+/// A caller that has the kernel. The core stays taken where it is dropped without `give`.
 #[derive(Drop)]
 pub struct Held<'a> {
     pub of: HeldCore<'a>,
@@ -146,7 +146,7 @@ impl<'a> Held<'a> {
 
     // rule: The thread that has the kernel reads a mutex's word as one tied to the record. No clause says who holds an
     //   unclaimed mutex without a ceiling.
-    /// What is in a mutex's word, by one load; none where there is no such mutex. It is what the kernel records:
+    /// The content of a mutex's word, by one load; none where there is no such mutex. It is what the kernel records:
     /// whom it has as the owner is there, and where somebody waits, so is the mark; where nobody is recorded,
     /// a mutex with a ceiling is free.
     pub fn in_word(&mut self, mutex: MutexId) -> Option<InWord>

@@ -1,4 +1,4 @@
-//! What is in a mutex's word, looked at by the caller that has the kernel.
+//! The content of a mutex's word, looked at by the caller that has the kernel.
 ghost use Rattle.std.specs.Prelude.{ℕ, ◌≡◌, ◌+◌, ◌<◌, ⊤, MatchOption, is_some, nat_lt};
 ghost use Rattle.evl_machine.specs.mutex_locks.InWord.{Agrees, IsRead, SaysTied, in_word, owner_of};
 ghost use Rattle.evl_core.specs.rule.Known.{ceilings_of, first_of, mutex_count};
@@ -12,7 +12,7 @@ use evl_core::{CoreLock, CoreSeat, Looking};
 use evl_words::{CLAIM_MARK, Claim, OFFERED, claim_on};
 use std::alloc::Allocator;
 
-/// What is in a mutex's word: who owns the mutex or has it offered, which of the two it is, and whether somebody
+/// The content of a mutex's word: who owns the mutex or has it offered, which of the two it is, and whether somebody
 /// claims it.
 #[derive(Clone, Copy, PartialEq, Eq)]
 pub struct InWord {
@@ -21,7 +21,7 @@ pub struct InWord {
     pub is_claimed: bool,
 }
 
-// Who owns a mutex, by what a claim would be answered.
+// The owner of a mutex, by what a claim would be answered.
 fn owner_of(told: Claim) -> Option<ThreadId>
     ensures { result ≡ owner_of told }
 {
@@ -32,7 +32,7 @@ fn owner_of(told: Claim) -> Option<ThreadId>
     }
 }
 
-// What a word says.
+// All that a word says.
 fn read(word: u64) -> InWord
     ensures { result ≡ in_word word }
 {
@@ -73,7 +73,7 @@ impl<C: Drop, A: Allocator> Actor<C, A> {
 }
 
 impl<C: Drop, A: Allocator> MachineOf<C, A> {
-    // What is in a mutex's word; none where there is no such mutex.
+    // The content of a mutex's word; none where there is no such mutex.
     fn look(&self, actor: &mut Actor<C, A>, mutex: MutexId) -> Option<InWord>
         requires machine { (actor.old.table ≡ self.now.id) × (first_of actor.old.me.0 ≡ self.now.first) }
         ensures same { actor.new ≡ actor.old }
@@ -88,7 +88,7 @@ impl<C: Drop, A: Allocator> MachineOf<C, A> {
 }
 
 impl<'a, C: Drop, A: Allocator> HeldOf<'a, C, A> {
-    /// What is in a mutex's word, by one load; none where there is no such mutex. It is what the kernel records:
+    /// The content of a mutex's word, by one load; none where there is no such mutex. It is what the kernel records:
     /// whom it has as the owner is there, and where somebody waits, so is the mark; where nobody is recorded,
     /// a mutex with a ceiling is free.
     pub fn in_word(&mut self, mutex: MutexId) -> Option<InWord>

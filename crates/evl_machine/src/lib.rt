@@ -1,5 +1,5 @@
 //! The machine: the kernel in a lock of one word and one slot, and the callers that take it in turn.
-//! What names no source is this profile's own.
+//! All that names no source is this profile's own.
 #![tactic(auto)]
 
 mod actor;

@@ -1,4 +1,4 @@
-//! What a caller does with a mutex while it has the kernel: steps of the mutex's word, and the calls of the kernel that
+//! A caller's deeds on a mutex while it has the kernel: steps of the mutex's word, and the calls of the kernel that
 //! go with them. No step of the core's lock is among them. All growths come before the first step of a word.
 ghost use Rattle.std.specs.Prelude.{◌≡◌, ◌<◌, IfSome, IsSomeAnd, None, Some, length, slice_get, true};
 ghost use Rattle.evl_base.specs.declared.call.Call.TheVariants.{Finish};
@@ -70,8 +70,8 @@ pub(crate) fn lock_raised<C: Handler, A: Allocator>(
     Ok(pass)
 }
 
-/// Has the kernel hand a mutex on, and offers it to the next owner, or frees it where there is none. Where there is no
-/// room for the call the pass comes back, and the word stays as it is.
+/// Has the kernel hand a mutex on, and offers it to the next owner, or frees it where there is none. The pass comes
+/// back where there is no room for the call, and the word stays as it is.
 pub(crate) fn release<C: Handler, A: Allocator>(
     core: &CoreLock<C, A>,
     actor: &mut Actor<C, A>,
@@ -129,8 +129,8 @@ fn hand_on<C: Drop, A: Allocator>(
     }
 }
 
-/// Claims a mutex that the caller doesn't hold, and waits for it where another has it. Where it was won, and has a
-/// ceiling, the kernel learns of it. All claims are made with the kernel, so nobody else has won it and not settled yet.
+/// Claims a mutex that the caller doesn't hold, and waits for it where another has it. The kernel learns of it where
+/// it was won, and has a ceiling. All claims are made with the kernel, so nobody else has won it and not settled yet.
 pub(crate) fn begin<C: Handler, A: Allocator>(
     core: &CoreLock<C, A>,
     actor: &mut Actor<C, A>,

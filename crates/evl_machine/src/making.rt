@@ -69,7 +69,7 @@ impl<C: Handler, A: Allocator> MachineOf<C, A> {
     }
 }
 
-// What a machine is made of beside its kernel: its elements with each thread's seats and places, room for its callers,
+// The parts of a machine beside its kernel: its elements with each thread's seats and places, room for its callers,
 // and the words and the allocator of its core.
 #[derive(Drop)]
 struct Parts<C, A: Allocator> {
@@ -80,7 +80,7 @@ struct Parts<C, A: Allocator> {
 }
 
 impl<C, A: Allocator + Clone> Parts<C, A> {
-    // The parts for a board within its limits. What has the most parts is made last.
+    // The parts for a board within its limits. The last one made is that with the most parts.
     fn of(alloc: &A, board: &Board) -> Result<Parts<C, A>, AllocError>
         ensures fits { IfOk result (λ p. board_fits board.now ≡ true) }
         ensures words { IfOk result (λ p. p.words.items ≡ replicate (1 + length board.now.mutexes.items) 0) }

@@ -1,4 +1,4 @@
-//! What a caller does with a mutex by the kernel: it takes the kernel once, and gives it back.
+//! A caller's deeds on a mutex by the kernel: it takes the kernel once, and gives it back.
 ghost use Rattle.std.specs.Prelude.{◌≡◌, ◌<◌, Err, None, Some, length, true};
 ghost use Rattle.evl_base.specs.declared.refusal.Refusal.TheVariants.{CoreBusy};
 ghost use Rattle.evl_kernel.specs.state.Callbacks.{AnswersByPlan};

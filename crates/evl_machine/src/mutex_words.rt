@@ -1,4 +1,4 @@
-//! What a caller at rest does with a mutex by itself: a step of the mutex's word, or none.
+//! The deeds on a mutex of a caller at rest by itself: a step of the mutex's word, or none.
 ghost use Rattle.std.specs.Prelude.{◌≡◌, ◌≢◌, ◌<◌, None, Ok, false};
 ghost use Rattle.evl_kernel.specs.state.Callbacks.{AnswersByPlan};
 ghost use Rattle.evl_words.specs.declared.mutex.Unlock.TheVariants.{Done};

@@ -73,7 +73,7 @@ impl<C: Handler, A: Allocator> MachineOf<C, A> {
 
     /// Begins to lock a mutex, and answers whether the caller has it or waits for it until this moment (Xenomai 4: EVL
     /// mutex). Refused with no step as `try_lock_mutex` is. `CoreBusy` where another has the kernel, `NoMemory` or
-    /// `HistoryFull` where it has no room: the mutex isn't claimed then. Where another has it, it is claimed, and the
+    /// `HistoryFull` where it has no room: the mutex isn't claimed then. It is claimed where another has it, and the
     /// answer is the kernel's to the wait: a refused one leaves the claim. One with a ceiling that was won is reported to
     /// the kernel.
     pub fn begin_lock_mutex(
@@ -201,7 +201,7 @@ impl<C: Handler, A: Allocator> MachineOf<C, A> {
     }
 }
 
-// What a word answered, as a call without the kernel says it: a pass comes back where others claim the mutex.
+// A word's answer, as a call without the kernel says it: a pass comes back where others claim the mutex.
 #[inline(always)]
 fn fast_answer(told: Unlock) -> Result<(), (Refusal, MutexPass)>
     ensures { FastAnswer result told }

@@ -4,7 +4,7 @@ ghost use Rattle.evl_machine.specs.callers.Unfinished.{wait_after, wait_step};
 
 use evl_base::{Call, MutexId, Refusal, Reply};
 
-/// What an unfinished wait is for.
+/// All that an unfinished wait may be for.
 #[derive(Clone, Copy, PartialEq, Eq)]
 pub enum Unfinished {
     /// A mutex.
@@ -13,7 +13,7 @@ pub enum Unfinished {
     Element,
 }
 
-/// What a call does to the wait of its caller, where it isn't refused.
+/// The effect of a call on the wait of its caller, where it isn't refused.
 #[derive(Clone, Copy)]
 pub enum WaitStep {
     Begins(Unfinished),
@@ -21,7 +21,7 @@ pub enum WaitStep {
     Keeps,
 }
 
-/// What this call does to its caller's wait.
+/// The effect of this call on its caller's wait.
 #[inline(always)]
 pub(crate) fn wait_step(call: &Call) -> WaitStep
     ensures { result ≡ wait_step call.now }

@@ -1,4 +1,4 @@
--- What is noted of changes, one after another.
+-- All that is noted of changes, one after another.
 use Rattle.std.proofs.Common.{◌≡◌, ℕ, max, Bool, true, false, List, Option, slice_index, refl, sym, ◌∙◌}
 use Rattle.std.proofs.lemmas.Bool.{false≢true}
 use Rattle.evl_mutex.specs.Changes.{ChangesAreNoted}

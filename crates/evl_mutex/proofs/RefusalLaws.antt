@@ -1,4 +1,4 @@
--- What was found at the number of a mutex, as the refusals look for it.
+-- All that was found at the number of a mutex, as the refusals look for it.
 use Rattle.std.proofs.Common.{◌≡◌, ℕ, ◌<◌, ◌≤◌, ◌==◌, List, [], ◌∷◌, length, get_or, slice_get, Some, None, option_map, sym, ap, ◌∙◌, arith}
 use Rattle.std.proofs.lemmas.Option.{slice_get-get_or, slice_get-map, slice_get_past}
 use Rattle.std.proofs.lemmas.Bool.{eq-eqb, ne_eqb}

@@ -3,7 +3,7 @@ ghost use Rattle.std.specs.Prelude.{◌≡◌, ◌==◌, ◌||◌, true, ℕ};
 
 use evl_base::ThreadId;
 
-/// Where a call on the recorded owners notes each thread whose effective rank may have changed.
+/// The notes that a call on the recorded owners makes of each thread whose effective rank may have changed.
 pub trait RankChanges {
     ghost use Rattle.std.specs.Prelude.{ℕ, Bool};
 

@@ -21,7 +21,7 @@ use evl_base::{MutexId, MutexKind, Refusal, ThreadId};
 use std::alloc::{AllocError, Allocator};
 use std::marker::Model;
 
-/// What is recorded of threads and mutexes: base ranks, owners and waiters. The owner of a mutex is recorded while
+/// All that is recorded of threads and mutexes: base ranks, owners and waiters. The owner of a mutex is recorded while
 /// somebody waits for it, and where it has a ceiling also while nobody waits, from `raise`, `claim` or `release` on. To
 /// a contract it is the record `Owners` of `specs/Owners.antt`. Only `new` takes memory. (Xenomai 4: EVL mutexes)
 #[derive(Drop)]
@@ -103,7 +103,7 @@ impl<A: Allocator> OwnersOf<A> {
         ranks::write_all(&self.lent, &self.ceilings, ranks);
     }
 
-    /// Who is recorded as the owner of a mutex, if anybody is; nobody where there is no such mutex. (Xenomai 4: EVL
+    /// The recorded owner of a mutex, if there is one; nobody where there is no such mutex. (Xenomai 4: EVL
     /// mutexes)
     pub fn owner(&self, mutex: MutexId) -> Option<ThreadId>
         ensures owner { option_map (λ thread. thread.0) result ≡ owner_of self.now mutex.0 }
@@ -128,7 +128,7 @@ impl<A: Allocator> OwnersOf<A> {
         walks::owns_any(&self.mutexes, thread.0)
     }
 
-    /// Who waits for a mutex first, to whom a release would hand it; nobody where nobody waits or there is no such
+    /// The first waiter for a mutex, to whom a release would hand it; nobody where nobody waits or there is no such
     /// mutex. (Xenomai 4: EVL mutexes)
     pub fn next(&self, mutex: MutexId) -> Option<ThreadId>
         ensures next { option_map (λ thread. thread.0) result ≡ next_of self.now mutex.0 }
@@ -174,8 +174,8 @@ impl<A: Allocator> OwnersOf<A> {
         Ok(())
     }
 
-    /// Lets a thread wait for no mutex any more, if it does. Where it was the last waiter, no owner of that mutex is
-    /// recorded any more; at a ceiling the owner stays. (Xenomai 4: EVL mutexes; this profile)
+    /// Lets a thread wait for no mutex any more, if it does. No owner of that mutex is recorded any more
+    /// where it was the last waiter; at a ceiling the owner stays. (Xenomai 4: EVL mutexes; this profile)
     pub fn drop_waiter(&mut self, thread: ThreadId)
         ensures state { self.new ≡ waiter_dropped self.old thread.0 }
     {
@@ -291,7 +291,7 @@ impl<A: Allocator> OwnersOf<A> {
 
     /// Hands a mutex on to the first waiter: who that is, if anybody waits, and whether more do. It is recorded as the
     /// owner where more wait or the mutex has a ceiling; else nobody is. Refused, in this order: `Unknown` where there
-    /// is no such mutex; `NotOwner` where another owner is recorded. Where none is, anybody may release it. A refused
+    /// is no such mutex; `NotOwner` where another owner is recorded. Anybody may release it where none is. A refused
     /// call changes nothing. (Xenomai 4: EVL mutexes)
     pub fn release(
         &mut self,
@@ -431,7 +431,7 @@ fn zeros_by<A: Allocator + Clone>(alloc: &A, threads: usize) -> Result<Vec<u16, 
     zeros(alloc.clone()?, threads)
 }
 
-// What refuses a claim, but for a ring.
+// The refusal of a claim, but for a ring.
 fn claim_refusal<A: Allocator, B: Allocator>(
     threads: usize,
     mutexes: &Vec<MutexRecord<A>, B>,
@@ -460,7 +460,7 @@ fn claim_refusal<A: Allocator, B: Allocator>(
     None
 }
 
-// What refuses a raise.
+// The refusal of a raise.
 fn raise_refusal<A: Allocator, B: Allocator>(
     threads: usize,
     mutexes: &Vec<MutexRecord<A>, B>,
@@ -486,7 +486,7 @@ fn raise_refusal<A: Allocator, B: Allocator>(
     None
 }
 
-// What refuses a lowering.
+// The refusal of a lowering.
 fn lower_refusal<A: Allocator, B: Allocator>(
     mutexes: &Vec<MutexRecord<A>, B>,
     mutex: u16,

@@ -1,4 +1,4 @@
--- What the answers of allowed callbacks hold, and that each change keeps all callbacks allowed.
+-- All that the answers of allowed callbacks hold, and that each change keeps all callbacks allowed.
 use Rattle.std.proofs.Common.{◌≡◌, ℕ, ◌≤◌, ◌<◌, ◌==◌, ◌||◌, nat_lt, bit_and, Bool, true, false, not, List, length, filter, Option, Some, None, is_some, slice_index_or, slice_set, if◌then◌else◌, refl, sym, ap, ◌∙◌, arith}
 use Rattle.std.proofs.lemmas.Nat.{and_assoc}
 use Rattle.std.proofs.lemmas.List.{get_or-set_same, get_or-set_other, length-map, length-set}

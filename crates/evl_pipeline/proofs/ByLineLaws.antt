@@ -1,4 +1,4 @@
--- What is kept for each line, as it is written and read.
+-- All that is kept for each line, as it is written and read.
 use Rattle.std.proofs.Common.{◌≡◌, ◌<◌, ◌≤◌, ℕ, zero, suc, ◌+◌, ◌-◌, List, [], ◌∷◌, ◌++◌, length, replicate, slice_index_or, slice_set, refl, sym, ap, ◌∙◌, arith}
 use Rattle.std.proofs.lemmas.List.{append_assoc, length-append, length-set, set-append_left}
 use Rattle.evl_pipeline.specs.ByLine.{filled_up}

@@ -1,4 +1,4 @@
--- What is kept for each line.
+-- All that is kept for each line.
 use Rattle.std.specs.Prelude.{ℕ, ◌-◌, List, ◌++◌, length, replicate}
 use Rattle.evl_pipeline.specs.Limits.{line_count}
 

@@ -1,4 +1,4 @@
-//! What is kept for each line.
+//! All that is kept for each line.
 ghost use Rattle.std.specs.Prelude.{◌≡◌, ℕ, ◌<◌, ◌≤◌, None, length, replicate, slice_index_or, slice_set, vec_capacity, IfOk};
 ghost use Rattle.evl_pipeline.specs.ByLine.{filled_up};
 ghost use Rattle.evl_pipeline.specs.Limits.{line_count};
@@ -11,7 +11,7 @@ pub use likeness::are_counts_alike;
 use std::alloc::{AllocError, Allocator};
 use std::marker::Model;
 
-/// What is there for a line where nothing was written.
+/// The item of a line where nothing was written.
 pub trait Blank: Copy {
     ghost blank: { Self };
 
@@ -74,7 +74,7 @@ impl<T: Blank, A: Allocator> ByLine<T, A> {
         Ok(ByLine { written })
     }
 
-    /// What is there for a line; a blank where there is no such line.
+    /// The item of a line; a blank where there is no such line.
     pub fn get(&self, line: u16) -> T
         ensures item { result ≡ slice_index_or self.now.items line T.blank }
     {

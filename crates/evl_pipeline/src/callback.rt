@@ -43,7 +43,7 @@ impl Callback {
     }
 }
 
-/// What a pipeline asks of the callbacks that it holds.
+/// All that a pipeline asks of the callbacks that it holds.
 pub trait Handler: Drop {
     ghost use Rattle.evl_pipeline.specs.declared.answer.Answer.{Answer};
     ghost use Rattle.evl_pipeline.specs.declared.fire.Fire.{Fire};
@@ -55,7 +55,7 @@ pub trait Handler: Drop {
     /// The kinds of action that it declares, as bits.
     ghost declared: { Self → ℕ };
 
-    /// That it gives this answer when it is called with this fire.
+    /// The fact that it gives this answer when it is called with this fire.
     ghost gives: { Self → Fire → Answer → Type 0 };
 
     /// Calls it with this fire, and gives its answer.

@@ -1,5 +1,5 @@
 //! Interrupt lines, the logs and stall bits of the two stages, and stored callbacks (Dovetail: interrupt pipeline).
-//! What names no source is this profile's own.
+//! All that names no source is this profile's own.
 #![tactic(auto)]
 
 mod action;

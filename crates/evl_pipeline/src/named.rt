@@ -1,7 +1,7 @@
 //! Names of callbacks.
 ghost use Rattle.std.specs.Prelude.{◌≡◌};
 
-/// What a number names.
+/// All that a number names.
 pub trait Named {
     ghost use Rattle.std.specs.Prelude.{ℕ};
 

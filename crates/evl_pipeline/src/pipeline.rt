@@ -183,9 +183,9 @@ impl<C, A: Allocator> PipelineOf<C, A> {
     //   order: Unknown
     //   clauses: Pipeline::arrive: refused
     /// Takes an interrupt on a line. It goes to the out-of-band stage where the line has a callback there, else to the
-    /// in-band stage where it has one there; an event that is pending already stays so, once. Where the line has no
-    /// callback it counts as spurious; this count stays at 2^64 - 1 once there. `Unknown` for a line above 4095.
-    /// (Dovetail: interrupt pipeline)
+    /// in-band stage where it has one there; an event that is pending already stays so, once. The event counts as
+    /// spurious where the line has no callback; this count stays at 2^64 - 1 once there. `Unknown` for a line above
+    /// 4095. (Dovetail: interrupt pipeline)
     pub fn arrive(&mut self, line: LineNo) -> Result<(), Refusal>
         ensures ok { OnOk result ((post_refusal line.0 ≡ None) × (self.new ≡ arrived self.old line.0)) }
         ensures refused { IfErr result (λ e. post_refusal line.0 ≡ Some e) }
@@ -202,7 +202,7 @@ impl<C, A: Allocator> PipelineOf<C, A> {
         Ok(())
     }
 
-    /// Posts a line on a stage. Where the line has no callback there it counts as spurious. `Unknown` for a line above
+    /// Posts a line on a stage. It counts as spurious where the line has no callback there. `Unknown` for a line above
     /// 4095. (Dovetail: interrupt pipeline)
     pub fn post(&mut self, stage: Stage, line: LineNo) -> Result<(), Refusal>
         ensures ok { OnOk result ((post_refusal line.0 ≡ None) × (self.new ≡ posted self.old stage line.0)) }
@@ -371,7 +371,7 @@ impl<C: Handler, A: Allocator> PipelineOf<C, A> {
         }
     }
 
-    // Plays a line of a stage. Where no callback is there, its event is gone.
+    // Plays a line of a stage. Its event is gone where no callback is there.
     fn play(&mut self, stage: Stage, line: u16, now: u64) -> Option<(Fire, Answer)>
         ensures none { IfNone result ((installed_at self.old stage line ≡ None) × (side self.new stage ≡ cleared (side self.old stage) line)) }
         ensures some { IfSome result (λ ran. PlaysOn C.declared C.plan C.gives (side self.old stage) stage line now ran.0 ran.1 (side self.new stage)) }

@@ -1,4 +1,4 @@
-//! What a line shows of its callback.
+//! A line's callback, as the line shows it.
 
 /// The name of a callback, and what its calls say.
 #[derive(Clone, Copy, PartialEq, Eq)]

@@ -20,7 +20,7 @@ use slab::Slab;
 use std::alloc::{AllocError, Allocator};
 use std::marker::Model;
 
-/// What one stage has. To a contract it is its stall bit, its pending lines, and by line the callbacks and the counts
+/// All that a stage has. To a contract it is its stall bit, its pending lines, and by line the callbacks and the counts
 /// of unhandled answers.
 #[derive(Drop)]
 pub struct SideOf<C, A: Allocator> {

@@ -1,4 +1,4 @@
--- What `==` says of what may be missing.
+-- All that `==` says of what may be missing.
 use Rattle.std.proofs.Common.{◌≡◌, Bool, Option, Some, None, refl, ap}
 use Rattle.std.specs.Prelude.{Decides}
 use Rattle.std.specs.Option.{option_eq}

@@ -1,4 +1,4 @@
--- That the ready threads that may run stand in the queues of their ranks: each change keeps it.
+-- The ready threads that may run are in the queues of their ranks: each change keeps it.
 use Rattle.std.proofs.Common.{◌≡◌, ◌≢◌, ℕ, suc, zero, ◌<◌, ◌==◌, nat_le, Bool, true, false, ◌||◌, List, [], ◌∷◌, ◌++◌, filter, length, replicate, Option, Some, None, is_some, option_map, slice_index_or, slice_set, if◌then◌else◌, refl, sym, ap, ◌∙◌, subst, arith}
 use Rattle.std.specs.List.{list_any, AllByRecursion}
 use Rattle.std.specs.Option.{option_map_or}

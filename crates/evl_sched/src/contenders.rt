@@ -77,7 +77,7 @@ impl<A: Allocator> Contenders<A> {
         }
     }
 
-    /// Who is first: nobody goes before it.
+    /// The first thread: nobody goes before it.
     #[inline(always)]
     pub fn first(&self) -> Option<u16>
         ensures first { IsFirstPlace self.now result }
@@ -130,7 +130,7 @@ impl<A: Allocator> Contenders<A> {
     }
 }
 
-// Who is by itself joins the queues.
+// The thread by itself joins the queues.
 #[inline(always)]
 fn join<A: Allocator>(alone: &mut Option<Alone>, queues: &mut Queues<A>)
     requires { IsApart queues.old alone.old }
@@ -146,7 +146,7 @@ fn join<A: Allocator>(alone: &mut Option<Alone>, queues: &mut Queues<A>)
     queue_up(queues, other);
 }
 
-// Who stood alone goes to the queue of its rank.
+// The thread that was alone goes to the queue of its rank.
 #[inline(never)]
 fn queue_up<A: Allocator>(queues: &mut Queues<A>, other: Alone)
     requires { IsApart queues.old (Some other) }
@@ -187,7 +187,7 @@ fn place_beside<A: Allocator>(queues: &Queues<A>, alone: Alone, thread: u16) -> 
     }
 }
 
-// Who is first where one is by itself.
+// The first thread where one is by itself.
 fn first_beside<A: Allocator>(queues: &Queues<A>, alone: Alone) -> u16
     requires { IsApart queues.now (Some alone) }
     ensures first { IsFirstPlace (with_alone queues.now (Some alone)) (Some result) }

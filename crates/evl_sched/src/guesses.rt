@@ -11,7 +11,7 @@ pub struct Guesses<A: Allocator> {
 }
 
 impl<A: Allocator + Clone> Guesses<A> {
-    /// Of so many threads.
+    /// Guesses of so many threads.
     pub fn new(alloc: A, threads: u16) -> Result<Guesses<A>, AllocError> {
         let lasts = Vec::from_elem(alloc.clone()?, 0, QUEUES)?;
         let befores = Vec::from_elem(alloc, 0, threads as usize)?;

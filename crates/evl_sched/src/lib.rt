@@ -1,5 +1,5 @@
 //! Threads, their policies and ranks, the ready list, and who is picked (Xenomai 4: EVL scheduling).
-//! What names no source is this profile's own.
+//! All that names no source is this profile's own.
 #![tactic(auto)]
 
 mod contenders;

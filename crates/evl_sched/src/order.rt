@@ -50,7 +50,7 @@ impl<A: Allocator + Clone> Order<A> {
 }
 
 impl<A: Allocator> Order<A> {
-    /// Who is first of the greatest rank, of those that stand in queues.
+    /// The first thread of the greatest rank, of those that stand in queues.
     #[inline(always)]
     pub fn first(&self) -> Option<u16>
         ensures first { result ≡ first_greatest (rank_or self.now.places) (filter (has_rank self.now.places) self.now.ready) }
@@ -179,7 +179,7 @@ fn number_anew<A: Allocator>(stamps: &mut Vec<Option<u64>, A>, next: u64) -> u64
     number
 }
 
-// Who has the least stamp from this one on.
+// The thread with the least stamp from this one on.
 fn least_of<A: Allocator>(stamps: &Vec<Option<u64>, A>, low: u64) -> Option<u16>
     requires { length stamps.now.items < 65536 }
     ensures least { IsLeastFrom stamps.now.items low (length stamps.now.items) result }
@@ -199,7 +199,7 @@ fn least_from(stamps: &[Option<u64>], low: u64) -> Option<u16>
     least
 }
 
-// Of two the one with the lesser stamp, from this one on.
+// The one of two with the lesser stamp, from this one on.
 fn lesser(stamps: &[Option<u64>], low: u64, least: Option<u16>, thread: u16) -> Option<u16>
     requires { IsLeastFrom stamps.now low thread least }
     ensures { IsLeastFrom stamps.now low (thread + 1) result }
@@ -321,7 +321,7 @@ fn is_same(one: Option<Place>, other: Option<Place>) -> bool
     one == other
 }
 
-// Where a thread with this stamp is, if it is ready and has a rank.
+// The place of a thread with this stamp, if it is ready and has a rank.
 fn place_by(stamp: Option<u64>, rank: Option<u16>) -> Option<Place>
     ensures place { result ≡ place_by stamp rank }
 {

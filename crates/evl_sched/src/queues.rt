@@ -17,7 +17,7 @@ pub struct Queues<A: Allocator> {
     places: Vec<Option<Place>, A>,
     // The first thread of each queue, and after these the thread after each thread.
     links: Vec<Option<u16>, A>,
-    // Where who comes and who goes looks first.
+    // The places where one that comes or goes looks first.
     guesses: Guesses<A>,
     marks: RankSet<A>,
 }
@@ -67,7 +67,7 @@ impl<A: Allocator> Queues<A> {
         place_at(&self.places, thread)
     }
 
-    /// Who is first: nobody goes before it.
+    /// The first thread: nobody goes before it.
     pub fn first(&self) -> Option<u16>
         ensures first { IsFirstPlace self.now result }
     {
@@ -231,7 +231,7 @@ fn place_at(places: &[Option<Place>], thread: u16) -> Option<Place>
     }
 }
 
-// Who comes after a cell.
+// The thread after a cell.
 fn link_at(links: &[Option<u16>], cell: usize) -> Option<u16>
     ensures link { result ≡ next_in links.now cell }
 {
@@ -251,14 +251,14 @@ fn is_before(places: &[Option<Place>], place: Place, thread: u16) -> bool
     }
 }
 
-// Who is first in a queue.
+// The first thread in a queue.
 fn first_in<A: Allocator>(links: &Vec<Option<u16>, A>, queue: u16) -> Option<u16>
     ensures first { result ≡ next_in links.now.items queue }
 {
     link_at(links, queue as usize)
 }
 
-// Who comes after a thread.
+// The thread after another.
 fn behind<A: Allocator>(links: &Vec<Option<u16>, A>, thread: u16) -> Option<u16> {
     link_at(links, cell_of(thread))
 }

@@ -1,4 +1,4 @@
-//! Who is ready, and in which queue.
+//! The ready threads, and the queue of each.
 ghost use Rattle.std.specs.Prelude.{◌≡◌, ◌≢◌, ◌<◌, ◌==◌, ℕ, length, List, Option, None, false, true, [], if◌then◌else◌};
 ghost use Rattle.evl_bitmap.specs.NumberSet.{contains};
 ghost use Rattle.evl_sched.specs.Members.{AreListed, AreMembers};

@@ -95,7 +95,7 @@ impl<A: Allocator> SchedOf<A> {
         self.order.clear();
     }
 
-    /// Who is picked: of the eligible threads the first, in the order of the ready list, of the greatest rank. None is
+    /// The picked thread: the first eligible one of the greatest rank, in the order of the ready list. None is
     /// picked exactly where none is eligible. (Xenomai 4: EVL scheduling policies)
     pub fn pick(&self) -> Option<ThreadId>
         ensures picked { option_map (λ t. t.0) result ≡ picked (rank_of self.now) self.now.sched }
@@ -255,7 +255,7 @@ impl<A: Allocator> SchedOf<A> {
         Ok(())
     }
 
-    /// Sets the policy of a thread, with a full slice. Where it is ready it goes to the end of the ready list; the rank
+    /// Sets the policy of a thread, with a full slice. It goes to the end of the ready list where it is ready; the rank
     /// that it was given is kept. Refused, in this order: as `attach` is for `Unknown` and `Range`, and `Invalid` where
     /// the thread isn't attached. A refused call changes nothing. (Xenomai 4: EVL scheduling policies; this profile)
     pub fn set_policy(&mut self, thread: ThreadId, policy: Policy) -> Result<(), Refusal>
@@ -278,7 +278,7 @@ impl<A: Allocator> SchedOf<A> {
     }
 
     /// Switches a thread to a stage: out-of-band it goes to the end of the ready list, in-band out of it. On the stage
-    /// where it is already, nothing changes. What is left of its slice is kept. Refused, in this order: `Unknown` where
+    /// where it is already, nothing changes. The rest of its slice is kept. Refused, in this order: `Unknown` where
     /// there is no such thread, and `Invalid` where it isn't attached. A refused call changes nothing.
     /// (Xenomai 4: EVL threads, Dovetail: interrupt pipeline)
     pub fn set_stage(&mut self, thread: ThreadId, stage: Stage) -> Result<(), Refusal>
@@ -324,7 +324,7 @@ impl<A: Allocator> SchedOf<A> {
     }
 
     /// Gives a thread a rank, which counts in place of its base rank until it is attached anew. Its place in the ready
-    /// list is kept. Where there is no such thread, nothing changes. (Xenomai 4: EVL mutexes)
+    /// list is kept. Nothing changes where there is no such thread. (Xenomai 4: EVL mutexes)
     #[inline(always)]
     pub fn boost(&mut self, thread: ThreadId, rank: u16)
         ensures state { self.new ≡ with_given self.old thread.0 (Some rank) }

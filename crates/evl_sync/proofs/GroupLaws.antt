@@ -1,4 +1,4 @@
--- What is known of a flag group after each change.
+-- All that is known of a flag group after each change.
 use Rattle.std.proofs.Common.{◌≡◌, ◌<◌, ℕ, bit_xor, false, List, Some, None, sym}
 use Rattle.evl_base.specs.Limits.{thread_limit}
 use Rattle.evl_base.specs.declared.take.Take.{Take}

@@ -1,7 +1,7 @@
 //! Lists that are compared place by place.
 ghost use Rattle.std.specs.Prelude.{◌≡◌, true};
 
-/// What can be distinguished from others of its type.
+/// All that can be distinguished from others of its type.
 pub trait Alike {
     ghost use Rattle.std.specs.Prelude.{◌≡◌, true};
 

@@ -49,7 +49,7 @@ impl ArrivalQueue {
         self.threads.push(thread.0);
     }
 
-    /// Who is first; none where nobody waits.
+    /// The first waiter; none where nobody waits.
     pub fn head(&self) -> Option<ThreadId>
         ensures first { number_of result ≡ first_of (λ t. t) self.now }
     {

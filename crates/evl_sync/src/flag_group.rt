@@ -159,7 +159,7 @@ impl FlagGroup {
         self.bits
     }
 
-    /// Who is at a place of the queue, the first one at 0; none where nobody is there. (Xenomai 4: EVL event
+    /// The thread at a place of the queue, the first one at 0; none where nobody is there. (Xenomai 4: EVL event
     /// flag group)
     pub fn waiter(&self, place: usize) -> Option<ThreadId>
         ensures waiter { number_of result ≡ option_map (λ w. w.thread) (slice_get self.now.waiters place) }
@@ -171,7 +171,7 @@ impl FlagGroup {
     }
 }
 
-// One walk through the waiters, which says whom it serves: which bits are left. Who goes on waiting stays. Nobody is
+// One walk through the waiters, which says whom it serves: which bits are left. All others stay. Nobody is
 // looked at once no bits are left, as nobody waits for none.
 fn walk(
     waiters: &mut ArrayVec<FlagWaiter, MAX_THREADS>,

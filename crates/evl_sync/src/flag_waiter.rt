@@ -48,7 +48,7 @@ impl Ranked for FlagWaiter {
 /// A thread that a post served, and which bits it took.
 #[derive(Clone, Copy, PartialEq, Eq)]
 pub struct TakenBits {
-    /// Who waits no more.
+    /// The thread that waits no more.
     pub thread: ThreadId,
     /// The bits that it took; they are in the group no more.
     pub bits: u32,

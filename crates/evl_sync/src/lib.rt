@@ -1,5 +1,5 @@
 //! Queues of waiting threads, semaphores and flag groups (Xenomai 4: EVL semaphores and event flag groups).
-//! What names no source is this profile's own.
+//! All that names no source is this profile's own.
 #![tactic(auto)]
 
 mod alike;

@@ -131,7 +131,7 @@ impl Sem {
         -(waiting as i64)
     }
 
-    /// Who is at a place of the queue, the first one at 0; none where nobody is there. (Xenomai 4: EVL
+    /// The thread at a place of the queue, the first one at 0; none where nobody is there. (Xenomai 4: EVL
     /// semaphore)
     pub fn waiter(&self, place: usize) -> Option<ThreadId>
         ensures waiter { number_of result ≡ option_map (λ w. w.thread) (slice_get self.now.waiters place) }

@@ -65,7 +65,7 @@ impl WaitQueue {
         );
     }
 
-    /// Who is first; none where nobody waits.
+    /// The first waiter; none where nobody waits.
     pub fn head(&self) -> Option<ThreadId>
         ensures first { number_of result ≡ first_of (λ w. w.thread) self.now }
     {
@@ -75,7 +75,7 @@ impl WaitQueue {
         }
     }
 
-    /// Who is at a place, the first one at 0; none where nobody is there.
+    /// The thread at a place, the first one at 0; none where nobody is there.
     pub fn get(&self, place: usize) -> Option<ThreadId>
         ensures waiter { number_of result ≡ option_map (λ w. w.thread) (slice_get self.now place) }
     {

@@ -1,4 +1,4 @@
--- What each step of one seat keeps of a world holds also while hands of seats are split and joined.
+-- All that each step of one seat keeps of a world holds also while hands of seats are split and joined.
 use Rattle.std.proofs.Common.{◌≡◌, ℕ, List, [], ◌∷◌, ◌++◌, sym, ◌∙◌, subst}
 use mathlib.Core.Option.{some}
 use lib.ListN.{get_elem?}

@@ -1,4 +1,4 @@
--- What each step of one seat keeps of a world, any list of steps keeps; and each step on a word is one event.
+-- Any list of steps keeps what each step of one seat keeps of a world; and each step on a word is one event.
 use Rattle.std.proofs.Common.{◌≡◌, ℕ, List, [], ◌∷◌, ◌++◌, map, set, refl, sym, subst}
 use mathlib.Core.Option.{some}
 use lib.ListN.{get_elem?}

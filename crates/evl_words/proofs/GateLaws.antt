@@ -1,4 +1,4 @@
--- What holds of a gate after any legal history, and how one step changes its holders.
+-- The laws of a gate after any legal history, and how one step changes its holders.
 use Rattle.std.proofs.Common.{◌≡◌, ℕ, ◌+◌, ◌<◌, ◌≤◌, ◌≢◌, eqb, eq-eqb, ne_eqb, cond, Bool, true, false, List, [], ◌∷◌, length, refl, sym, ap, ◌∙◌, subst, arith}
 use Rattle.std.specs.Prelude.{Option, Some, None, is_some, IsSome, nat_lt, nat_le, All}
 use Rattle.std.proofs.lemmas.Bool.Decides.{nat_tests}

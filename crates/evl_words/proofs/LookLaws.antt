@@ -34,7 +34,7 @@ none_more [] [] vs e = refl
 none_more [] (w ∷ ws) vs e = absurd (cc)
 none_more (x ∷ xs) ws vs e = none_more xs ws vs (tails e)
 
--- What is picked of a list, piece by piece: where the whole has nothing more of it than a beginning, no longer beginning has
+-- All that is picked of a list, piece by piece: where the whole has nothing more of it than a beginning, no longer beginning has
 pub picked_before : {A : Type 0} (pick : List A → List A) → ((xs ys : List A) → pick (xs ++ ys) ≡ pick xs ++ pick ys) → (whole less ws vs mine : List A) → whole ≡ (less ++ ws) ++ vs → pick whole ≡ mine → pick less ≡ mine → pick (less ++ ws) ≡ mine
 picked_before {A} pick along whole less ws vs mine is all here =
     let split : pick whole ≡ (pick less ++ pick ws) ++ pick vs = ap pick is ∙ (along (less ++ ws) vs ∙ ap (λ (ps : List A). ps ++ pick vs) (along less ws)) in

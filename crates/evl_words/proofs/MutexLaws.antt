@@ -1,4 +1,4 @@
--- What a seat owns, has seized or is offered changes by its own steps alone.
+-- The mutexes that a seat owns, has seized or is offered change by its own steps alone.
 use Rattle.std.proofs.Common.{◌≡◌, ℕ, ◌≢◌, eqb, ne_eqb, Bool, true, false, List, refl, sym, ◌∙◌, subst}
 use mathlib.Core.Logic.{dite}
 use native.Mathlib.Decide.{ℕ_discrete}

@@ -130,7 +130,7 @@ pub record FindsFree (old : SeatState) (stage : Stage) (word : ℕ) (new : SeatS
 --   also: GateCalls.{fits, strangers, count}
 --   clauses: StaxGate::close; MutexWord::close
 --   rows: a_gate_closes_as_it_stands_whoever_is_handed_in
--- The word shows the last state of a legal history that each of the seats fits, and in which each holds what its view says. No entry is of a seat that the gate was not made with. Where all its seats are handed in, its holders are just those of them that hold it
+-- The word shows the last state of a legal history that each of the seats fits, and in which each holds what its view says. No entry is of a seat that the gate was not made with. Its holders are just those of its seats that hold it, where all of them are handed in
 pub record Closes (gate : GateState) (seats : List SeatState) (found : ℕ) : Type 0 where
   pub log : List GateEntry
   pub state : Gate

@@ -22,7 +22,7 @@ module _ {E : Type 0} (author : E → ℕ) where
       pub own : entries_of seat log ≡ v.mine
       pub known : entries_of seat v.seen ≡ v.mine
 
-    -- Of what two seats have seen one is the beginning of the other, and the longer one has just the other's own entries of its seat
+    -- One of two seats' seen histories is the beginning of the other, and the longer one has just the other's own entries of its seat
     abbrev pub SeeOneHistory : ℕ → View E H → ℕ → View E H → Type 0
     SeeOneHistory j u k v = Fits v.seen j u ⊎ Fits u.seen k v
 

@@ -69,7 +69,7 @@ NamesBelow n (offered h marked) = h < n
 --   owner.
 --   also: MutexWorld.HasIt; MutexRole
 --   clauses: one_seat_has_the_mutex; mark_alone_shows_a_winner; word_names_the_owner
--- The word shows the mutex. Who owns it is its owner, and who has seized it its winner: so at most one seat is either
+-- The word shows the mutex. The seat that owns it is its owner, and one that seized it its winner: so at most one seat is either
 pub record MutexTie (found : ℕ) (m : Mutex) (held : List MutexHold) : Type 0 where
   pub few : length held ≤ thread_limit
   pub word : found ≡ mutex_word m

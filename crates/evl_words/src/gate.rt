@@ -34,7 +34,7 @@ pub enum GateCall {
     Peek,
 }
 
-/// What a call on a gate was answered, as its common history has it. Only contracts have it.
+/// The answer to a call on a gate, as its common history has it. Only contracts have it.
 pub enum GateReply {
     Entered,
     Refused(Refusal),

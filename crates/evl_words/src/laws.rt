@@ -24,7 +24,7 @@ pub fn holders_have_one_stage()
     ensures { (limit : ℕ) (log : List GateEntry) (g : Gate) → Run (GateStep limit) open_gate log g → HasOneStage g }
 {}
 
-/// What holds of a gate's word and of what its seats know holds after any list of their atomic steps.
+/// The laws of a gate's word and of what its seats know hold after any list of their atomic steps.
 pub fn gate_events_keep_order()
     ensures { (limit : ℕ) (w t : GateWorld) (events : List (Event GateKind)) → IsGateWorld limit w → Run (Happens gate_steps) w events t → IsGateWorld limit t }
 {}
@@ -37,7 +37,7 @@ pub fn gate_world_stands()
     ensures { (limit seats : ℕ) → limit ≤ 1000 → (events : List (DealingEvent GateKind)) (t : GateDealing) → Run (DealingStep gate_steps) (opened_dealing (replicate seats (newcomer limit))) events t → Holds (IsGateWorld limit) t }
 {}
 
-/// What the running rule of a gate's table keeps is what holds of the gate's world, no less and no more: the table lies
+/// The running rule of a gate's table keeps what holds of the gate's world, no less and no more: the table lies
 /// as some world, with the hands of its tokens, that keeps its conditions; and any table that lies as such a world is
 /// within the rule.
 pub fn gate_rule_is_its_world<S>()
@@ -54,7 +54,7 @@ pub fn holders_agree()
     ensures { (limit : ℕ) (w : GateWorld) → IsGateWorld limit w → (j k : ℕ) (u v : GateView) → get_elem? w.views j ≡ some u → get_elem? w.views k ≡ some v → (s t : Stage) → u.held.stage ≡ Some s → v.held.stage ≡ Some t → s ≡ t }
 {}
 
-/// What holds of a mutex's word and of what its seats know holds after any list of their atomic steps.
+/// The laws of a mutex's word and of what its seats know hold after any list of their atomic steps.
 pub fn mutex_events_keep_order()
     ensures { (w t : MutexWorld) (events : List (Event MutexKind)) → IsMutexWorld w → Run (Happens mutex_steps) w events t → IsMutexWorld t }
 {}

@@ -28,7 +28,7 @@ pub enum Unlock {
     Claimed(MutexPass),
 }
 
-/// What a claim found.
+/// The outcome of a claim.
 #[derive(Clone, Copy, PartialEq, Eq)]
 pub enum Claim {
     /// Nobody had the mutex. The claimer has won it, and alone settles.
@@ -52,7 +52,7 @@ pub enum MutexCall {
     SeenOffer,
 }
 
-/// What a call on a mutex word was answered, as its common history has it. Only contracts have it.
+/// The answer to a call on a mutex word, as its common history has it. Only contracts have it.
 pub enum MutexReply {
     Passed,
     Refused(Refusal),
@@ -64,7 +64,7 @@ pub enum MutexReply {
     Seen(bool),
 }
 
-/// What a seat is to a mutex. Only contracts have it.
+/// The role of a seat at a mutex. Only contracts have it.
 pub enum MutexRole {
     /// Nothing.
     Bystander,

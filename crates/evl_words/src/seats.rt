@@ -10,7 +10,7 @@ use std::alloc::Allocator;
 pub trait WordSeat<H>: Drop {
     ghost use Rattle.atomic_table.specs.Seated.{TableId};
 
-    /// Of which table it is.
+    /// The table that it is of.
     ghost table: { Self → TableId };
 
     /// Its place there, as a hand.

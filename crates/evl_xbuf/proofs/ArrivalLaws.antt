@@ -1,4 +1,4 @@
--- Who is served stood first.
+-- The one that is served was first.
 use Rattle.std.proofs.Common.{◌≡◌, ℕ, zero, suc, Bool, true, false, List, [], ◌∷◌, map, Option, Some, None, if◌then◌else◌, refl, ap, ◌∙◌}
 use Rattle.std.specs.Option.{option_or}
 use Rattle.evl_xbuf.specs.declared.waiters.Reader.{Reader}

@@ -1,4 +1,4 @@
--- What is known of a way after each change of its bytes and queues.
+-- All that is known of a way after each change of its bytes and queues.
 use Rattle.std.proofs.Common.{◌≡◌, ℕ, ◌<◌, ◌≤◌, Bool, true, false, List, [], ◌∷◌, ◌++◌, length, remove, if◌then◌else◌}
 use Rattle.std.specs.List.{AllByRecursion}
 use Rattle.evl_base.specs.Limits.{thread_limit}

@@ -1,4 +1,4 @@
--- What goes into a way at one end, and what comes out at the other.
+-- All that goes into a way at one end, and all that comes out at the other.
 use Rattle.std.specs.Prelude.{ℕ, ◌≡◌, List, [], ◌∷◌, ◌++◌, Option, Some, None, Result, Ok, Err}
 use Rattle.evl_base.specs.declared.refusal.Refusal.{Refusal}
 use Rattle.evl_xbuf.specs.declared.waiters.Writer.{Writer}

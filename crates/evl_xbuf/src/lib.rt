@@ -1,5 +1,5 @@
 //! Cross-buffers: bytes that go between the two stages (Xenomai 4: EVL cross-buffers).
-//! What names no source is this profile's own.
+//! All that names no source is this profile's own.
 #![tactic(auto)]
 
 mod bytes;

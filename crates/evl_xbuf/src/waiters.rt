@@ -7,7 +7,7 @@ use evl_base::Bytes;
 pub struct Writer {
     /// The number of the thread, below `MAX_THREADS`.
     pub thread: u16,
-    /// What it writes, all at once.
+    /// The bytes that it writes, all at once.
     pub bytes: Bytes,
 }
 

@@ -160,7 +160,7 @@ impl<A: Allocator> XbufOf<A> {
     }
 
     /// Lets a thread wait this way no more, and says whom that served: those after it whom it held back, in order.
-    /// Where it doesn't wait there nothing changes and nobody is served.
+    /// Nothing changes and nobody is served where it doesn't wait there.
     pub fn drop_waiter(&mut self, thread: ThreadId, way: Way) -> Services
         ensures step { (result, self.new) ≡ drop_waiter thread.0 way self.old }
     {
@@ -204,7 +204,7 @@ impl<A: Allocator> XbufOf<A> {
         }
     }
 
-    /// Who waits to write into this way at a place, the first one at 0; none where nobody does. (Xenomai 4: EVL
+    /// The writer that waits at a place of this way, the first one at 0; none where nobody does. (Xenomai 4: EVL
     /// cross-buffer)
     pub fn writer(&self, way: Way, place: usize) -> Option<ThreadId>
         ensures writer { option_map (λ t. t.0) result ≡ option_map (λ w. w.thread) (slice_get (stream self.now way).writers place) }
@@ -215,7 +215,7 @@ impl<A: Allocator> XbufOf<A> {
         }
     }
 
-    /// Who waits to read from this way at a place, the first one at 0; none where nobody does. (Xenomai 4: EVL
+    /// The reader that waits at a place of this way, the first one at 0; none where nobody does. (Xenomai 4: EVL
     /// cross-buffer)
     pub fn reader(&self, way: Way, place: usize) -> Option<ThreadId>
         ensures reader { option_map (λ t. t.0) result ≡ option_map (λ r. r.thread) (slice_get (stream self.now way).readers place) }

@@ -11,7 +11,7 @@ pub const ENOUGH: usize = 4_194_304;
 // More requests than anything here makes.
 const MANY: u64 = 200;
 
-/// What is made over such memory, its boxes over the other allocator.
+/// All that is made over such memory, its boxes over the other allocator.
 pub trait Making {
     // Why it isn't made, if it isn't.
     fn refusal(memory: &Refusing<LocalHeap>, boxes: Global) -> Option<Refusal>;

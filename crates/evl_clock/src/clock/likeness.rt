@@ -9,7 +9,7 @@ use std::alloc::Allocator;
 
 impl<C: Named, A: Allocator> ClockOf<C, A> {
     /// Whether both clocks stand alike: the same date, the same deadlines, and in each place a timer that does the
-    /// same, or none. Of two callbacks the names are compared.
+    /// same, or none. The names of two callbacks are compared.
     pub fn is_like<B: Allocator>(&self, other: &ClockOf<C, B>) -> bool
         ensures alike { result ≡ true → named_clock C.name self.now ≡ named_clock C.name other.now }
         ensures other { named_clock C.name self.now ≡ named_clock C.name other.now → result ≡ true }

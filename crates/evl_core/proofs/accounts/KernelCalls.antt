@@ -1,4 +1,4 @@
--- What the kernel's contracts say of a call, and of making room for one.
+-- All that the kernel's contracts say of a call, and of making room for one.
 use Rattle.std.proofs.Common.{◌≡◌, ◌⊎◌, ⊎_elim, ◌↔◌, ◌+◌, ◌<◌, ◌≤◌, ℕ, List, Bool, true, false, length, Result, Ok, Err, IfOk, IfErr, refl, sym, ap, subst, arith}
 use Rattle.evl_base.specs.declared.call.Call.{Call}
 use Rattle.evl_base.specs.declared.play.Play.{Play}

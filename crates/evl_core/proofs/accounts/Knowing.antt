@@ -1,4 +1,4 @@
--- What the steps of a token owe and show, as contracts read the token.
+-- All that the steps of a token owe and show, as contracts read the token.
 use Rattle.std.proofs.Common.{◌≡◌, ◌≢◌, ◌<◌, eqb, ne_eqb, ℕ, zero, suc, Bool, true, false, if◌then◌else◌, List, [], ◌∷◌, Option, Some, None, refl, sym, ap, ◌∙◌, subst, slice_get}
 use mathlib.Core.Option.{some-injective, some-ne-none}
 use mathlib.Core.Logic.{dite}

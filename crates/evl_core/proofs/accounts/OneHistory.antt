@@ -1,4 +1,4 @@
--- What two callers of one machine know together: two tokens are one for a moment, in which the rule says that their threads fit one history.
+-- All that two callers of one machine know together: two tokens are one for a moment, in which the rule says that their threads fit one history.
 use Rattle.std.proofs.Common.{◌≡◌, ◌≢◌, inl, inr, ⊎_elim, ℕ, ◌+◌, ◌<◌, List, [], ◌∷◌, ◌++◌, length, map, get_or, refl, sym, ap, ◌∙◌, subst, append_assoc, arith}
 use mathlib.Core.Option.{some}
 use lib.ListN.{get_elem?}

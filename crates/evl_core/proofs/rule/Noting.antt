@@ -1,4 +1,4 @@
--- Who has the kernel makes a step on a mutex's word and notes what it left there, or a take is lost. The core's part of the rule stays.
+-- The thread that has the kernel makes a step on a mutex's word and notes what it left there, or a take is lost. The core's part of the rule stays.
 use Rattle.std.proofs.Common.{◌≡◌, ◌≢◌, inl, inr, ⊎_elim, ℕ, List, set, None, refl, sym, ap, ◌∙◌, subst, length-set}
 use mathlib.Core.Option.{some, some-injective}
 use mathlib.Core.Logic.{dite}

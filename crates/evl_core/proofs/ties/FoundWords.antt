@@ -1,4 +1,4 @@
--- What a step on a mutex's word says of the word that it found: the mutex that the word shows.
+-- All that a step on a mutex's word says of the word that it found: the mutex that the word shows.
 use Rattle.std.proofs.Common.{◌≡◌, ◌≢◌, ℕ, ◌+◌, ◌<◌, eqb-true, Bool, true, map, refl, sym, ap, ◌∙◌, arith}
 use Rattle.atomic_table.proofs.Lists.{at_map}
 use Rattle.evl_base.specs.declared.numbers.ThreadId.{ThreadId}

@@ -1,4 +1,4 @@
--- What the ties exclude, over the kernel: in a visit a release by the owner and a raise of what was free are accepted, and a wait that is over finds the word as the kernel says.
+-- All that the ties exclude, over the kernel: in a visit a release by the owner and a raise of what was free are accepted, and a wait that is over finds the word as the kernel says.
 use Rattle.std.proofs.Common.{◌≡◌, ◌<◌, ℕ, Bool, true, not, List, Option, Some, None, is_some, option_map, Result, Ok, refl, ◌∙◌}
 use Rattle.std.specs.Option.{option_map_or}
 use Rattle.evl_base.specs.Board.{board_fits}

@@ -113,7 +113,7 @@ module _ (ceilings : ℕ → Bool) where
           (λ (e : t ≡ k). ap (has_got new i) e ∙ leaves.own i ∙ sym (ap (has_got s i) e ∙ not_got))
           (λ (ne : t ≢ k). leaves.others i t ne)
 
-  -- What the tie excludes: a raise of a mutex that nobody has finds no owner recorded, a release by the owner and a claim that names it find no other one, and the accept and the forget of a wait that is over are as the kernel says
+  -- All that the tie excludes: a raise of a mutex that nobody has finds no owner recorded, a release by the owner and a claim that names it find no other one, and the accept and the forget of a wait that is over are as the kernel says
   pub raise_finds : (i : ℕ) (s : State) (m : Mutex) → AreTied ceilings s i 0 → record_at s i ≡ Some m → m.owner ≡ None
   raise_finds i s m tied at = none_recorded m (has_got s i) (tied m at).1
 

@@ -1,4 +1,4 @@
--- What each step on a mutex's word, with the call of the kernel that goes with it, owes of the tie of that mutex.
+-- Each step on a mutex's word, with the call of the kernel that goes with it, and what it owes of the tie of that mutex.
 use Rattle.std.proofs.Common.{◌≡◌, ◌≢◌, ◌⊎◌, inl, inr, ⊎_elim, ℕ, ◌+◌, ◌<◌, ◌==◌, eqb, eq-eqb, ne_eqb, Bool, true, false, not, ◌||◌, List, [], ◌∷◌, Option, Some, None, is_some, if◌then◌else◌, refl, sym, ap, ◌∙◌, subst, arith}
 use Rattle.std.specs.Option.{option_map_or}
 use Rattle.std.specs.Prelude.{bit_or, bit_and}
@@ -35,7 +35,7 @@ nobody_waits m n plain tie = by (is_nobody m.waiters) refl
 nobody_recorded : (m : Mutex) (n o : ℕ) → IsPlain n → has_ceiling m ≡ false → OwnerTie m n → m.owner ≡ Some o → ⊥
 nobody_recorded m n o plain free tie e = false≢true (sym free ∙ tie.raised (nobody_waits m n plain tie) (is_some-of m.owner e))
 
--- Where nobody needs the kernel for it, a plain word may become any other plain one
+-- A plain word may become any other plain one where nobody needs the kernel for it
 pub owner_plain : (m : Mutex) (a b : ℕ) → IsPlain a → IsPlain b → has_ceiling m ≡ false → OwnerTie m a → OwnerTie m b
 owner_plain m a b pa pb free tie = record {
   named = λ o e. absurd (nobody_recorded m a o pa free tie e);

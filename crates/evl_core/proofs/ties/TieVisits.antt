@@ -1,4 +1,4 @@
--- What a visit of a thread that has the kernel owes of the ties when it gives the kernel back, call by call: what is known of the mutex's word, and the kernel's step, give that each mutex is tied to what is recorded then.
+-- All that a visit of a thread that has the kernel owes of the ties when it gives the kernel back, call by call: what is known of the mutex's word, and the kernel's step, give that each mutex is tied to what is recorded then.
 use Rattle.std.proofs.Common.{◌≡◌, ◌≢◌, ⊎_elim, ℕ, ◌+◌, ◌<◌, ◌==◌, eq-eqb, ne_eqb, Bool, true, false, List, Option, Some, None, option_map, Result, Ok, Err, refl, sym, ap, ◌∙◌, subst, arith}
 use Rattle.std.specs.Prelude.{MatchBool}
 use mathlib.Core.Logic.{dite}

@@ -1,4 +1,4 @@
--- What each word says of itself: the owner's number, the mark, an offer.
+-- All that each word says of itself: the owner's number, the mark, an offer.
 use Rattle.std.proofs.Common.{◌≡◌, ◌≢◌, ℕ, ◌+◌, ◌/◌, ◌%◌, ◌<◌, eqb, Bool, true, false, refl, sym, ap, ◌∙◌, arith}
 use Rattle.evl_base.specs.Limits.{thread_limit}
 use Rattle.evl_words.specs.Mutex as word

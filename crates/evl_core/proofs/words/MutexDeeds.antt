@@ -1,4 +1,4 @@
--- What each step on a mutex's word comes to at the seat that made it.
+-- The outcome of each step on a mutex's word at the seat that made it.
 use Rattle.std.proofs.Common.{◌≡◌, ◌≢◌, ℕ, ◌+◌, ◌==◌, eqb, eq-eqb, ne_eqb, Bool, true, false, Ok, Err, inr, refl, sym, ap, ◌∙◌, subst}
 use Rattle.std.specs.Prelude.{MatchBool, if◌then◌else◌}
 use Rattle.evl_base.specs.declared.refusal.Refusal.TheVariants.{Again, Busy}

@@ -1,4 +1,4 @@
--- What each step on a mutex's word leaves: the thread's places are its token's still, and its seat at the mutex did this.
+-- The outcome of each step on a mutex's word: the thread's places are its token's still, and its seat at the mutex did this.
 use Rattle.std.proofs.Common.{◌≡◌, ◌≢◌, ◌==◌, ℕ, zero, suc, ◌+◌, ◌<◌, nat_lt, Bool, true, false, List, [], ◌∷◌, length, Some, IsSomeAnd, Ok, Err, slice_get, refl, sym, ap, ◌∙◌, subst, arith}
 use Rattle.std.specs.Prelude.{if◌then◌else◌}
 use Rattle.std.specs.Option.{option_map}

@@ -1,4 +1,4 @@
--- What a step on a mutex's word by the thread that has the kernel owes the table: the token is of it, the word is one of its words, and the table's rule is kept.
+-- The dues of a step on a mutex's word by the thread that has the kernel: the token is of it, the word is one of its words, and the table's rule is kept.
 use Rattle.std.proofs.Common.{◌≡◌, true, ℕ, ◌+◌, ◌<◌, List, length, Option, refl, sym, subst, arith}
 use mathlib.Core.Option.{none}
 use Rattle.atomic_table.specs.Seated.{TableId}

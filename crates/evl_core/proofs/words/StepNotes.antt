@@ -1,4 +1,4 @@
--- What each step on a mutex's word by the thread that has the kernel notes, and how it found the word.
+-- The note of each step on a mutex's word by the thread that has the kernel, and how it found the word.
 use Rattle.std.proofs.Common.{◌≡◌, ◌≢◌, ◌==◌, ℕ, ◌+◌, Bool, List, Option, IsSomeAnd, Ok, Err, slice_get, refl, sym, ap, ◌∙◌}
 use Rattle.std.specs.Prelude.{bit_and, bit_or}
 use mathlib.Core.Option.{none}

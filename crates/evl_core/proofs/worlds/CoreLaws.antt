@@ -1,4 +1,4 @@
--- What holds of the core's world holds after any list of atomic steps, and while hands of threads are split and joined.
+-- All that holds of the core's world holds after any list of atomic steps, and while hands of threads are split and joined.
 use Rattle.std.proofs.Common.{◌≡◌, ℕ, List, [], ◌∷◌, ◌++◌, set, Some, None, true, false, refl, sym, ◌∙◌, subst, ⊎_elim}
 use mathlib.Core.Option.{some, none}
 use lib.ListN.{get_elem?}

@@ -1,4 +1,4 @@
--- What holds of the one table's world holds after any list of atomic steps, and while hands of threads are split and joined.
+-- All that holds of the one table's world holds after any list of atomic steps, and while hands of threads are split and joined.
 use Rattle.std.proofs.Common.{◌≡◌, ◌≢◌, ⊎_elim, Some, eq-eqb, ne_eqb, ℕ, ◌<◌, ◌≤◌, ◌==◌, if◌then◌else◌, Bool, true, false, List, [], ◌∷◌, ◌++◌, map, set, get_or, refl, sym, ap, ◌∙◌, subst, length-set, get_or-set_same, get_or-set_other, arith, None, is_some, zero, suc}
 use Rattle.std.specs.Prelude.{MatchBool, replicate}
 use Rattle.std.proofs.lemmas.List.{length-replicate}

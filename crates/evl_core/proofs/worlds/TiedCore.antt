@@ -1,4 +1,4 @@
--- Where the core is free, each mutex's word is tied to the kernel in the slot.
+-- Each mutex's word is tied to the kernel in the slot, where the core is free.
 use Rattle.std.proofs.Common.{◌≡◌, ◌+◌, ◌<◌, map, get_or, length, Option, ⊎_elim, arith}
 use Rattle.atomic_table.specs.Table.{State as TableState}
 use Rattle.evl_kernel.specs.state.KernelViews.{KernelView}

@@ -1,4 +1,4 @@
--- What is read of the tokens of one table.
+-- All that is read of the tokens of one table.
 use Rattle.std.proofs.Common.{◌≡◌, ◌≢◌, ℕ, List, [], ◌∷◌, Option, None, eqb, eq-eqb, refl, sym, ap, ◌∙◌, subst, arith}
 use mathlib.Core.Option.{some}
 use lib.ListN.{get_elem?}

@@ -1,4 +1,4 @@
--- What one caller knows of the kernel: the history that it has seen, its own calls there, what room it found, and how often it found it taken.
+-- All that one caller knows of the kernel: the history that it has seen, its own calls there, what room it found, and how often it found it taken.
 use Rattle.std.specs.Prelude.{◌≡◌, ℕ, ◌+◌, ◌<◌, ◌≤◌, ◌==◌, cond, List, [], ◌∷◌, ◌++◌}
 use Rattle.evl_base.specs.declared.entry.Entry.{Entry}
 use Rattle.evl_base.specs.declared.play.Play.{Play}
@@ -44,7 +44,7 @@ pub record Fits (history : History) (a : Account) : Type 0 where
   pub seen : BeginsWith history a.seen
   pub mine : calls_by a.thread history.entries ≡ a.mine
 
--- What holds of each caller. Its thread is on the board. It has seen a legal history, of which its own calls are just those of its thread, and in which no call is of a thread that isn't on the board
+-- The laws of each caller. Its thread is on the board. It has seen a legal history, of which its own calls are just those of its thread, and in which no call is of a thread that isn't on the board
 pub record IsAccount (a : Account) : Type 0 where
   pub legal : IsLegal a.seen
   pub member : a.thread < threads_of a.seen

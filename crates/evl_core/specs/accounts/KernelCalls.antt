@@ -1,4 +1,4 @@
--- What a call of the kernel does while a thread has it, and what making room for one does.
+-- The effect of a call of the kernel while a thread has it, and of making room for one.
 use Rattle.std.specs.Prelude.{◌≡◌, ◌≢◌, ◌⊎◌, ◌↔◌, ◌+◌, ◌<◌, ◌≤◌, ℕ, List, true, false, length, Result, Err, IfOk, IfErr, OnOk}
 use Rattle.evl_base.specs.declared.call.Call.{Call}
 use Rattle.evl_base.specs.declared.play.Play.{Play}

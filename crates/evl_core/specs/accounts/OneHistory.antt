@@ -1,4 +1,4 @@
--- What two callers of one machine know together: of its kernel, of each mutex's word, and of each stax.
+-- All that two callers of one machine know together: of its kernel, of each mutex's word, and of each stax.
 use Rattle.std.specs.Prelude.{◌≡◌, ◌≢◌, ◌⊎◌, ◌<◌, ℕ, List, Some, slice_get}
 use Rattle.evl_kernel.specs.histories.Histories.{History}
 use Rattle.evl_kernel.specs.state.KernelViews.{KernelView}
@@ -25,7 +25,7 @@ use Rattle.evl_words.specs.Machine.{IsLegal}
 --   also: OneHistory.{AgreeOnLock, AgreeOnMutexes, AgreeOnStaxes}
 --   clauses: Machine::agree; StaxGate::agree; MutexWord::agree; look_together
 --   rows: callers_meet
--- They act for threads of their own, and each knows what an account knows. Of what they have seen of the kernel one history is the beginning of the other, and the longer one has just the other's own calls of its thread
+-- They act for threads of their own, and each knows what an account knows. One of the histories that they have seen of the kernel is the beginning of the other, and the longer one has just the other's own calls of its thread
 pub record OneHistory (a b : Account) : Type 0 where
   pub apart : a.thread ≢ b.thread
   pub one : IsAccount a
@@ -39,7 +39,7 @@ AgreeOnMutexes ps qs = (i : ℕ) (p q : MutexSeatState) → slice_get ps i ≡ S
 abbrev pub AgreeOnStaxes : List SeatState → List SeatState → Type 0
 AgreeOnStaxes ps qs = (i : ℕ) (p q : SeatState) → slice_get ps i ≡ Some p → slice_get qs i ≡ Some q → AgreeAtGate p q
 
--- Of what they have seen of the core's lock one history is the beginning of the other, and the longer one has just the other's own steps there. Both are runs of the lock from where nobody has the kernel, in which one thread at most has it at a time
+-- One of the histories that they have seen of the core's lock is the beginning of the other, and the longer one has just the other's own steps there. Both are runs of the lock from where nobody has the kernel, in which one thread at most has it at a time
 pub record AgreeOnLock (j : ℕ) (u : LockView) (k : ℕ) (v : LockView) : Type 0 where
   pub longer : SeeOneHistory lock_author j u k v
   pub one : IsLegal LockStep idle u.seen

@@ -1,4 +1,4 @@
--- What a contract reads of a token of the core's table: what it has taken, and the accounts of its threads.
+-- All that a contract reads of a token of the core's table: what it has taken, and the accounts of its threads.
 use Rattle.std.specs.Prelude.{◌≡◌, ℕ, List, map, Option, Some, None, [], ◌∷◌}
 use mathlib.Core.Option.{some}
 use lib.ListN.{get_elem?}

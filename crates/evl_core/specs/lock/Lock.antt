@@ -29,7 +29,7 @@ abbrev pub has_it : LockState → ℕ → Bool
 has_it idle k = false
 has_it (busy j) k = j == k
 
--- Who has the kernel does not take it, and alone gives it back
+-- A thread that has the kernel does not take it, and alone gives it back
 abbrev pub lock_may : LockState → ℕ → LockCall → Type 0
 lock_may s k Take = has_it s k ≡ false
 lock_may s k Give = has_it s k ≡ true

@@ -1,4 +1,4 @@
--- The part of the core's lock in a table's rule, over plain data: the lock's word, the slot and the core part of each thread's view. What lies in the slot has a history, and has come from what was first put there.
+-- The part of the core's lock in a table's rule, over plain data: the lock's word, the slot and the core part of each thread's view. The kernel in the slot has a history, and has come from what was first put there.
 use Rattle.std.specs.Prelude.{◌≡◌, ◌≢◌, ◌⊎◌, ℕ, ◌+◌, List, [], ◌∷◌, ◌++◌, length, Option, Some, None}
 use mathlib.Core.Option.{some, none}
 use mathlib.Core.Option as maybe

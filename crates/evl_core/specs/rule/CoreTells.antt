@@ -1,4 +1,4 @@
--- What the steps on the core's lock say to their thread.
+-- All that the steps on the core's lock say to their thread.
 use Rattle.std.specs.Prelude.{◌≡◌, ◌≢◌, ℕ, [], ◌∷◌, Option, Some}
 use Rattle.atomic_table.specs.Table.{Me}
 use Rattle.evl_kernel.specs.histories.Histories.{History, IsLegal}

@@ -49,6 +49,6 @@ ThreadRule past comes tie first m = Tabled (CoreRuled past comes first) MutexPar
 abbrev pub MachineRule : {S B : Type 0} → (S → History) → (B → S → Type 0) → Tie S B → B → ℕ → State (Option S) (Hand (ThreadView B MutexView)) → Type 0
 MachineRule past comes tie first m = Dealt (ThreadRule past comes tie first m)
 
--- What a step on the lock says of the core's part of a view. The rest of the view stays
+-- All that a step on the lock says of the core's part of a view. The rest of the view stays
 abbrev pub on_core : {S B : Type 0} → Tells (Option S) (CorePart B) → Tells (Option S) (ThreadView B MutexView)
 on_core tells = Within core_of put_core tells

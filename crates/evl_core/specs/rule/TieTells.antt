@@ -1,4 +1,4 @@
--- What the steps on the one table say of the ties.
+-- All that the steps on the one table say of the ties.
 use Rattle.std.specs.Prelude.{◌≡◌, ℕ, ◌-◌, ◌<◌, Bool, true, Option, Some, None, [], ◌∷◌}
 use Rattle.atomic_table.specs.Table.{Step}
 use Rattle.evl_mutex.specs.Mutexes.{Mutex, is_open_to}

@@ -1,4 +1,4 @@
--- What ties a mutex's word to what the kernel records of the mutex. While a thread has the kernel, it is what was recorded when it took it; and of the one mutex on whose word that thread has made a step since, it is the word that it last left there.
+-- The tie between a mutex's word and what the kernel records of the mutex. While a thread has the kernel, it is what was recorded when it took it; and of the one mutex on whose word that thread has made a step since, it is the word that it last left there.
 use Rattle.std.specs.Prelude.{◌≡◌, ◌≢◌, ℕ, ◌+◌, ◌<◌, ◌/◌, ◌%◌, ◌==◌, Bool, true, false, ◌⊎◌, ◌∷◌, [], List, Option, Some, None, is_some, MatchBool}
 use mathlib.Core.Option.{some}
 use lib.ListN.{get_elem?}
@@ -21,7 +21,7 @@ is_claimed word = word / 2147483648 % 2 == 1
 abbrev pub IsPlain : ℕ → Type 0
 IsPlain word = word < 1073741824
 
--- The recorded owner is the one in the word, owner or offered to. Where somebody waits, the word has the mark; and where nobody does, only a mutex with a ceiling has a recorded owner. With a ceiling, who is in the word is recorded; and a mark doesn't stand without somebody
+-- The recorded owner is the one in the word, owner or offered to. The word has the mark where somebody waits; and where nobody does, only a mutex with a ceiling has a recorded owner. With a ceiling, who is in the word is recorded; and a mark doesn't stand without somebody
 pub record OwnerTie (m : Mutex) (word : ℕ) : Type 0 where
   pub named : (o : ℕ) → m.owner ≡ Some o → number_in word ≡ o + 1
   pub marked : is_nobody m.waiters ≡ false → is_claimed word ≡ true
@@ -37,7 +37,7 @@ pub record IsTied (m : Mutex) (got : ℕ → Bool) (word : ℕ) : Type 0 where
   pub owner : OwnerTie m word
   pub offer : OfferTie got word
 
--- Of the mutex i, where there is one: it has a ceiling as it was made, and is tied to this word
+-- The mutex i, where there is one, has a ceiling as it was made, and is tied to this word
 abbrev pub AreTied : (ℕ → Bool) → State → ℕ → ℕ → Type 0
 AreTied ceilings s i word = (m : Mutex) → record_at s i ≡ Some m → (has_ceiling m ≡ ceilings i) × IsTied m (has_got s i) word
 
@@ -58,6 +58,6 @@ pub record MutexTied {S B : Type 0} (past : S → History) (ceilings : ℕ → B
 abbrev pub mutex_tie : {S B : Type 0} → (S → History) → (ℕ → Bool) → Tie S B
 mutex_tie past ceilings = MutexTied past ceilings
 
--- What a give owes of the ties: whatever the word, what stood of each mutex, by what the thread noted, is tied to what it gives back
+-- The dues of a give: whatever the word, what stood of each mutex, by what the thread noted, is tied to what it gives back
 abbrev pub Settled : {B : Type 0} → (ℕ → Bool) → CorePart B → History → State → Type 0
 Settled ceilings c before after = (i word : ℕ) → StandsNoted ceilings before.state i c.note word → AreTied ceilings after i word

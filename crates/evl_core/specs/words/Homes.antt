@@ -1,4 +1,4 @@
--- Where a seat was made.
+-- The place where a seat was made.
 use Rattle.std.specs.Prelude.{◌≡◌, ℕ, List, length, map}
 use Rattle.std.specs.List.{range_with_len}
 use Rattle.atomic_table.specs.Seated.{TableId}

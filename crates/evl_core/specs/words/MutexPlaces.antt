@@ -1,4 +1,4 @@
--- What a thread has of the mutexes of a machine beside its token: a place at each, the k-th at mutex k.
+-- All that a thread has of the mutexes of a machine beside its token: a place at each, the k-th at mutex k.
 use Rattle.std.specs.Prelude.{◌≡◌, ℕ, ◌-◌, nat_lt, if◌then◌else◌, Bool, Option, Some, None, IsSomeAnd, List, slice_get, map}
 use Rattle.std.specs.List.{list_any, range_with_len}
 use Rattle.std.specs.Option.{option_map_or}

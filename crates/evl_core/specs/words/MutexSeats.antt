@@ -1,4 +1,4 @@
--- What a call on a mutex does to the caller's seats at the mutex words of a machine.
+-- A mutex call's effect on the caller's seats at the mutex words of a machine.
 use Rattle.std.specs.Prelude.{◌≡◌, ℕ, ◌+◌, ◌<◌, ◌==◌, nat_lt, not, ◌&&◌, if◌then◌else◌, Bool, true, false, Option, Some, None, IsSomeAnd, Result, Ok, Err, MatchBool, MatchOption, List, slice_get}
 use Rattle.std.specs.List.{list_any}
 use Rattle.std.specs.Option.{option_map_or}

@@ -78,7 +78,7 @@ pub record AreTheSame (old new : List MutexSeatState) : Type 0 where
   pub homes : map mutex_home new ≡ map mutex_home old
   pub numbers : map (λ s. s.number) new ≡ map (λ s. s.number) old
 
--- What each step on the word of mutex i keeps, and what it does: the token and the places are of the same table, of the core the token says the same, and of its seats, which are the same, that at the mutex alone changes, and by this
+-- All that each step on the word of mutex i keeps, and its effect: the token and the places are of the same table, of the core the token says the same, and of its seats, which are the same, that at the mutex alone changes, and by this
 pub record DoesAtWord {C : Type 0} (id : TableId) (first : KernelView C) (old : TableId) (me : KernelMe C) (places : List MutexPlace) (new : TableId) (me' : KernelMe C) (places' : List MutexPlace) (i : ℕ) (step : MutexSeatState → MutexSeatState → Type 0) : Type 0 where
   pub table : IsAtTable id first new me'.0 places'
   pub core : TellsTheSame me me'

@@ -1,4 +1,4 @@
--- What a thread that has the kernel knows of the ties: what it took, what it found by a step on a mutex's word, and what it owes when it gives the kernel back.
+-- All that a thread that has the kernel knows of the ties: what it took, what it found by a step on a mutex's word, and what it owes when it gives the kernel back.
 use Rattle.std.specs.Prelude.{◌≡◌, ◌≢◌, ℕ, ◌<◌, Bool, true, false, [], ◌∷◌, Option, Some, None, Result, Ok, Err, ◌-◌}
 use Rattle.evl_base.specs.declared.numbers.ThreadId.{ThreadId}
 use Rattle.evl_base.specs.declared.refusal.Refusal.{Refusal}
@@ -61,7 +61,7 @@ module _ {C : Type 0} where
   abbrev pub ceilings_in : CoreHand C → ℕ → Bool
   ceilings_in hand = ceilings_of (first_of hand)
 
-  -- The thread has just taken a kernel with this history, and made no step on a word yet. Of each mutex that it owns no other owner is recorded
+  -- The thread has just taken a kernel with this history, and made no step on a word yet. No other owner is recorded of any mutex that it owns
   pub record HasTaken (thread : ℕ) (history : History) (hand : CoreHand C) : Type 0 where
     pub number : number_of hand ≡ thread
     pub taken : taken_in hand ≡ Some history

@@ -25,7 +25,7 @@ pub record CoreWorld (S B : Type 0) : Type 0 where
 -- rule: The steps are an exchange that takes, a store that gives, and the slot's two moves.
 --   also: CoreWorld.CoreDealingStep
 --   clauses: Machine::take; Held::give: event
--- The kinds of step. A take that finds the core taken is counted as lost, and changes nothing else. Who has taken the slot moves the kernel out of it and, before it gives one back, in again
+-- The kinds of step. A take that finds the core taken is counted as lost, and changes nothing else. The thread that has taken the slot moves the kernel out of it and, before it gives one back, in again
 pub data CoreKind (S : Type 0) : Type 0 where
   takes : CoreKind S
   gives : S → CoreKind S

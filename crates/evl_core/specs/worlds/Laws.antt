@@ -1,4 +1,4 @@
--- What holds of a machine's core whatever its threads do.
+-- The laws of a machine's core whatever its threads do.
 use Rattle.std.specs.Prelude.{◌≡◌, ◌≢◌, ℕ, [], ◌∷◌, List, Option, None, slice_index, slice_set, true}
 use Rattle.evl_base.specs.Board.{board_fits}
 use mathlib.Core.Option.{some}

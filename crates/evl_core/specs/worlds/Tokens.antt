@@ -1,4 +1,4 @@
--- What the tokens of one table know together.
+-- All that the tokens of one table know together.
 use Rattle.std.specs.Prelude.{◌≡◌, ◌≢◌, ℕ, Option}
 use mathlib.Core.Option.{some}
 use lib.ListN.{get_elem?}

@@ -1,4 +1,4 @@
--- What the kernel answers where it accepts a call on a mutex, and that it accepts the end of a wait that is over.
+-- The kernel's answers where it accepts a call on a mutex, and that it accepts the end of a wait that is over.
 use Rattle.std.proofs.Common.{◌≡◌, ◌<◌, nat_le, ℕ, zero, suc, List, [], ◌∷◌, Bool, true, false, true≢false, eq-eqb, ◌||◌, Option, Some, None, is_some, Result, Ok, Err, if◌then◌else◌, length, slice_get, slice_index_or, refl, sym, ap, ◌∙◌, subst, arith}
 use Rattle.std.specs.Option.{option_map_or}
 use Rattle.std.proofs.lemmas.Bool.Decides.{nat_tests}

@@ -1,4 +1,4 @@
--- What is known where nothing refuses that a wait begins.
+-- All that is known where nothing refuses that a wait begins.
 use Rattle.std.proofs.Common.{◌≡◌, ◌≢◌, ℕ, ◌==◌, Bool, true, false, not, ◌&&◌, Option, Some, None, if◌then◌else◌, refl, ◌∙◌}
 use Rattle.std.proofs.lemmas.Bool.{false≢true, eqb-false, not-true}
 use Rattle.evl_base.proofs.Plain.{some-none}

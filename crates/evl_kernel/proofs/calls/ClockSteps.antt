@@ -1,4 +1,4 @@
--- What holds of every state that steps on the clock leave, and of every state that the play of a due item leaves.
+-- The laws of every state that steps on the clock leave, and of every state that the play of a due item leaves.
 use Rattle.std.proofs.Common.{◌≡◌, ℕ, nat_le, Bool, true, false, not, [], ◌∷◌, Option, Some, None, unwrap_or, slice_get, if◌then◌else◌, refl, sym, subst}
 use Rattle.std.proofs.lemmas.Bool.{false≢true}
 use Rattle.evl_base.specs.declared.refusal.Refusal.TheVariants.{Invalid, Busy}

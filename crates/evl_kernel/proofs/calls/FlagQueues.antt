@@ -1,4 +1,4 @@
--- What each step of a flag group leaves of its queue, and that it stays sound.
+-- The queue of a flag group as each step leaves it, and that it stays sound.
 use Rattle.std.proofs.Common.{◌≡◌, ◌<◌, ℕ, ◌==◌, Bool, true, false, ◌||◌, List, [], ◌∷◌, Option, Some, None, Ok, Err, if◌then◌else◌, refl, sym, ap, ◌∙◌, subst}
 use Rattle.std.specs.Option.{option_map, option_map_or}
 use Rattle.std.proofs.lemmas.Bool.{false≢true, eqb-true, or_left, or_parts, or_right}

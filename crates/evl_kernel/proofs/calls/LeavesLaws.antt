@@ -1,4 +1,4 @@
--- What holds of every state that an effect leaves.
+-- The laws of every state that an effect leaves.
 use Rattle.std.proofs.Common.{◌≡◌, Bool, true, false, [], ◌∷◌, Option, Some, None, Ok, Err, refl}
 use Rattle.evl_base.specs.declared.refusal.Refusal.{Refusal}
 use Rattle.evl_kernel.specs.state.States.{State}

@@ -1,4 +1,4 @@
--- What each call on a mutex leaves before settling.
+-- All that each call on a mutex leaves before settling.
 use Rattle.std.proofs.Common.{◌≡◌, ◌≢◌, ◌≤◌, ◌<◌, ◌⊎◌, ⊎_elim, ℕ, zero, suc, nat_le, nat_lt, ◌==◌, eq-eqb, ne_eqb, ◌&&◌, ◌||◌, Bool, true, false, not, List, [], ◌∷◌, length, Option, Some, None, is_some, option_map, Result, Ok, Err, slice_get, slice_set, slice_index_or, if◌then◌else◌, refl, sym, ap, ◌∙◌, subst, arith}
 use Rattle.std.specs.Option.{option_map_or}
 use Rattle.std.proofs.lemmas.Bool.{false≢true, eqb-true}
@@ -274,7 +274,7 @@ mutex_calls h legal fits caller =
       finish = λ keep reply new is. leaves_of (FinishLeaves h.state caller) (answer h.state caller (Finish keep)) reply new (finish_leaves count h.state proper caller keep) is;
     }
 
--- What is accepted
+-- The calls that are accepted
 
 seated_below : (seats : List (Option Seat)) (t : ℕ) → is_some (slice_index_or seats t None) ≡ true → t < length seats
 seated_below [] t is = absurd (false≢true is)

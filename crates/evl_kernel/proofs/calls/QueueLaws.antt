@@ -1,4 +1,4 @@
--- What each step of the elements means for the queues, and that all elements stay sound.
+-- The meaning of each step of the elements for the queues, and that all elements stay sound.
 use Rattle.std.proofs.Common.{◌≡◌, ◌≢◌, ◌<◌, ℕ, Bool, true, false, arith, List, [], Option, Some, None, Ok, slice_get, slice_set, refl, sym, ap, ◌∙◌, subst}
 use Rattle.std.specs.Option.{option_map_or}
 use Rattle.std.proofs.lemmas.Bool.{false≢true}

@@ -1,4 +1,4 @@
--- What a change of one element means for the queues of all: who is let go, who comes, and who leaves.
+-- The meaning of a change of one element for the queues of all: who is let go, who comes, and who leaves.
 use Rattle.std.proofs.Common.{◌≡◌, ℕ, ◌==◌, ◌⊎◌, inl, inr, Bool, true, false, not, ◌||◌, cond, List, [], ◌∷◌, Option, Some, slice_get, slice_set, refl, sym, ap, ◌∙◌, subst, arith}
 use Rattle.std.specs.Option.{option_map_or}
 use Rattle.std.proofs.lemmas.Bool.{false≢true, eq-eqb, eqb-true}

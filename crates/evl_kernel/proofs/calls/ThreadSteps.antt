@@ -1,4 +1,4 @@
--- What holds of every state that steps on threads leave: they change who is attached, on which stage and how ready, and nothing else.
+-- The laws of every state that steps on threads leave: they change who is attached, on which stage and how ready, and nothing else.
 use Rattle.std.proofs.Common.{ℕ}
 use Rattle.evl_sched.specs.Threads.{Sched}
 use Rattle.evl_sched.specs.Calls.{attach_refusal, set_policy_refusal, stranger_refusal}

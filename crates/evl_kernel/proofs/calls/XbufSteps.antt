@@ -1,4 +1,4 @@
--- What a change of one cross-buffer means for the queues of all elements.
+-- The meaning of a change of one cross-buffer for the queues of all elements.
 use Rattle.std.proofs.Common.{◌≡◌, ℕ, ◌==◌, ◌⊎◌, inl, inr, Bool, true, false, List, Some, slice_get, slice_set, refl, sym, ap, ◌∙◌}
 use Rattle.std.proofs.lemmas.Bool.{eqb-true}
 use Rattle.evl_base.specs.declared.reply.Reply.{Reply}

@@ -1,4 +1,4 @@
--- What settling does to mutexes, and every call that isn't about one: waits for them end by their deadlines alone.
+-- The effect on mutexes of settling, and of every call that isn't about one: waits for them end by their deadlines alone.
 use Rattle.std.proofs.Common.{◌≡◌, ◌≤◌, ◌⊎◌, inl, inr, ⊎_elim, ℕ, ◌==◌, ◌&&◌, Bool, true, false, not, List, ◌++◌, Option, Some, None, is_some, Result, Ok, Err, slice_get, slice_set, slice_index_or, refl, sym, ap, ◌∙◌, subst, arith}
 use Rattle.std.specs.Option.{option_map_or}
 use Rattle.std.proofs.lemmas.Bool.{false≢true, eqb-true}

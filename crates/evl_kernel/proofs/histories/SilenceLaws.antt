@@ -1,4 +1,4 @@
--- Where no callback that is requested in-band has actions, no callback that is in-band has, and what is pending has a
+-- No in-band callback has actions where no callback that is requested in-band has, and what is pending has a
 -- callback: each call and each play keeps that.
 use Rattle.std.proofs.Common.{◌≡◌, ◌≢◌, ℕ, zero, suc, ◌==◌, ◌<◌, nat_lt, ◌⊎◌, inl, inr, Bool, true, false, not, List, [], ◌∷◌, Option, Some, None, is_some, unwrap_or, slice_get, slice_set, if◌then◌else◌, refl, sym, ap, ◌∙◌, subst, arith}
 use Rattle.std.specs.Option.{option_map_or}

@@ -1,4 +1,4 @@
--- What each call, each play and each run keeps, where each kind of change keeps it.
+-- All that each call, each play and each run keeps, where each kind of change keeps it.
 use Rattle.std.proofs.Common.{◌≡◌, inl, inr, ℕ, Bool, true≢false, false, List, [], ◌∷◌, Option, Some, None, Result, Ok, Err, refl, sym, subst}
 use Rattle.evl_base.specs.declared.call.Call.{Call}
 use Rattle.evl_base.specs.declared.entry.Entry.{Entry}

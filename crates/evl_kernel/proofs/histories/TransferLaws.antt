@@ -1,4 +1,4 @@
--- What was read from a way of a cross-buffer is the front of what was accepted into it, over a whole history.
+-- All that was read from a way of a cross-buffer is the front of what was accepted into it, over a whole history.
 use Rattle.std.proofs.Common.{◌≡◌, ℕ, zero, suc, nat_lt, Bool, true, false, not, ◌&&◌, List, [], ◌∷◌, ◌++◌, map, Option, Some, None, Result, Ok, Err, slice_get, if◌then◌else◌, refl, sym, ap, ◌∙◌, subst}
 use Rattle.std.specs.List.{cons_option}
 use Rattle.std.proofs.lemmas.Bool.{false≢true}

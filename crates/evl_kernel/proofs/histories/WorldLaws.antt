@@ -1,4 +1,4 @@
--- What a run shows outside the in-band stage follows from its calls but for in-band stalls.
+-- All that a run shows outside the in-band stage follows from its calls but for in-band stalls.
 use Rattle.std.proofs.Common.{◌≡◌, ℕ, ◌+◌, ◌==◌, nat_lt, ◌⊎◌, inl, inr, Bool, true, false, not, ◌&&◌, cond, List, [], ◌∷◌, ◌++◌, All, length, map, Option, Some, None, Result, Ok, Err, is_ok, is_some, unwrap_or, if◌then◌else◌, refl, sym, ap, ◌∙◌, subst, arith}
 use Rattle.std.specs.Option.{option_map}
 use Rattle.std.proofs.lemmas.Bool.{false≢true, and_parts}

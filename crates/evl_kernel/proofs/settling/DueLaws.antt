@@ -1,4 +1,4 @@
--- What is played next is a due item or a line.
+-- The next play is of a due item or a line.
 use Rattle.std.proofs.Common.{◌≡◌, ℕ, Bool, true, false, Option, Some, None, if◌then◌else◌, refl, ap, ◌∙◌, subst}
 use Rattle.std.proofs.lemmas.Option.{none-some, same_Some}
 use Rattle.evl_base.proofs.Plain.{some-none}

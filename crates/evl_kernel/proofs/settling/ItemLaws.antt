@@ -1,4 +1,4 @@
--- What the play of a due item makes of the records, and that it leaves fewer plays to make.
+-- The records after the play of a due item, and that it leaves fewer plays to make.
 use Rattle.std.proofs.Common.{◌≡◌, ℕ, ◌+◌, ◌<◌, ◌≤◌, inr, Bool, true, false, List, [], Option, Some, None, Err, refl, sym, ap, ◌∙◌, subst, arith}
 use Rattle.std.specs.Option.{option_map, option_map_or}
 use Rattle.std.proofs.lemmas.Option.{none-some, same_Some}

@@ -1,4 +1,4 @@
--- What each play keeps, where each kind of change that plays make keeps it: no play asks for a step of a mutex but a
+-- All that each play keeps, where each kind of change that plays make keeps it: no play asks for a step of a mutex but a
 -- deadline that falls due.
 use Rattle.std.proofs.Common.{◌≡◌, ℕ, Bool, true, false, not, List, [], ◌∷◌, Option, Some, None, unwrap_or, slice_get, if◌then◌else◌, refl, sym, subst}
 use Rattle.std.specs.Option.{option_map_or}

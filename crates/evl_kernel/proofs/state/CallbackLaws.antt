@@ -1,4 +1,4 @@
--- What a change of the lines leaves of the callbacks: where they are, and that they are allowed where they stand.
+-- The callbacks after a change of the lines: where they are, and that they are allowed where they stand.
 use Rattle.std.proofs.Common.{◌≡◌, ℕ, inl, inr, true, List, [], ◌∷◌, ◌++◌, Some, slice_get, refl, sym, ap, ◌∙◌, subst}
 use Rattle.evl_pipeline.specs.declared.plan.Plan.{Plan}
 use Rattle.evl_pipeline.specs.Plans.{is_allowed}

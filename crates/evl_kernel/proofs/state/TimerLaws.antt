@@ -1,4 +1,4 @@
--- What a change of the clock leaves of the callbacks: which stand in timers, and that they are allowed there.
+-- The callbacks after a change of the clock: which stand in timers, and that they are allowed there.
 use Rattle.std.proofs.Common.{◌≡◌, ◌≤◌, ℕ, zero, suc, nat_le, ◌⊎◌, inl, inr, Bool, true, false, not, List, [], ◌∷◌, Option, Some, None, is_some, slice_get, slice_set, slice_index_or, Result, Ok, Err, OnOk, OnErr, if◌then◌else◌, refl, sym, ap, ◌∙◌, subst}
 use Rattle.std.specs.Option.{option_map}
 use Rattle.std.proofs.lemmas.Option.{slice_get-map, none-some, same_Some}

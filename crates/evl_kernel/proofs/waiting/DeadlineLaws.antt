@@ -78,7 +78,7 @@ dates_at of legal = run_holds (HasDates of.board.threads) each own (opened_kerne
       ended = λ keep is h. leaves-finish (HasDates of.board.threads) waiting s caller keep (λ x hx. hx) h;
     }
 
--- Where this thread is blocked, something holds of its deadline.
+-- Something holds of this thread's deadline where it is blocked.
 module _ (thread : ℕ) (Q : Option ℕ → Type 0) where
   abbrev Dated : State → Type 0
   Dated s = is_blocked s thread ≡ true → Q (deadline_at s.clock thread)

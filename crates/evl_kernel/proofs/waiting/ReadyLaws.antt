@@ -1,4 +1,4 @@
--- Who is ready after each change of the scheduler's record.
+-- The threads that are ready after each change of the scheduler's record.
 use Rattle.std.proofs.Common.{◌≡◌, ℕ, zero, suc, ◌==◌, ◌-◌, nat_le, Bool, true, false, not, ◌||◌, List, [], ◌∷◌, ◌++◌, Option, Some, None, slice_index_or, slice_set, if◌then◌else◌, refl, sym, ap, ◌∙◌, subst, arith}
 use Rattle.std.specs.Prelude.{filter}
 use Rattle.std.specs.List.{find, list_all, list_any}
@@ -54,7 +54,7 @@ unready-itself q n = out-itself q.ready n
 pub unready-other : (q : Sched) (n t : ℕ) → (t == n) ≡ false → is_ready (unready q n) t ≡ is_ready q t
 unready-other q n t ne = in-without q.ready n t ne
 
--- What a change of one thread's seat leaves: it is ready as its stage says, and all others as they were.
+-- The ready threads after a change of one thread's seat: it is ready as its stage says, and all others as they were.
 pub record ReadyAnew (old new : Sched) (n : ℕ) : Type 0 where
   pub itself : is_ready new n ≡ is_oob (stage_of new n)
   pub others : (t : ℕ) → (t == n) ≡ false → is_ready new t ≡ is_ready old t

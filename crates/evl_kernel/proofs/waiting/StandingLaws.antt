@@ -1,4 +1,4 @@
--- What is on the lines after a change was there before, but for what a request brings.
+-- All that is on the lines after a change was there before, but for what a request brings.
 use Rattle.std.proofs.Common.{◌≡◌, ℕ, zero, suc, ◌⊎◌, inl, inr, Bool, true, false, List, [], ◌∷◌, Option, Some, None, slice_set, slice_index_or, if◌then◌else◌, refl, sym, ap, subst}
 use Rattle.std.proofs.lemmas.Option.{none-some, same_Some}
 use Rattle.evl_base.specs.declared.stage.Stage.{Stage}

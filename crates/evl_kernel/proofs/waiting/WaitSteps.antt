@@ -1,4 +1,4 @@
--- What holds of every state that steps of elements, waits that begin and end, and deadlines leave: they change elements,
+-- The laws of every state that steps of elements, waits that begin and end, and deadlines leave: they change elements,
 -- waits, deadlines and the ready list, and nothing else.
 use Rattle.std.proofs.Common.{ℕ, Bool, true, false, List, [], ◌∷◌, Option, Some, None, Result, Ok, Err}
 use Rattle.std.specs.Option.{option_map, option_map_or}

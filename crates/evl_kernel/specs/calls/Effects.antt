@@ -1,4 +1,4 @@
--- What a machine does at a step: it replies and goes on, or refuses and stays as it is. And what a call does to the
+-- A machine's deed at a step: it replies and goes on, or refuses and stays as it is. And the effect of a call on the
 -- records, or the refusal that it meets first.
 use Rattle.std.specs.Prelude.{ℕ, ◌≡◌, Bool, List, [], ◌∷◌, Option, Some, None, Result, Ok, Err, if◌then◌else◌}
 use Rattle.evl_base.specs.declared.refusal.Refusal.{Refusal}

@@ -1,4 +1,4 @@
--- What a call asks for, by its family: a step on lines and stages, one on the clock, one on threads, a step of one element,
+-- The request of a call, by its family: a step on lines and stages, one on the clock, one on threads, a step of one element,
 -- a wait that begins, or one that ends. A law over all calls goes by these families.
 use Rattle.std.specs.Prelude.{ℕ, Bool, true, false, not, Option, Some}
 use Rattle.evl_base.specs.declared.stage.Stage.{Stage}

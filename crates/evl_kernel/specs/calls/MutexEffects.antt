@@ -1,4 +1,4 @@
--- What each call on a mutex leaves before settling, of all mutexes and of the waits that ended by getting one.
+-- The mutexes as each call on a mutex leaves them before settling, and the waits that ended by getting one.
 use Rattle.std.specs.Prelude.{◌≡◌, ◌≢◌, ◌<◌, ℕ, List, ◌==◌, ◌||◌, Bool, true, false, Option, Some, None, Result, Ok, slice_get}
 use Rattle.std.specs.Option.{option_map_or}
 use Rattle.evl_base.specs.Board.{board_fits}

@@ -1,4 +1,4 @@
--- What a call does: which refusal comes first, and what else.
+-- The effect of a call: which refusal comes first, and what else.
 use Rattle.std.specs.Prelude.{ℕ, nat_le, Bool, true, false, not, ◌&&◌, Option, Some, None, if◌then◌else◌}
 use Rattle.evl_base.specs.declared.call.Call.{Call}
 use Rattle.evl_base.specs.declared.refusal.Refusal.{Refusal}

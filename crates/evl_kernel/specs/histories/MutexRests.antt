@@ -1,4 +1,4 @@
--- What settling does to mutexes, and every call that isn't about one: waits for them end, and nothing else.
+-- The effect on mutexes of settling, and of every call that isn't about one: waits for them end, and nothing else.
 use Rattle.std.specs.Prelude.{◌≡◌, ℕ, ◌==◌, ◌&&◌, Bool, true, false, List, [], ◌∷◌, Option, Some, is_some, Result, Ok, slice_get}
 use Rattle.std.specs.Option.{option_map_or}
 use Rattle.evl_base.specs.Board.{board_fits}

@@ -1,4 +1,4 @@
--- What holds of recorded owners, and of those who wait for mutexes, in every legal history.
+-- The laws of recorded owners, and of those who wait for mutexes, in every legal history.
 use Rattle.std.specs.Prelude.{ℕ, ◌≡◌, ◌||◌, Bool, true, false, Some, is_some, slice_get}
 use Rattle.evl_base.specs.Board.{board_fits}
 use Rattle.evl_mutex.specs.Queues.{is_nobody}

@@ -1,4 +1,4 @@
--- What each element does by itself in a run of the kernel.
+-- The deeds of each element by itself in a run of the kernel.
 use Rattle.std.specs.Prelude.{ℕ, ◌≡◌, List, ◌++◌, All, map, flat_map, Option, Some, Result, slice_get}
 use Rattle.evl_base.specs.declared.refusal.Refusal.{Refusal}
 use Rattle.evl_base.specs.declared.call.Call.{Call}

@@ -1,4 +1,4 @@
--- What goes through each way of a cross-buffer in a history.
+-- All that goes through each way of a cross-buffer in a history.
 use Rattle.std.specs.Prelude.{ℕ, ◌≡◌, nat_lt, Bool, true, false, not, ◌&&◌, List, filter_map, Option, Some, None, slice_get, if◌then◌else◌}
 use Rattle.evl_base.specs.declared.way.Way.{Way}
 use Rattle.evl_base.specs.declared.way.Way.TheVariants.{In, Out}

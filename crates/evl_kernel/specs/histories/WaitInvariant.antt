@@ -1,4 +1,4 @@
--- What holds of the waits in every legal history.
+-- The laws of the waits in every legal history.
 use Rattle.std.specs.Prelude.{ℕ, ◌≡◌, Bool, true, false, not, ◌&&◌, List, Option, Some, None, Result, is_none}
 use Rattle.std.specs.Option.{option_map_or}
 use Rattle.evl_base.specs.Board.{board_fits}

@@ -1,4 +1,4 @@
--- What the in-band stage does for itself: its stalls, its plays, and requests of callbacks without actions.
+-- The in-band stage's deeds for itself: its stalls, its plays, and requests of callbacks without actions.
 use Rattle.std.specs.Prelude.{ℕ, ◌≡◌, Bool, true, false, not, List, [], filter, is_ok}
 use Rattle.evl_base.specs.declared.stage.Stage.{Stage}
 use Rattle.evl_base.specs.declared.stage.Stage.TheVariants.{Inband, Oob}

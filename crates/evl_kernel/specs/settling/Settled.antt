@@ -1,4 +1,4 @@
--- What a settling has played so far, and how much is left at most.
+-- All that a settling has played so far, and how much is left at most.
 use Rattle.std.specs.Prelude.{ℕ, ◌≡◌, ◌+◌, ◌-◌, ◌*◌, ◌≤◌, Bool, ◌&&◌, List, ◌++◌, length, Result}
 use Rattle.evl_base.specs.declared.stage.Stage.{Stage}
 use Rattle.evl_base.specs.declared.stage.Stage.TheVariants.{Oob}

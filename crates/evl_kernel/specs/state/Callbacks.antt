@@ -1,4 +1,4 @@
--- Where the callbacks of a bank are, and what they answer.
+-- The places of a bank's callbacks, and their answers.
 use Rattle.std.specs.Prelude.{◌≡◌, ℕ, ◌⊎◌, Bool, List, [], ◌∷◌, map, filter_map, Some, is_some, slice_get}
 use Rattle.evl_base.specs.declared.stage.Stage.{Stage}
 use Rattle.evl_pipeline.specs.declared.plan.Plan.{Plan}

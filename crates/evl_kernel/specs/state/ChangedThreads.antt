@@ -13,7 +13,7 @@ use Rattle.evl_mutex.specs.Owners.{Owners}
 abbrev pub of_word : List NumberSet → ℕ → NumberSet
 of_word words n = slice_index_or words n []
 
--- These are noted. What is no thread of any board counts as noted.
+-- These are noted. A number of no thread of any board counts as noted.
 abbrev pub is_noted : List NumberSet → ℕ → Bool
 is_noted words thread = contains (of_word words (thread / 32)) (thread % 32) || not (nat_lt thread thread_limit)
 

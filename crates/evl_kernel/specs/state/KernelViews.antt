@@ -1,4 +1,4 @@
--- What contracts see of a kernel.
+-- A kernel as contracts see it.
 use Rattle.std.specs.Prelude.{ℕ, ⊤, IsTrue, ◌≡◌, ◌≤◌, Bool, true, false, List, [], length, map, Result, Ok, Err}
 use Rattle.evl_base.specs.declared.refusal.Refusal.{Refusal}
 use Rattle.evl_base.specs.declared.refusal.Refusal.TheVariants.{NoMemory, HistoryFull, CoreBusy, HoldsStax, Raced}

@@ -1,4 +1,4 @@
--- Where a callback of the bank is.
+-- The place of a callback of the bank.
 use Rattle.std.specs.Prelude.{◌≡◌, ◌<◌, ℕ, true, length, Some, slice_get}
 use Rattle.evl_base.specs.declared.stage.Stage.{Stage}
 use Rattle.evl_pipeline.specs.Lines as lines

@@ -1,4 +1,4 @@
--- What no call changes: how many threads, quota groups and elements there are, and of which sizes and kinds.
+-- All that no call changes: how many threads, quota groups and elements there are, and of which sizes and kinds.
 use Rattle.std.specs.Prelude.{ℕ, ◌≡◌, length, map, min}
 use Rattle.evl_base.specs.Limits.{thread_limit}
 use Rattle.evl_base.specs.declared.board.Board.{Board}

@@ -1,4 +1,4 @@
--- Who is in the queues of the elements.
+-- The threads in the queues of the elements.
 use Rattle.std.specs.Prelude.{ℕ, Bool, false, ◌≡◌, ◌==◌, List, [], Some, map, replicate, slice_get}
 use Rattle.std.specs.List.{list_any}
 use Rattle.std.specs.Option.{option_map_or}

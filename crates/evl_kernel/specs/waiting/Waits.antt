@@ -71,7 +71,7 @@ blocked_on s thread on until = posted_if (is_past s.clock.now until) (suspended 
 -- rule: A thread served at once keeps its place in the ready list and is busy until its `Finish`.
 --   also: Waits.is_waiting
 --   rows: served_at_once; weak_goes_inband
--- What a wait begins with: where it is served at once the thread isn't blocked, and it has no deadline.
+-- The beginning of a wait: where it is served at once the thread isn't blocked, and it has no deadline.
 abbrev pub wait_begun : State → ℕ → Awaited → Option ℕ → Option Reply → State
 wait_begun s thread on until None = blocked_on s thread on until
 wait_begun s thread on until (Some outcome) = with_wait s thread (Some (ended_by outcome (going_on on)))

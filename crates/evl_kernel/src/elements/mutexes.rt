@@ -44,7 +44,7 @@ impl<A: Allocator> Elements<A> {
         self.owners.owns_any(thread)
     }
 
-    /// Who is recorded as the owner of a mutex, if anybody is.
+    /// The recorded owner of a mutex, if there is one.
     pub(crate) fn owner(&self, mutex: MutexId) -> Option<ThreadId>
         ensures owner { option_map (λ thread. thread.0) result ≡ owner_at (slice_get self.now.elements.mutexes mutex.0) }
     {

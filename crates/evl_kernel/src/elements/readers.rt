@@ -1,4 +1,4 @@
-//! What the elements say besides the answers of calls.
+//! The elements' readers, besides the answers of calls.
 ghost use Rattle.std.specs.Prelude.{◌≡◌, length, map, option_map, slice_get};
 ghost use Rattle.evl_kernel.specs.waiting.Standing.{queue_at, queue_of};
 ghost use Rattle.evl_sync.specs.Semaphores as semaphores;
@@ -34,21 +34,21 @@ impl<A: Allocator> Elements<A> {
         }
     }
 
-    // Who is at a place of a semaphore's queue.
+    // The thread at a place of a semaphore's queue.
     fn sem_waiter(&self, sem: SemId, place: usize) -> Option<ThreadId>
         ensures waiter { option_map (λ t. t.0) result ≡ slice_get (queue_at (λ q. map (λ w. w.thread) q.waiters) self.now.elements.sems sem.0) place }
     {
         self.sems.get(usize::from(sem.0))?.waiter(place)
     }
 
-    // Who is at a place of a flag group's queue.
+    // The thread at a place of a flag group's queue.
     fn flag_waiter(&self, flags: FlagId, place: usize) -> Option<ThreadId>
         ensures waiter { option_map (λ t. t.0) result ≡ slice_get (queue_at (λ f. map (λ w. w.thread) f.waiters) self.now.elements.flags flags.0) place }
     {
         self.flags.get(usize::from(flags.0))?.waiter(place)
     }
 
-    // Who is at a place among those who wait to write into a way of a cross-buffer.
+    // The thread at a place among those who wait to write into a way of a cross-buffer.
     fn writer(&self, xbuf: XbufId, way: Way, place: usize) -> Option<ThreadId>
         ensures waiter { option_map (λ t. t.0) result ≡ slice_get (queue_at (λ x. map (λ w. w.thread) (stream x way).writers) self.now.elements.xbufs xbuf.0) place }
     {
@@ -58,7 +58,7 @@ impl<A: Allocator> Elements<A> {
         }
     }
 
-    // Who is at a place among those who wait to read from a way of a cross-buffer.
+    // The thread at a place among those who wait to read from a way of a cross-buffer.
     fn reader(&self, xbuf: XbufId, way: Way, place: usize) -> Option<ThreadId>
         ensures waiter { option_map (λ t. t.0) result ≡ slice_get (queue_at (λ x. map (λ r. r.thread) (stream x way).readers) self.now.elements.xbufs xbuf.0) place }
     {
@@ -68,7 +68,7 @@ impl<A: Allocator> Elements<A> {
         }
     }
 
-    /// Who is at a place of the queue of an element, the first one at 0.
+    /// The thread at a place of the queue of an element, the first one at 0.
     pub(crate) fn waiter(&self, on: Awaited, place: usize) -> Option<ThreadId>
         ensures waiter { option_map (λ t. t.0) result ≡ slice_get (queue_of self.now.elements on) place }
     {

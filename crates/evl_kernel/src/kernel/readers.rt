@@ -1,4 +1,4 @@
-//! What a kernel says of its threads, its date and its elements besides their calls. No reader changes anything or
+//! A kernel's readers: of its threads, date and elements, besides their calls. No reader changes anything or
 //! makes an entry.
 ghost use Rattle.std.specs.Prelude.{◌≡◌, ◌++◌, IfErr, None, OnErr, OnOk, Some, length, map, option_map, slice_get, if◌then◌else◌};
 ghost use Rattle.evl_base.specs.declared.refusal.Refusal.{Refusal};
@@ -28,7 +28,7 @@ impl<C, A: Allocator> KernelOf<C, A> {
         self.records.date()
     }
 
-    /// Who is picked, if anybody is eligible (Xenomai 4: EVL scheduling policies).
+    /// The thread that is picked, if anybody is eligible (Xenomai 4: EVL scheduling policies).
     pub fn picked(&self) -> Option<ThreadId>
         ensures picked { option_map (λ t. t.0) result ≡ picked (rank_of self.now.history.state) self.now.history.state.sched }
         ensures legal { IsLegal self.now.history }
@@ -62,7 +62,7 @@ impl<C, A: Allocator> KernelOf<C, A> {
         self.records.is_ready(thread)
     }
 
-    /// What a thread waits for or waited for, while its wait is unfinished (Xenomai 4: EVL elements; this profile).
+    /// The element a thread waits or waited for, while its wait is unfinished (Xenomai 4: EVL elements; this profile).
     pub fn awaited(&self, thread: ThreadId) -> Option<Awaited>
         ensures on { result ≡ option_map (λ w. w.on) (wait_at self.now.history.state thread.0) }
         ensures legal { IsLegal self.now.history }
@@ -96,7 +96,7 @@ impl<C, A: Allocator> KernelOf<C, A> {
         self.records.there(xbuf, way)
     }
 
-    /// Who is at a place of the queue of an element, the first one at 0; none where nobody is there, or there
+    /// The thread at a place of the queue of an element, the first one at 0; none where nobody is there, or there
     /// is no such element (Xenomai 4: EVL elements).
     pub fn waiter(&self, on: Awaited, place: usize) -> Option<ThreadId>
         ensures waiter { option_map (λ t. t.0) result ≡ slice_get (queue_of self.now.history.state.elements on) place }

@@ -1,4 +1,4 @@
-//! What the records say of threads, date and elements besides the answers of calls.
+//! The records' readers: of threads, date and elements, besides the answers of calls.
 ghost use Rattle.std.specs.Prelude.{◌≡◌, ◌++◌, IfErr, None, OnErr, OnOk, Some, length, map, option_map, slice_get, if◌then◌else◌};
 ghost use Rattle.evl_base.specs.declared.refusal.Refusal.{Refusal};
 ghost use Rattle.evl_kernel.specs.state.Records.{state_of};
@@ -26,7 +26,7 @@ impl<C, A: Allocator> Records<C, A> {
         self.clock.now()
     }
 
-    /// Who is picked.
+    /// The thread that is picked.
     pub(crate) fn picked(&self) -> Option<ThreadId>
         ensures picked { option_map (λ t. t.0) result ≡ picked (rank_of (state_of self.now)) (state_of self.now).sched }
     {
@@ -57,7 +57,7 @@ impl<C, A: Allocator> Records<C, A> {
         self.sched.is_ready(thread)
     }
 
-    /// What a thread waits for or waited for, while its wait is unfinished.
+    /// The element that a thread waits for or waited for, while its wait is unfinished.
     pub(crate) fn awaited(&self, thread: ThreadId) -> Option<Awaited>
         ensures on { result ≡ option_map (λ w. w.on) (wait_at (state_of self.now) thread.0) }
     {
@@ -85,7 +85,7 @@ impl<C, A: Allocator> Records<C, A> {
         self.elements.there(xbuf, way)
     }
 
-    /// Who is at a place of the queue of an element, the first one at 0.
+    /// The thread at a place of the queue of an element, the first one at 0.
     pub(crate) fn waiter(&self, on: Awaited, place: usize) -> Option<ThreadId>
         ensures waiter { option_map (λ t. t.0) result ≡ slice_get (queue_of (state_of self.now).elements on) place }
     {

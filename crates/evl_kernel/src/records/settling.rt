@@ -60,8 +60,8 @@ impl<C: Drop, A: Allocator> Records<C, A> {
 }
 
 impl<C, A: Allocator> Records<C, A> {
-    // Whether an eligible thread holds in-band lines back. Where an out-of-band line pends, which goes first, no thread
-    // is looked at.
+    // Whether an eligible thread holds in-band lines back. No thread is looked at where an out-of-band line
+    // pends, which goes first.
     #[inline(always)]
     fn is_held_back(&self) -> bool
         ensures held { (inband : Bool) → lines.next_line self.now.lines result inband ≡ lines.next_line self.now.lines (is_anyone_eligible self.now.sched.sched) inband }
@@ -174,7 +174,7 @@ impl<C: Handler, A: Allocator> Records<C, A> {
         self.play_line(inband, lists)
     }
 
-    /// Plays until nothing is playable, and appends the plays. Where nothing pends, nothing is looked for.
+    /// Plays until nothing is playable, and appends the plays. Nothing is looked for where nothing pends.
     #[inline(always)]
     pub(super) fn settle<B: Allocator>(&mut self, plays: &mut Vec<Play, B>, lists: &mut ServedLists)
         requires by_plan { AnswersByPlan C.declared C.plan (whereabouts self.old) }

@@ -244,7 +244,7 @@ impl<C, A: Allocator> Records<C, A> {
     }
 
     // A thread leaves the queue in which it waits, if it waits in one; whom that serves wait on, and are entered into a
-    // list where nobody is yet. Where it was a mutex's, the ranks are handed on.
+    // list where nobody is yet. The ranks are handed on where it was a mutex's.
     fn leave_queue(&mut self, thread: ThreadId, told: &mut Services)
         requires nobody { told.old ≡ [] }
         ensures left { state_of self.new ≡ with_elements (state_of self.old) (left_by (elements (state_of self.old)) thread.0 (wait_at (state_of self.old) thread.0)) }

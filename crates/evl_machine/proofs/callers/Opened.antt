@@ -1,4 +1,4 @@
--- What a caller may do with a mutex: by itself, and once it has taken the kernel.
+-- The steps that a caller may make on a mutex: by itself, and once it has taken the kernel.
 use Rattle.std.proofs.Common.{◌≡◌, ◌≢◌, ◌<◌, ◌==◌, ℕ, zero, suc, not, nat_lt, if◌then◌else◌, Bool, true, false, true≢false, List, [], ◌∷◌, length, map, Option, Some, None, is_some, IsSomeAnd, slice_get, eqb-true, eq-eqb, ne_eqb, refl, sym, ap, ◌∙◌, subst, arith}
 use Rattle.std.specs.List.{range_with_len}
 use Rattle.std.specs.Option.{option_map, option_map_or}

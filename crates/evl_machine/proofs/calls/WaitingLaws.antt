@@ -1,4 +1,4 @@
--- What a caller's looks and the end of its wait come to.
+-- The outcome of a caller's looks and of the end of its wait.
 use Rattle.std.proofs.Common.{◌≡◌, ◌≢◌, ℕ, List, [], ◌∷◌, ◌++◌, not, Bool, true, false, true≢false, Option, Some, None, Result, Ok, Err, MatchOption, if◌then◌else◌, refl, sym, ap, ◌∙◌, subst, inl, inr, ⊎_elim}
 use Rattle.evl_base.specs.declared.call.Call.{Call}
 use Rattle.evl_base.specs.declared.call.Call.TheVariants.{Finish}

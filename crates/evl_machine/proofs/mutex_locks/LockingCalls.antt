@@ -1,4 +1,4 @@
--- What a caller's steps with the kernel in hand come to: a lock that begins, a release, and a wait that is finished.
+-- The outcome of a caller's steps with the kernel in hand: a lock that begins, a release, and a wait that is finished.
 use Rattle.std.proofs.Common.{◌≡◌, ◌<◌, ◌≤◌, nat_lt, ℕ, List, Bool, true, false, true≢false, Option, Some, None, Result, Ok, Err, IsErrAnd, IfSome, IsSomeAnd, inr, slice_get, refl, sym, ap, ◌∙◌, subst, arith}
 use Rattle.std.proofs.lemmas.Bool.Decides.{nat_tests}
 use Rattle.evl_base.specs.Board.{board_fits}

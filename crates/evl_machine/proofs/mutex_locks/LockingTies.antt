@@ -1,4 +1,4 @@
--- What a visit of the kernel finds by the ties, and how it settles them: for each call on a mutex, and for every other one.
+-- All that a visit of the kernel finds by the ties, and how it settles them: for each call on a mutex, and for every other one.
 use Rattle.std.proofs.Common.{◌≡◌, ◌≢◌, ◌⊎◌, ⊎_elim, ◌<◌, ◌+◌, eqb, ne_eqb, ℕ, zero, suc, not, Bool, true, false, true≢false, List, [], ◌∷◌, length, map, Option, Some, None, is_some, option_map, Result, Ok, Err, if◌then◌else◌, slice_get, refl, sym, ap, ◌∙◌, subst, arith}
 use Rattle.std.specs.Prelude.{bit_and, bit_or, ◌||◌, ◌&&◌, ◌==◌}
 use Rattle.std.specs.Option.{option_map_or}

@@ -1,4 +1,4 @@
--- What a thread's token and its places say of its seats at the mutexes.
+-- All that a thread's token and its places say of its seats at the mutexes.
 use Rattle.std.proofs.Common.{◌≡◌, ◌<◌, ℕ, ◌+◌, ◌||◌, nat_lt, List, [], ◌∷◌, length, map, Option, Some, None, IsSomeAnd, slice_get, refl, sym, ap, ◌∙◌, subst}
 use Rattle.std.specs.Option.{option_map, option_map_or}
 use Rattle.std.proofs.lemmas.List.{length-map}

@@ -1,4 +1,4 @@
--- What a caller at rest does with a mutex by itself leaves of it.
+-- The mutex after the deeds of a caller at rest by itself.
 use Rattle.std.proofs.Common.{◌≡◌, ◌≢◌, ◌<◌, ◌+◌, ◌==◌, ◌&&◌, ℕ, nat_lt, if◌then◌else◌, Bool, true, false, true≢false, List, length, map, Option, Some, None, IsSomeAnd, MatchBool, MatchOption, Result, Ok, Err, slice_get, eqb-true, eq-eqb, ne_eqb, length-set, refl, sym, ap, ◌∙◌, subst, arith}
 use Rattle.std.specs.Option.{option_map, option_map_or}
 use Rattle.std.proofs.lemmas.Bool.Decides.{nat_tests}

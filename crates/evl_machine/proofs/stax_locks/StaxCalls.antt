@@ -1,4 +1,4 @@
--- What a step on a stax leaves of its caller.
+-- The caller after its step on a stax.
 use Rattle.std.proofs.Common.{◌≡◌, ◌⊎◌, ℕ, Bool, true, false, List, Some, None, Result, Ok, Err, MatchOption, Option, map, sym, ap, ◌∙◌, subst, inl, inr, ⊎_elim}
 use Rattle.std.specs.Prelude.{All}
 use Rattle.evl_base.specs.declared.stage.Stage.{Stage}

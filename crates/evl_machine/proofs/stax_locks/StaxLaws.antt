@@ -1,4 +1,4 @@
--- What one seat does at a stax, by the list that the seat is in.
+-- The deeds of one seat at a stax, by the list that the seat is in.
 use Rattle.std.proofs.Common.{◌≡◌, ◌≢◌, ℕ, ◌+◌, ◌≤◌, ◌<◌, ◌==◌, ◌&&◌, nat_lt, cond, Bool, true, false, if◌then◌else◌, List, [], ◌∷◌, ◌++◌, length, length-append, get_or, take, map, Option, Some, None, is_some, Result, Ok, Err, is_ok, IfOk, IfErr, MatchOption, slice_get, slice_set, refl, sym, ap, ◌∙◌, subst, arith}
 use Rattle.std.specs.List.{range_with_len}
 use Rattle.std.proofs.lemmas.List.{length-map, map-append, take_more}

@@ -1,4 +1,4 @@
--- What the tries of a stax come to, one after another.
+-- The outcome of the tries of a stax, one after another.
 use Rattle.std.proofs.Common.{◌≡◌, ◌<◌, ℕ, ◌||◌, cond, List, [], ◌∷◌, ◌++◌, Bool, false, Some, is_some, length, map, get_or, slice_get, refl, sym, ap, ◌∙◌, subst, arith}
 use Rattle.evl_base.specs.declared.refusal.Refusal.{Refusal}
 use Rattle.evl_base.specs.declared.stage.Stage.{Stage}

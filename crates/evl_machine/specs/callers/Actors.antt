@@ -1,4 +1,4 @@
--- Who acts for a thread: its token at the core's table, the thread's stage and unfinished wait, and its seats at the staxes and mutexes.
+-- A thread's actor: its token at the core's table, the thread's stage and unfinished wait, and its seats at the staxes and mutexes.
 use Rattle.std.specs.Prelude.{◌≡◌, ℕ, ◌<◌, ◌||◌, not, Bool, true, false, List, length, All, map, Option, Some, None, if◌then◌else◌, slice_get}
 use Rattle.evl_base.specs.declared.call.Call.{Call}
 use Rattle.evl_base.specs.declared.call.Call.TheVariants.{Attach, Detach, SetStage, Claim, Release, Raise, Finish}
@@ -92,7 +92,7 @@ same_truth false b = not b
 -- rule: The caller's own state refuses a call before any step, exactly as `own_refusal` says.
 --   clauses: Machine::{try_call, call}; Held::apply
 --   rows: machine_2; stax_stages; own_refusals
--- What refuses a call by what its caller has itself: by its unfinished wait, by whether it holds a stax, and a mutex. Mutexes are claimed, released and raised, and waits for them finished, by calls of their own; a Finish keeps the stage exactly where something is held; who holds a stax stays on its stage, and who holds a mutex stays attached
+-- The refusals of a call by what its caller has itself: by its unfinished wait, by whether it holds a stax, and a mutex. Mutexes are claimed, released and raised, and waits for them finished, by calls of their own; a Finish keeps the stage exactly where something is held; who holds a stax stays on its stage, and who holds a mutex stays attached
 abbrev pub call_refusal : Option Unfinished → Bool → Bool → Call → Option Refusal
 call_refusal wait stax mutex (Claim id owner until) = Some Invalid
 call_refusal wait stax mutex (Release id) = Some Invalid

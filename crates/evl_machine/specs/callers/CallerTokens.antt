@@ -11,7 +11,7 @@ module _ {C : Type 0} where
   --   call, fits every token.
   --   also: Handles.Belongs; Tokens.HasOneHistory
   --   clauses: Caller::token; callers_know_one_history
-  -- The token is one of the table of the caller's machine, and knows the kernel as it was made there. What the caller knows of the kernel and of the core's lock is what is read of the token, which acts for this one thread and has nothing of the slot
+  -- The token is one of the table of the caller's machine, and knows the kernel as it was made there. All that the caller knows of the kernel and of the core's lock is what is read of the token, which acts for this one thread and has nothing of the slot
   pub record IsTokenOf (id : TableId) (me : KernelMe C) (c : CallerState C) : Type 0 where
     pub table : id ≡ c.machine.id
     pub first : first_of me.0 ≡ c.machine.first

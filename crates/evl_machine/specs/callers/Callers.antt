@@ -1,4 +1,4 @@
--- What a contract reads of who acts for a thread, at rest and while it has the kernel.
+-- A thread's actor as a contract reads it, at rest and while it has the kernel.
 use Rattle.std.specs.Prelude.{◌≡◌, true}
 use Rattle.evl_base.specs.Board.{board_fits}
 use Rattle.evl_kernel.specs.state.KernelViews.{KernelView}

@@ -1,4 +1,4 @@
--- What a contract sees of a machine, of a caller and of a caller that has the kernel.
+-- A machine, a caller, and a caller that has the kernel, as a contract sees them.
 use Rattle.std.specs.Prelude.{◌≡◌, ℕ, List, map}
 use Rattle.std.specs.List.{range_with_len}
 use Rattle.atomic_table.specs.Seated.{TableId}

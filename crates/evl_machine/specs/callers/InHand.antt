@@ -1,4 +1,4 @@
--- What a caller has in hand once it took the kernel, and what it is once it gave it back.
+-- All that a caller has in hand once it took the kernel, and what it is once it gave it back.
 use Rattle.std.specs.Prelude.{◌≡◌}
 use Rattle.atomic_table.specs.Seated.{TableId}
 use Rattle.evl_base.specs.declared.numbers.ThreadId.{ThreadId}

@@ -1,4 +1,4 @@
--- What who acts for a thread knows when it has just taken the kernel.
+-- The knowledge of a thread's actor when it has just taken the kernel.
 use Rattle.std.specs.Prelude.{◌≡◌, ◌<◌, true}
 use Rattle.evl_base.specs.Board.{board_fits}
 use Rattle.evl_kernel.specs.histories.Histories.{IsLegal}

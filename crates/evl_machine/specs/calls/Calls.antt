@@ -1,4 +1,4 @@
--- What one call of the kernel says to its caller.
+-- All that one call of the kernel says to its caller.
 use Rattle.std.specs.Prelude.{◌≡◌, ◌≢◌, ◌+◌, ℕ, List, [], ◌∷◌, ◌++◌, Bool, true, false, length, Result, Ok, Err, Option, Some, MatchOption, slice_get}
 use Rattle.evl_base.specs.declared.call.Call.{Call}
 use Rattle.evl_base.specs.declared.reply.Reply.{Reply}
@@ -64,7 +64,7 @@ pub record Answered (limit : ℕ) (a : Account) (c : Call) (r : Result Reply Ref
   pub full : r ≡ Err HistoryFull → length a'.seen.entries ≡ limit
   pub memory : r ≡ Err NoMemory → (a'.found ≡ a.found ++ 0 ∷ []) × (length a'.seen.entries ≢ limit)
 
--- What the call did at the core: CoreBusy comes of a take that found it taken, and every other answer of a take that found it free and the give after it
+-- The call at the core: CoreBusy comes of a take that found it taken, and every other answer of a take that found it free and the give after it
 pub record ActsOnCore {C : Type 0} (first : KernelView C) (a : Account) (l : LockView) (r : Result Reply Refusal) (a' : Account) (l' : LockView) : Type 0 where
   pub busy : r ≡ Err CoreBusy → FailsToTake first a l a' l'
   pub free : r ≢ Err CoreBusy → (held : Account) × (between : LockView) × (k : KernelView C) × Takes first a l held between × Gives first held between k a' l'

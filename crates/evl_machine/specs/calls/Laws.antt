@@ -1,4 +1,4 @@
--- What holds of any two callers of a machine.
+-- The laws of any two callers of a machine.
 use Rattle.std.specs.Prelude.{◌≡◌, ℕ, Some, slice_get}
 use mathlib.Core.Option.{some}
 use lib.ListN.{get_elem?}

@@ -20,7 +20,7 @@ module _ {C : Type 0} where
   -- rule: A call on a mutex takes the kernel at most once. Either the caller's own calls grow by just what it entered,
   --   or the take was lost and nothing else changed (but the step of `try_unlock_mutex` at the word).
   --   also: Visits.Visits; MutexLocks.MutexCall
-  -- The caller took the kernel and gave it back. What it gave goes on from what it took, by calls of its thread alone, which are what is new of its own calls. It has now seen the history that it gave. In between it did this, by steps on the words of mutexes, each from what the one before it left, the first from what the take left
+  -- The caller took the kernel and gave it back. The kernel that it gave goes on from the one that it took, by calls of its thread alone, which are what is new of its own calls. It has now seen the history that it gave. In between it did this, by steps on the words of mutexes, each from what the one before it left, the first from what the take left
   pub record Visited (old : CallerState C) (deed : ActorState → KernelView C → ActorState → KernelView C → Type 0) (new : CallerState C) : Type 0 where
     pub held : HeldState C
     pub took : TookKernel old held

@@ -1,4 +1,4 @@
--- What a caller does that waits for an element: it begins the wait, looks at the kernel until the wait is over, and finishes it.
+-- The deeds of a caller that waits for an element: it begins the wait, looks at the kernel until the wait is over, and finishes it.
 use Rattle.std.specs.Prelude.{◌≡◌, ◌≢◌, ◌⊎◌, ℕ, List, [], ◌∷◌, Bool, true, false, Option, Result, Ok, Err, MatchBool, MatchOption}
 use Rattle.evl_base.specs.declared.call.Call.{Call}
 use Rattle.evl_base.specs.declared.call.Call.TheVariants.{Finish}

@@ -1,4 +1,4 @@
--- What is in a mutex's word, and what a look at it shows the caller that has the kernel.
+-- A mutex's word, as it is, and what a look at it shows the caller that has the kernel.
 use Rattle.std.specs.Prelude.{◌≡◌, ℕ, ◌-◌, ◌/◌, ◌%◌, ◌==◌, Bool, true, false, Option, Some, None, if◌then◌else◌}
 use Rattle.std.specs.Option.{option_map}
 use Rattle.evl_base.specs.declared.numbers.ThreadId.{ThreadId}

@@ -1,4 +1,4 @@
--- What a caller that has the kernel does with a mutex: steps of the mutex's word, and the calls of the kernel that go with them.
+-- The deeds on a mutex of a caller that has the kernel: steps of the mutex's word, and the calls of the kernel that go with them.
 use Rattle.std.specs.Prelude.{◌≡◌, ◌≢◌, ◌⊎◌, ◌+◌, ◌≤◌, ℕ, List, Bool, true, false, length, map, slice_get, Result, Ok, Err, Option, Some, None}
 use Rattle.evl_base.specs.declared.call.Call.{Call}
 use Rattle.evl_base.specs.declared.call.Call.TheVariants.{Claim as AsksToWait, Release, Raise, Finish}

@@ -1,4 +1,4 @@
--- What a call on a mutex does to its caller.
+-- A mutex call's effect on its caller.
 use Rattle.std.specs.Prelude.{◌≡◌, ◌⊎◌, ℕ, ◌==◌, ◌&&◌, List, Bool, nat_lt, if◌then◌else◌, Option, Some, None, is_some, Result, Ok, Err, MatchBool, MatchOption, slice_get}
 use Rattle.std.specs.Option.{option_map_or, option_or}
 use Rattle.evl_base.specs.declared.mutex_kind.MutexKind.{MutexKind}
@@ -27,7 +27,7 @@ use Rattle.evl_machine.specs.mutex_locks.Locking.{Begins, Finishes, LocksRaised,
 use Rattle.evl_core.specs.words.MutexSeats.{TriesMutex, UnlocksMutex, depth_at, owner_refusal, unlock_refusal}
 use Rattle.evl_machine.specs.calls.Visits.{Visits}
 
--- What refuses a lock by what the caller has itself: a wait that it has not finished, a mutex that isn't on the board, the in-band stage; and an owner that the mutex doesn't nest for, or that has it 255 times
+-- The refusals of a lock by what the caller has itself: a wait that it has not finished, a mutex that isn't on the board, the in-band stage; and an owner that the mutex doesn't nest for, or that has it 255 times
 abbrev pub lock_refusal : Option MutexKind → Option Unfinished → Stage → ℕ → Option Refusal
 lock_refusal kind wait stage depth = if is_some wait then Some Busy else option_map_or (λ k. if is_oob stage then owner_refusal k depth else Some WrongStage) kind (Some Unknown)
 

@@ -1,4 +1,4 @@
--- What a caller does that waits for a mutex, and one that gives a mutex back however long others have the kernel.
+-- The deeds of a caller that waits for a mutex, and of one that gives a mutex back however long others have the kernel.
 use Rattle.std.specs.Prelude.{◌≡◌, ◌≢◌, ℕ, List, [], ◌∷◌, Bool, true, false, Option, Result, Ok, Err, IfErr}
 use Rattle.evl_base.specs.declared.numbers.MutexId.{MutexId}
 use Rattle.evl_base.specs.declared.refusal.Refusal.{Refusal}
@@ -35,7 +35,7 @@ module _ {C : Type 0} where
     pub answers : call last r new
     pub stays : passes r ≡ false
 
-  -- Where the lock has begun, this is its end: the caller has the mutex, or waits and finishes its wait
+  -- This is the lock's end where it has begun: the caller has the mutex, or waits and finishes its wait
   abbrev pub EndsLock : Result Begun Refusal → CallerState C → Result Ended Refusal → CallerState C → Type 0
   EndsLock (Ok (begun.Locked pass)) found r new = (r ≡ Ok (ended.Locked pass)) × (new ≡ found)
   EndsLock (Ok begun.Waiting) found r new = Lasts FinishesToLock found r new

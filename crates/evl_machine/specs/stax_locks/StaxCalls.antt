@@ -1,4 +1,4 @@
--- What a call on a stax does to its caller.
+-- A stax call's effect on its caller.
 use Rattle.std.specs.Prelude.{◌≡◌, List}
 use Rattle.evl_words.specs.GateCalls.{SeatState}
 use Rattle.evl_machine.specs.callers.Handles.{CallerState}

@@ -1,4 +1,4 @@
--- What a call on a stax does to the caller's seats at the gates of a machine.
+-- A stax call's effect on the caller's seats at the gates of a machine.
 use Rattle.std.specs.Prelude.{◌≡◌, ℕ, ◌==◌, ◌&&◌, cond, if◌then◌else◌, Bool, false, Option, Some, None, is_some, Result, Ok, Err, MatchBool, MatchOption, List, length, map, slice_get}
 use Rattle.std.specs.List.{list_any, range_with_len}
 use Rattle.std.specs.Option.{option_map_or}

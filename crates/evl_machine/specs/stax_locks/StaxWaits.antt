@@ -1,4 +1,4 @@
--- What a caller does that waits for a stax: it tries until it is let in, or is refused for good.
+-- The deeds of a caller that waits for a stax: it tries until it is let in, or is refused for good.
 use Rattle.std.specs.Prelude.{◌≡◌, ℕ, ◌&&◌, ◌||◌, not, List, [], ◌∷◌, Bool, true, false, Result, Err, IfErr, MatchBool}
 use Rattle.evl_base.specs.declared.refusal.Refusal.{Refusal}
 use Rattle.evl_base.specs.declared.refusal.Refusal.TheVariants.{Again, Limit, Raced}
@@ -30,7 +30,7 @@ Marks was is = Makes was claims is × Calls was Claim Done is was.view.held.stag
 abbrev pub MarksIf : Bool → ℕ → List SeatState → List SeatState → Type 0
 MarksIf wanted i old new = MatchBool wanted (AtSeat i old new Marks) (new ≡ old)
 
--- A try that was refused so, and may be made again. Where it is the first that was answered Again, the claim mark is then set
+-- A try that was refused so, and may be made again. The claim mark is then set where it is the first that was answered Again
 pub record Retry (i : ℕ) (stage : Stage) (marked : Bool) (old : List SeatState) (refusal : Refusal) (new : List SeatState) : Type 0 where
   pub passes : may_pass refusal ≡ true
   pub tried : List SeatState

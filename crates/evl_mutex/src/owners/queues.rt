@@ -1,4 +1,4 @@
-//! Who waits for mutexes.
+//! The threads that wait for mutexes.
 ghost use Rattle.std.specs.Prelude.{◌≡◌, [], length, option_map, slice_get};
 ghost use Rattle.std.specs.Option.{option_map_or};
 
@@ -17,8 +17,8 @@ impl<A: Allocator> OwnersOf<A> {
         }
     }
 
-    /// Who waits for a mutex at a place, the first one at 0; none where nobody does or there is no such mutex. (Xenomai
-    /// 4: EVL mutexes)
+    /// The waiter for a mutex at a place, the first one at 0; none where nobody is there or there is no such mutex.
+    /// (Xenomai 4: EVL mutexes)
     pub fn waiter(&self, mutex: MutexId, place: usize) -> Option<ThreadId>
         ensures waiter { option_map (λ thread. thread.0) result ≡ option_map (λ w. w.thread) (slice_get (option_map_or (λ m. m.waiters) (slice_get self.now.mutexes mutex.0) []) place) }
     {

@@ -14,7 +14,7 @@ impl<C: Named, A: Allocator> PipelineOf<C, A> {
     //   ArrivalQueue::is_like; Sem::is_like; FlagGroup::is_like; Owners::is_like; Xbuf::is_like; Kernel::is_like
     //   rows: kernels_stand_alike
     /// Whether both pipelines stand alike: the same is pending, stalled and counted, and the same is on each line.
-    /// Of two callbacks the names are compared.
+    /// The names of two callbacks are compared.
     pub fn is_like<B: Allocator>(&self, other: &PipelineOf<C, B>) -> bool
         ensures alike { result ≡ true → named_pipeline C.name self.now ≡ named_pipeline C.name other.now }
         ensures other { named_pipeline C.name self.now ≡ named_pipeline C.name other.now → result ≡ true }

@@ -13,7 +13,7 @@ use std::alloc::Allocator;
 
 impl<C: Named, A: Allocator> SideOf<C, A> {
     /// Whether both stages stand alike: their stall bits, pending lines and counts are the same, and so is what is
-    /// on each line. Of two callbacks the names are compared.
+    /// on each line. The names of two callbacks are compared.
     pub fn is_like<B: Allocator>(&self, other: &SideOf<C, B>) -> bool
         ensures alike { result ≡ true → named_side C.name self.now ≡ named_side C.name other.now }
         ensures other { named_side C.name self.now ≡ named_side C.name other.now → result ≡ true }
@@ -24,7 +24,7 @@ impl<C: Named, A: Allocator> SideOf<C, A> {
             && are_lines_alike(self, other)
     }
 
-    // What a line shows of its callback, if one is there.
+    // A line's callback, as the line shows it, if one is there.
     fn shown(&self, line: u16) -> Option<Shown>
         ensures shown { result ≡ option_map (shown C.name) (callback_on self.now line) }
     {

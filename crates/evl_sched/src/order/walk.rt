@@ -39,7 +39,7 @@ impl<A: Allocator> Order<A> {
     }
 }
 
-// Who comes next of the ready threads, from this stamp on. All stamps lie below the limit.
+// The next of the ready threads, from this stamp on. All stamps lie below the limit.
 fn next_ready<A: Allocator>(stamps: &Vec<Option<u64>, A>, limit: u64, low: u64) -> Option<Turn>
     requires { AreStamped stamps.now.items limit }
     ensures next { IsNext stamps.now.items limit low result }

@@ -1,4 +1,4 @@
-//! What the scheduler says of all of its threads at once.
+//! All that the scheduler says of all of its threads at once.
 ghost use Rattle.std.specs.Prelude.{◌≡◌, ◌++◌, true, map, IfErr, OnErr, OnOk};
 ghost use Rattle.evl_base.specs.declared.refusal.Refusal.{Refusal};
 ghost use Rattle.evl_sched.specs.Charges.{allowance};

@@ -1,4 +1,4 @@
-//! What two seats of a gate know together.
+//! All that two seats of a gate know together.
 ghost use Rattle.std.specs.Prelude.{◌≡◌};
 ghost use Rattle.evl_words.specs.GateCalls.{AgreeAtGate, IsSeatOf};
 
@@ -18,7 +18,7 @@ impl Together<View<WordEntry<GateCall, GateReply>, GateHold>> for AtGate {
 
 impl<A: Allocator> StaxGate<A> {
     /// Two seats of a gate know of one history: of what they have seen one is the beginning of the other, and the
-    /// longer one has just the entries of each that are its own, in its order. Where both hold the gate, they do so at
+    /// longer one has just the entries of each that are its own, in its order. They hold the gate, where both do, at
     /// one stage. Neither changes (Dovetail: stage exclusion locks).
     pub fn agree(&self, one: &mut StaxSeat, other: &mut StaxSeat)
         requires gate { IsSeatOf one.old self.now × IsSeatOf other.old self.now }

@@ -15,7 +15,7 @@ use std::alloc::Allocator;
 use std::marker::Brand;
 
 impl<A: Allocator> StaxGate<A> {
-    // A step that looks at the word before an exchange. What refuses the seat is an entry.
+    // A step that looks at the word before an exchange. The refusal of the seat is an entry.
     fn look_as<W: Wanting>(&self, seat: &mut StaxSeat, stage: Stage) -> Result<u64, Refusal>
         requires mine { IsSeatOf seat.old self.now }
         requires free { seat.old.view.held.stage ≡ None }
@@ -31,7 +31,7 @@ impl<A: Allocator> StaxGate<A> {
             None => Ok(word),
         }
     }
-    // The exchange of a word that would let the seat in. Where it found another word, that one decides.
+    // The exchange of a word that would let the seat in. Another word that it found decides.
     fn exchange_as<W: Wanting>(
         &self,
         seat: &mut StaxSeat,
@@ -88,8 +88,8 @@ impl<A: Allocator> StaxGate<A> {
         self.look_as::<Brand>(seat, stage)
     }
 
-    /// The second step of `try_lock` by itself: one exchange of the word that `look` gave. Where it finds another word,
-    /// that one decides: `Again`, `Limit`, or `Raced` where it would have let the seat in too.
+    /// The second step of `try_lock` by itself: one exchange of the word that `look` gave. Another word that it finds
+    /// decides: `Again`, `Limit`, or `Raced` where it would have let the seat in too.
     pub fn exchange(
         &self,
         seat: &mut StaxSeat,

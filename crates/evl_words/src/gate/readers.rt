@@ -1,4 +1,4 @@
-//! What a pass and a seat of a gate say.
+//! A pass and a seat of a gate, as they read.
 ghost use Rattle.std.specs.Prelude.{◌≡◌};
 
 use super::{StaxPass, StaxSeat};

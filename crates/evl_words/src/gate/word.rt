@@ -23,7 +23,7 @@ pub struct GateWord {
 }
 
 impl GateWord {
-    /// What a word says.
+    /// All that a word says.
     pub fn of(word: u64) -> GateWord
         ensures { (result.holders ≡ count_in word) × (result.stage ≡ stage_in word) × (result.claimed ≡ mark_in word) }
     {

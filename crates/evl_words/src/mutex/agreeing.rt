@@ -1,4 +1,4 @@
-//! What two seats of a mutex word know together.
+//! All that two seats of a mutex word know together.
 ghost use Rattle.std.specs.Prelude.{◌≡◌};
 ghost use Rattle.evl_words.specs.MutexCalls.{AgreeAtMutex, IsSeatOf};
 

@@ -19,7 +19,7 @@ const NUMBER_MASK: u64 = (1 << 16) - 1;
 //   clauses: claim_on; is_offered_to; offered_word; StaxPass::{gate, seat}; StaxSeat::{of_token, gate, number, held};
 //   MutexSeat::{of_token, mutex, number, depth}; MutexPass::{mutex, seat}; MutexPlace::{new, mutex, number, depth, own,
 //   nest, fits, spend}
-/// What a claim on this word is answered.
+/// The answer to a claim on this word.
 pub fn claim_on(word: u64) -> Claim
     ensures { reply_of result ≡ claim_reply word }
 {

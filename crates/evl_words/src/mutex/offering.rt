@@ -1,4 +1,4 @@
-//! What a seat does of an offer: to ask for it, to accept it, to wait for it no more.
+//! A seat's deeds on an offer: to ask for it, to accept it, to wait for it no more.
 ghost use Rattle.std.specs.Prelude.{◌≡◌, true, IfOk, IfErr, MatchBool};
 ghost use Rattle.evl_base.specs.declared.refusal.Refusal.TheVariants.{Again, Busy};
 ghost use Rattle.evl_words.specs.declared.mutex.MutexRole.TheVariants.{Owner};

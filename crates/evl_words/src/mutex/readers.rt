@@ -1,4 +1,4 @@
-//! What a pass and a seat of a mutex say.
+//! A pass and a seat of a mutex, as they read.
 ghost use Rattle.std.specs.Prelude.{◌≡◌};
 
 use super::{MutexPass, MutexSeat};

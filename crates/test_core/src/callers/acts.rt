@@ -1,4 +1,4 @@
-//! What a caller does in a row, and what it is answered. The clauses say only of which machine the caller is.
+//! The acts of a caller in a row, and the answers to them. The clauses say only of which machine the caller is.
 ghost use Rattle.std.specs.Prelude.{◌≡◌};
 ghost use Rattle.evl_kernel.specs.state.Callbacks.{AnswersByPlan};
 
@@ -64,7 +64,7 @@ pub fn call_of(ask: Ask) -> Call {
     }
 }
 
-/// What a caller does: without waiting, and (the last ones) by the forms that wait.
+/// An act of a caller: without waiting, and (the last ones) by the forms that wait.
 #[derive(Clone, Copy)]
 pub enum Act {
     Call(Ask),
@@ -100,7 +100,7 @@ pub enum Element {
     Written,
 }
 
-/// What it is answered.
+/// The answer to an act.
 #[derive(Clone, Copy, PartialEq)]
 pub enum Told {
     Done,
@@ -146,7 +146,7 @@ pub const SHORT: Told = Told::Refused(Refusal::NoMemory);
 
 pub const UNKNOWN: Told = Told::Refused(Refusal::Unknown);
 
-/// What the kernel's answer says.
+/// The meaning of the kernel's answer.
 pub fn told_by(answer: Result<Reply, Refusal>) -> Told {
     match answer {
         Ok(Reply::Done) => Told::Done,
@@ -247,7 +247,7 @@ fn waits_for<C: Handler, A: Allocator, R: Wait>(
     }
 }
 
-/// What a caller does.
+/// A caller's act.
 pub fn does<C: Handler, A: Allocator, R: Wait>(
     rt: &R,
     machine: &MachineOf<C, A>,

@@ -50,7 +50,7 @@ pub const CONTENDED: [Step; 4] = steps![
     0 ATTACH => DONE, 1 ATTACH => DONE, 0 Act::Lock(FIRST) => PASSED, 1 Act::Begin(FIRST, None) => WAITING,
 ];
 
-/// What the first two are answered once the core is free, which one of them had for one put.
+/// The answers to the first two once the core is free, which one of them had for one put.
 pub const ONCE_FREE: [Step; 5] = steps![
     1 GET => DONE, 1 PUT => DONE, 0 GET => DONE, 0 GET => AGAIN, 1 PEEK => Told::Count(0),
 ];
@@ -70,7 +70,7 @@ pub fn board_with(threads: u16, first: MutexKind) -> Board {
     board
 }
 
-/// What is seen where this is left, if it is looked at, and whether the first thread's wait is to be over then.
+/// All that is seen where this is left, if it is looked at, and whether the first thread's wait is to be over then.
 pub fn seen_of(left: Left) -> Option<(Seen, bool)> {
     let seen = match left {
         Left::Unseen => return None,

@@ -1,5 +1,5 @@
-//! Where a call of the kernel may stop, several under one take, and a wait for an element, at its beginning and at its end; and
-//! the forms that wait, where all goes on.
+//! The places where a call of the kernel may stop, several under one take, and a wait for an element, at its beginning
+//! and at its end; and the forms that wait, where all goes on.
 use super::acts::Act::{
     Begin, CallAtLast, Enter, EnterAtLast, Leave, Lock, LockAtLast, Reserve, Switch, UnlockAtLast,
     UnlockFast, WaitFor,
@@ -71,7 +71,7 @@ fn calls_after_a_reserve(rt: HostRuntime) {
     assert!(rt; is_row(&rt, rt.alloc(), NORMAL, 100, &RESERVED));
 }
 
-// Who has the core is dropped with it: what needs the core stays refused for good, and all else goes on.
+// The caller that has the core is dropped with it: what needs the core stays refused for good, and all else goes on.
 const CORE_LOST: [Phase<'_>; 3] = phases![
     Free (&ATTACHED) Left::Free(2);
     Dropped [] Left::Unseen;
@@ -101,7 +101,7 @@ fn what_a_dropped_caller_has_stays_taken(rt: HostRuntime) {
     assert!(rt; is_row(&rt, rt.alloc(), NORMAL, 100, &CALLER_LOST));
 }
 
-// What a caller refuses by itself as it has a stax and a mutex, and then the mutex alone: by calls of which each takes
+// A caller's own refusals as it has a stax and a mutex, and then the mutex alone: by calls of which each takes
 // the core, and by calls under one take. Nothing of it is entered.
 const OWN: [Step; 9] = steps![
     3 Act::Call(Ask::Claim(FIRST, ThreadId(0))) => INVALID,

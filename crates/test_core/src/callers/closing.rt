@@ -139,7 +139,7 @@ fn is_history(history: &[Entry], count: usize, puts: (usize, usize)) -> bool {
     attached && calls.len() == count && puts_by(calls, 0) == puts.0 && puts_by(calls, 1) == puts.1
 }
 
-/// What is asked of the kernel, once the machine is closed.
+/// A question that is asked of the kernel, once the machine is closed.
 #[derive(Clone, Copy)]
 pub enum End {
     Unasked,

@@ -10,7 +10,7 @@ use evl_machine::{CallerOf, HeldOf, MachineOf};
 use evl_pipeline::Handler;
 use std::alloc::Allocator;
 
-// What a call by the caller that has the kernel is answered, and room that it makes; no other act.
+// The answer to a call by the caller that has the kernel, and room that it makes; no other act.
 fn applies_one<C: Handler, A: Allocator>(held: &mut HeldOf<'_, C, A>, act: Act) -> Told
     requires { AnswersByPlan C.declared C.plan held.old.caller.machine.first.callbacks }
     ensures { held.new.caller ≡ held.old.caller }
@@ -38,7 +38,7 @@ fn applies_all<C: Handler, A: Allocator>(held: &mut HeldOf<'_, C, A>, steps: &[S
     true
 }
 
-// What is seen by who has the kernel.
+// All that is seen by the one that has the kernel.
 fn look_by<C: Handler, A: Allocator>(held: &mut HeldOf<'_, C, A>) -> Look
     ensures { held.new.caller ≡ held.old.caller }
 {
@@ -55,7 +55,7 @@ fn look_by<C: Handler, A: Allocator>(held: &mut HeldOf<'_, C, A>) -> Look
     }
 }
 
-// What a caller sees that has the kernel, after calls that are answered as it is wanted; then it gives the kernel back.
+// All that a caller that has the kernel sees, after calls that are answered as wanted; then it gives the kernel back.
 fn looked<C: Handler, A: Allocator>(
     held: HeldOf<'_, C, A>,
     steps: &[Step],
@@ -70,8 +70,8 @@ fn looked<C: Handler, A: Allocator>(
     (if told { Some(look) } else { None }, holder)
 }
 
-/// What this caller sees after its own calls, all under one take; none where one is answered otherwise than is wanted,
-/// or the core is taken.
+/// All that this caller sees after its own calls, all under one take; none where one is answered otherwise than
+/// wanted, or the core is taken.
 pub fn looks<C: Handler, A: Allocator>(
     machine: &MachineOf<C, A>,
     holder: CallerOf<C, A>,

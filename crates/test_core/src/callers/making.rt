@@ -21,7 +21,7 @@ impl Making for Gate {
     }
 }
 
-// What was taken before a refusal goes back, here and below.
+// All that was taken before a refusal goes back, here and below.
 #[test]
 fn each_request_for_a_gate_is_refused_once(rt: HostRuntime) {
     assert!(rt; requests::<Gate>(rt.alloc(), ENOUGH) == Some(3));

@@ -18,7 +18,7 @@ pub struct Passes {
     mutexes: Vec<MutexPass>,
 }
 
-// Where the first pass of a mutex lies.
+// The place of the first pass of a mutex.
 fn place_of_mutex(passes: &[MutexPass], mutex: MutexId) -> Option<usize>
     ensures { IfSome result (λ place. place < length passes.now) }
 {
@@ -30,7 +30,7 @@ fn place_of_mutex(passes: &[MutexPass], mutex: MutexId) -> Option<usize>
     None
 }
 
-// Where the first stax pass of the caller of this number lies.
+// The place of the first stax pass of the caller of this number.
 fn place_of_caller(passes: &[StaxPass], number: u16) -> Option<usize>
     ensures { IfSome result (λ place. place < length passes.now) }
 {

@@ -16,7 +16,7 @@ use std::sync::Wait;
 /// A step: by which caller, what it does, and what it is answered.
 pub type Step = (usize, Act, Told);
 
-/// What stays still while the steps of a phase are made.
+/// All that stays still while the steps of a phase are made.
 #[derive(Clone, Copy, PartialEq)]
 pub enum Side {
     // Nothing.
@@ -35,7 +35,7 @@ pub enum Side {
     Lost,
 }
 
-/// What is seen: how many entries, what is in the word of the first mutex, and what the kernel records of it.
+/// All that is seen: how many entries, what is in the word of the first mutex, and what the kernel records of it.
 #[derive(Clone, Copy, PartialEq)]
 pub struct Seen {
     pub entries: usize,
@@ -44,14 +44,14 @@ pub struct Seen {
     pub waiters: usize,
 }
 
-/// What a caller sees that has the core, and whether the first thread's wait is over and unfinished.
+/// All that a caller sees that has the core, and whether the first thread's wait is over and unfinished.
 #[derive(Clone, Copy)]
 pub struct Look {
     pub seen: Seen,
     pub is_over: bool,
 }
 
-/// What is left: how many entries, and who has the first mutex.
+/// All that is left: how many entries, and who has the first mutex.
 #[derive(Clone, Copy)]
 pub enum Left {
     // It isn't looked at.
@@ -91,7 +91,7 @@ macro_rules! listed {
 pub(crate) use listed;
 pub(crate) use phases;
 
-/// What the caller at this place is answered.
+/// The answer to the caller at this place.
 pub fn answer<C: Handler, A: Allocator, R: Wait>(
     rt: &R,
     machine: &MachineOf<C, A>,
@@ -196,7 +196,7 @@ fn answers_beside<C: Handler, A: Allocator, R: Wait>(
     told && back
 }
 
-// What the last caller sees, where its own calls, all under one take of the core, are answered as it is wanted.
+// All that the last caller sees, where its own calls, all under one take of the core, are answered as it is wanted.
 fn last_looks<C: Handler, A: Allocator>(
     machine: &MachineOf<C, A>,
     callers: &mut Vec<CallerOf<C, A>, A>,

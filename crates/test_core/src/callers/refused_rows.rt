@@ -22,7 +22,7 @@ use std::sync::Wait;
 // More requests than the row makes.
 const MANY: u64 = 200;
 
-// Where the refused request was met.
+// The site where the refused request was met.
 #[derive(Clone, Copy, PartialEq, Eq)]
 enum Site {
     Opening,
@@ -88,7 +88,7 @@ fn refusals<C: Handler, A: Allocator, R: Wait>(
     Some(count)
 }
 
-// Where a machine's calls met the refusal, if what is left is wanted; a row meets it once at most.
+// The site where a machine's calls met the refusal, if what is left is wanted; a row meets it once at most.
 fn met_by_calls<C: Handler, A: Allocator, R: Wait>(
     rt: &R,
     boxes: Global,
@@ -109,7 +109,7 @@ fn met_by_calls<C: Handler, A: Allocator, R: Wait>(
     }
 }
 
-// Where the row on a new machine met it.
+// The site where the row on a new machine met it.
 fn met_by_row<C: Handler, A: Allocator + Clone, R: Wait>(
     rt: &R,
     boxes: Global,
@@ -128,7 +128,8 @@ fn met_by_row<C: Handler, A: Allocator + Clone, R: Wait>(
     }
 }
 
-// Where the row meets the refusal of this memory; none where something stays taken. The last of its three callers looks.
+// The site where the row meets the refusal of this memory; none where something stays taken. The last of its three
+// callers looks.
 fn met_over<R: Wait>(rt: &R, boxes: Global, memory: &Refusing<LocalHeap>) -> Option<Site> {
     let bank: Vec<Callback, &Refusing<LocalHeap>> = Vec::new(memory);
     let met = met_by_row(rt, boxes, memory, board_with(3, NORMAL), bank)?;
@@ -139,7 +140,7 @@ fn met_over<R: Wait>(rt: &R, boxes: Global, memory: &Refusing<LocalHeap>) -> Opt
     }
 }
 
-// Where the row meets the refusal of memory that refuses the request after so many.
+// The site where the row meets the refusal of memory that refuses the request after so many.
 fn met<R: Wait>(rt: &R, alloc: Global, granted: u64) -> Option<Site> {
     match LocalHeap::new(alloc, ENOUGH) {
         Ok(heap) => met_over(rt, alloc, &Refusing::after(heap, granted)),

@@ -1,5 +1,5 @@
-//! Where the beginning of a lock may stop, its end, once the mutex was handed on or the deadline came, and its unlocking, at
-//! which the pass comes back.
+//! The places where the beginning of a lock may stop, its end, once the mutex was handed on or the deadline came, and
+//! its unlocking, at which the pass comes back.
 use super::acts::Act::{Begin, Finish, Lock, LockAtLast, Lose, Unlock, UnlockAtLast, UnlockFast};
 use super::acts::{
     AGAIN, Act, Ask, BUSY, CORE_BUSY, DEADLOCK, DONE, FULL, PASSED, SHORT, TIMED_OUT, WAITING,

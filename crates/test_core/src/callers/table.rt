@@ -1,4 +1,4 @@
-//! What the kernel records of a mutex, beside its word, while callers lock it and hand it on.
+//! All that the kernel records of a mutex, beside its word, while callers lock it and hand it on.
 use super::acts::Act::{Begin, Finish, Lock, Unlock, UnlockFast};
 use super::acts::{Act, Ask, BUSY, DONE, PASSED, Told, WAITING};
 use super::boards::{FIRST, NORMAL};

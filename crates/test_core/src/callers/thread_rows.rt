@@ -15,7 +15,7 @@ use std::alloc::{Allocator, Global};
 use std::sync::Wait;
 use std::thread::Threads;
 
-/// What two host threads do, and each one's number of answers, between steps on one; the first takes all passes.
+/// The turns of two host threads, and each one's number of answers, between steps on one; the first takes all passes.
 #[derive(Clone, Copy)]
 pub struct ThreadRow<'a> {
     pub before: &'a [Step],
@@ -25,7 +25,7 @@ pub struct ThreadRow<'a> {
     pub end: End,
 }
 
-// What both callers know together: of the kernel, of each mutex's word and of each stax's gate.
+// All that both callers know together: of the kernel, of each mutex's word and of each stax's gate.
 fn meet<C: Handler, A: Allocator>(
     machine: &MachineOf<C, A>,
     one: &mut CallerOf<C, A>,

@@ -17,7 +17,7 @@ use std::thread::Threads;
 // The most turns that a host thread waits for another one's sign.
 const MOST_TURNS: u32 = 1_000_000_000;
 
-/// Where each of two host threads shows the other how far it is.
+/// The place where each of two host threads shows the other how far it is.
 #[derive(Drop)]
 pub struct Signs {
     pub taken: AtomicBool,
@@ -44,7 +44,7 @@ fn wait_for(sign: &AtomicBool) -> bool {
     false
 }
 
-/// What a host thread does with its caller.
+/// The deeds of a host thread with its caller.
 #[derive(Clone, Copy)]
 pub enum Task {
     // Takes a turn so often.
@@ -70,7 +70,7 @@ pub enum Turn {
     TriesAll,
 }
 
-// What is done in a turn, and answered.
+// The acts of a turn, and their answers.
 fn acts_of(turn: Turn) -> &'static [(Act, Told)] {
     match turn {
         Turn::Puts => &[(PUT_AT_LAST, DONE)],
@@ -192,7 +192,7 @@ fn takes_turn_beside<C: Handler, A: Allocator, R: Wait>(
     (caller, u32::from(taken) + u32::from(told))
 }
 
-// What a caller does on its host thread.
+// A caller's deeds on its host thread.
 fn works<C: Handler, A: Allocator, R: Wait>(
     rt: &R,
     machine: &MachineOf<C, A>,
@@ -212,7 +212,7 @@ fn works<C: Handler, A: Allocator, R: Wait>(
     }
 }
 
-/// What goes to a host thread and works there on what all threads share.
+/// All that goes to a host thread and works there on what all threads share.
 pub trait Worker<M>: Drop {
     ghost fits: { Self → M → Type 0 };
 

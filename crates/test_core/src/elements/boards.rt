@@ -10,7 +10,7 @@ fn is_fit(board: Board) -> bool {
     board.check().is_ok()
 }
 
-// What a board of one thread has beside it, or how many threads one has that has nothing else.
+// All that a board of one thread has beside it, or how many threads one has that has nothing else.
 #[derive(Clone, Copy)]
 enum Part {
     Threads(u16),

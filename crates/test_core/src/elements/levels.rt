@@ -94,7 +94,7 @@ fn keeps_neighbours<L: Level>(set: &mut L, limit: u16) -> bool
     all
 }
 
-/// What is asked of an empty set: that it keeps its numbers, or does as a list over random calls.
+/// All that is asked of an empty set: that it keeps its numbers, or does as a list over random calls.
 #[derive(Clone, Copy)]
 pub(crate) enum Asked {
     Keeps,
@@ -180,7 +180,7 @@ fn a_hundred_and_twenty_eight_words(rt: HostRuntime) {
     assert!(rt; three_levels(rt.alloc(), Asked::Keeps) == Ok(true));
 }
 
-// Where the words of either level get no memory, all that was taken goes back.
+// All that was taken goes back where the words of either level get no memory.
 #[test]
 fn a_short_heap_is_refused(rt: HostRuntime) {
     for size in [64, 256] {

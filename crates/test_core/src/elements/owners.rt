@@ -19,7 +19,7 @@ const NORMAL: [MutexKind; 2] = [MutexKind::Normal, MutexKind::Normal];
 
 const KINDS: [MutexKind; 2] = [MutexKind::Ceiling(50), MutexKind::Normal];
 
-// What is done, and what it is answered.
+// All that is done, and its answer.
 #[derive(Clone, Copy)]
 enum Step {
     SetBase(ThreadId, u16),

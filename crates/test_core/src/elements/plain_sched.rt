@@ -37,7 +37,7 @@ fn base_of(policy: Policy) -> u16 {
 }
 
 impl Plain {
-    /// Of so many threads, and of a group for each whole budget.
+    /// A scheduler of so many threads, and of a group for each whole budget.
     pub fn new(alloc: Global, threads: u16, budgets: &[u64]) -> Result<Plain, AllocError> {
         let mut both = Vec::new(alloc);
         for budget in budgets {
@@ -95,7 +95,7 @@ impl Plain {
         }
     }
 
-    /// Who is picked.
+    /// The thread that is picked.
     pub fn pick(&self) -> Option<u16> {
         let mut best = None;
         let mut most = 0;
@@ -186,7 +186,7 @@ impl Plain {
         self.give(thread, Some(rank));
     }
 
-    /// Who is picked is charged.
+    /// The thread that is picked is charged.
     pub fn charge(&mut self, delta: u64) {
         if let Some(thread) = self.pick() {
             if let Some(seat) = self.seat(thread) {

@@ -43,7 +43,7 @@ impl Plain {
     }
 }
 
-// What is read from a cross-buffer.
+// All that is read from a cross-buffer.
 fn read_from<A: Allocator>(xbuf: &mut XbufOf<A>, len: u16) -> Option<Bytes> {
     match xbuf.try_read(Stage::Oob, Way::In, len) {
         Ok((bytes, _)) => Some(bytes),

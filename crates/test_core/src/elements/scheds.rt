@@ -16,7 +16,7 @@ const RR: Policy = Policy::Rr {
 
 const QUOTA: Policy = Policy::Quota { group: 0, prio: 5 };
 
-/// What is done, and what it is answered.
+/// All that is done, and its answer.
 #[derive(Clone, Copy)]
 pub(crate) enum Step {
     Attach(ThreadId, Policy, Result<(), Refusal>),
@@ -87,7 +87,7 @@ fn are_told<A: Allocator>(sched: &mut SchedOf<A>, steps: &[Step]) -> bool {
     true
 }
 
-// What is asked of a new scheduler: that each step is answered so, or that it is full and takes no more of its
+// All that is asked of a new scheduler: that each step is answered so, or that it is full and takes no more of its
 // heap.
 #[derive(Clone, Copy)]
 enum Asked<'a> {
@@ -143,7 +143,7 @@ fn a_blocked_thread_comes_back(rt: HostRuntime) {
     assert!(rt; is_row(rt.alloc(), &[10], &BLOCKED));
 }
 
-// What is answered once 256 threads are attached.
+// The answers once 256 threads are attached.
 const FULL: [Step; 3] = calls![
     Attach(ThreadId(256), RR, Err(Refusal::Unknown)); Charge(100); Pick(ONE);
 ];

@@ -19,7 +19,7 @@ use std::thread::Threads;
 // More requests than a row makes.
 const MANY: u64 = 100;
 
-// Where the refused request was met.
+// The site where the refused request was met.
 #[derive(Clone, Copy, PartialEq, Eq)]
 enum Site {
     Opening,
@@ -28,7 +28,7 @@ enum Site {
     Nowhere,
 }
 
-// What is asked of a kernel, and may be refused for memory: a step's call, or room for some calls.
+// All that is asked of a kernel, and may be refused for memory: a step's call, or room for some calls.
 #[derive(Drop)]
 enum Asked {
     Call(Step),
@@ -145,8 +145,8 @@ fn is_traced<C, A: Allocator>(alloc: Global, kernel: &KernelOf<C, A>, row: &Row)
     }
 }
 
-// Where a run met the refusal, by whether its room and how many of its calls were refused; none where a call was
-// refused in spite of its room.
+// The site where a run met the refusal, by whether its room and how many of its calls were refused; none where a call
+// was refused in spite of its room.
 fn site_of(reserves: bool, room: bool, calls: u32) -> Option<Site> {
     match (room, calls) {
         (false, 0) => Some(Site::Nowhere),
@@ -156,8 +156,8 @@ fn site_of(reserves: bool, room: bool, calls: u32) -> Option<Site> {
     }
 }
 
-// Where these steps of a row met the refusal, which are made once more where memory was refused; none where something
-// else came of them than the row's trace.
+// The site where these steps of a row met the refusal, which are made once more where memory was refused; none where
+// something else came of them than the row's trace.
 fn met_by_steps<C: Handler, A: Allocator>(
     alloc: Global,
     kernel: &mut KernelOf<C, A>,
@@ -177,7 +177,7 @@ fn met_by_steps<C: Handler, A: Allocator>(
     }
 }
 
-// Where the calls of a row did.
+// The site where the calls of a row did.
 fn met_by_calls<C: Handler, A: Allocator>(
     alloc: Global,
     kernel: &mut KernelOf<C, A>,
@@ -192,7 +192,7 @@ fn met_by_calls<C: Handler, A: Allocator>(
     }
 }
 
-// Where a row on a new kernel met the refusal.
+// The site where a row on a new kernel met the refusal.
 fn met_by_row<C: Handler, A: Allocator + Clone>(
     alloc: Global,
     memory: A,
@@ -247,7 +247,7 @@ impl<'a> BankUser for Run<'a> {
     }
 }
 
-// Where a row meets the refusal of this memory; none where it is met by nobody, or something stays taken.
+// The site where a row meets the refusal of this memory; none where it is met by nobody, or something stays taken.
 fn met_over<R: Threads + Wait + Sync>(
     rt: &R,
     alloc: Global,
@@ -267,7 +267,7 @@ fn met_over<R: Threads + Wait + Sync>(
     }
 }
 
-// Where a row meets the refusal of memory that refuses the request after so many.
+// The site where a row meets the refusal of memory that refuses the request after so many.
 fn met<R: Threads + Wait + Sync>(
     rt: &R,
     alloc: Global,

@@ -1,4 +1,4 @@
-//! What the readers of a kernel report, as one list of numbers.
+//! The reports of a kernel's readers, as one list of numbers.
 use evl_base::{LineNo, MutexId, Stage, ThreadId, TimerId};
 use evl_clock::TimerState;
 use evl_kernel::KernelOf;
@@ -10,7 +10,7 @@ const LINE_NUMBERS: u16 = 4097;
 
 const NUMBERS: u16 = 257;
 
-// What is reported of the whole.
+// The report of the whole.
 fn whole<C, A: Allocator>(kernel: &KernelOf<C, A>) -> [u64; 4] {
     [
         kernel.history().len() as u64,
@@ -20,7 +20,7 @@ fn whole<C, A: Allocator>(kernel: &KernelOf<C, A>) -> [u64; 4] {
     ]
 }
 
-// What is reported of a line.
+// The report of a line.
 fn of_line<C, A: Allocator>(kernel: &KernelOf<C, A>, line: LineNo) -> [u64; 5] {
     [
         u64::from(kernel.pending(Stage::Inband, line)),
@@ -31,7 +31,7 @@ fn of_line<C, A: Allocator>(kernel: &KernelOf<C, A>, line: LineNo) -> [u64; 5] {
     ]
 }
 
-// What is reported of a timer.
+// The report of a timer.
 fn of_timer<C, A: Allocator>(kernel: &KernelOf<C, A>, timer: TimerId) -> [u64; 3] {
     match kernel.timer(timer) {
         None => [0, 0, 0],
@@ -41,7 +41,7 @@ fn of_timer<C, A: Allocator>(kernel: &KernelOf<C, A>, timer: TimerId) -> [u64; 3
     }
 }
 
-// What is reported of a thread.
+// The report of a thread.
 fn of_thread<C, A: Allocator>(kernel: &KernelOf<C, A>, thread: ThreadId) -> [u64; 4] {
     [
         u64::from(kernel.stage(thread) == Stage::Oob),
@@ -51,7 +51,7 @@ fn of_thread<C, A: Allocator>(kernel: &KernelOf<C, A>, thread: ThreadId) -> [u64
     ]
 }
 
-// What is reported of a mutex: who owns it, from 1, and how many wait.
+// The report of a mutex: who owns it, from 1, and how many wait.
 fn of_mutex<C, A: Allocator>(kernel: &KernelOf<C, A>, mutex: MutexId) -> [u64; 2] {
     let owner = match kernel.owner(mutex) {
         None => 0,
@@ -60,7 +60,7 @@ fn of_mutex<C, A: Allocator>(kernel: &KernelOf<C, A>, mutex: MutexId) -> [u64; 2
     [owner, kernel.waiters(mutex) as u64]
 }
 
-// What is reported of the timer, the thread and the mutex of a number comes to the list.
+// The report of the timer, the thread and the mutex of a number comes to the list.
 fn add<C, A: Allocator>(
     told: &mut Vec<u64>,
     kernel: &KernelOf<C, A>,
@@ -71,7 +71,7 @@ fn add<C, A: Allocator>(
     told.extend_from_slice(of_mutex(kernel, MutexId(number)).as_slice())
 }
 
-// What is reported of each number and of each line comes to the list.
+// The report of each number and of each line comes to the list.
 fn add_all<C, A: Allocator>(
     told: &mut Vec<u64>,
     kernel: &KernelOf<C, A>,
@@ -86,7 +86,7 @@ fn add_all<C, A: Allocator>(
     Ok(())
 }
 
-/// What all readers report of each line, timer, thread and mutex that there can be.
+/// All that the readers report of each line, timer, thread and mutex that there can be.
 pub(crate) fn shown<C, A: Allocator>(
     alloc: Global,
     kernel: &KernelOf<C, A>,

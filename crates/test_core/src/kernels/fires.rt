@@ -21,7 +21,7 @@ const STAGE: Stage = Stage::Oob;
 
 const TAG: u32 = 40;
 
-/// What a handler was given: how many fires, and the last one.
+/// All that a handler was given: how many fires, and the last one.
 #[derive(Clone, Copy)]
 pub(crate) struct Given {
     calls: u64,

@@ -15,7 +15,7 @@ use evl_pipeline::{Handler, PipelineOf};
 use std::alloc::{Allocator, Global};
 use std::cell::Cell;
 
-/// What is asked of a kernel, each explained at the function that has its name below.
+/// All that is asked of a kernel, each explained at the function that has its name below.
 #[derive(Clone, Copy)]
 pub(crate) enum Row<'a> {
     ThreePlaces,
@@ -25,11 +25,11 @@ pub(crate) enum Row<'a> {
     OneThread,
     MostPlays,
     UsedTwice,
-    /// Where the fires come to that callback 0 is given.
+    /// The place of the fires that callback 0 is given.
     TwoFires(&'a Cell<Given>),
 }
 
-// What the kernel comes to.
+// The kernel's outcome.
 fn comes_to<C: Handler, A: Allocator>(kernel: &mut KernelOf<C, A>, row: Row<'_>) -> bool
     requires { AnswersByPlan C.declared C.plan kernel.old.callbacks }
 {
@@ -96,7 +96,7 @@ pub(crate) fn leave<C: Drop, A: Allocator>(kernel: KernelOf<C, A>) {
     drop(kernel);
 }
 
-/// What is asked of a pipeline.
+/// All that is asked of a pipeline.
 pub(crate) trait PipelineRow<C: Handler>: Drop {
     /// Whether the pipeline comes to what is wanted.
     fn ask<A: Allocator>(self, pipeline: &mut PipelineOf<C, A>) -> bool;

@@ -16,7 +16,7 @@ fn made(alloc: Global, limit: u16, seats: u16) -> Result<(StaxGate, Vec<StaxSeat
     }
 }
 
-// What a seat does. Each seat's pass lies in a place of its own.
+// An act of a seat. Each seat's pass lies in a place of its own.
 #[derive(Clone, Copy)]
 enum Act {
     Enter(Stage),
@@ -33,7 +33,7 @@ enum Act {
     Race(Stage),
 }
 
-// What it is answered.
+// The answer to it.
 #[derive(Clone, Copy, PartialEq)]
 enum Told {
     Entered,
@@ -88,7 +88,7 @@ fn shows(pass: &Option<StaxPass>) -> Told {
     }
 }
 
-// What one seat is answered, with this pass.
+// The answer to one seat, with this pass.
 fn one_step(gate: &StaxGate, seat: &mut StaxSeat, pass: &mut Option<StaxPass>, act: Act) -> Told
     requires { IsSeatOf seat.old gate.now }
     ensures { IsSameSeat seat.old seat.new }
@@ -114,7 +114,7 @@ fn one_step(gate: &StaxGate, seat: &mut StaxSeat, pass: &mut Option<StaxPass>, a
     }
 }
 
-// What the first seat's exchange is answered where the second one entered after the first one's load.
+// The answer to the first seat's exchange where the second one entered after the first one's load.
 fn exchanges(gate: &StaxGate, first: &mut StaxSeat, second: &mut StaxSeat, stage: Stage) -> Told
     requires mine { IsSeatOf first.old gate.now × IsSeatOf second.old gate.now }
     ensures first { IsSameSeat first.old first.new }
@@ -142,7 +142,7 @@ fn comes_back(gate: &StaxGate, seats: &mut Vec<StaxSeat>, seat: StaxSeat) -> boo
     seats.push(seat).is_ok()
 }
 
-// What the seat of this number is answered, which the last one races.
+// The answer to the seat of this number, which the last one races.
 fn races(gate: &StaxGate, seats: &mut Vec<StaxSeat>, number: usize, stage: Stage) -> Told
     requires mine { All (λ seat. IsSeatOf seat gate.now) seats.old.items }
     ensures mine { All (λ seat. IsSeatOf seat gate.now) seats.new.items }
@@ -158,7 +158,7 @@ fn races(gate: &StaxGate, seats: &mut Vec<StaxSeat>, number: usize, stage: Stage
     if back { told } else { Told::Nothing }
 }
 
-// What the seat of this number is answered.
+// The answer to the seat of this number.
 fn answer(
     gate: &StaxGate,
     seats: &mut Vec<StaxSeat>,

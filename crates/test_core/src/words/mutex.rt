@@ -15,7 +15,7 @@ fn made(alloc: Global, recursive: bool, seats: u16) -> Result<(MutexWord, Vec<Mu
     }
 }
 
-// What a seat does. The pass that it spends is the one that came last.
+// An act of a seat. The pass that it spends is the one that came last.
 #[derive(Clone, Copy)]
 enum Act {
     Try,
@@ -28,7 +28,7 @@ enum Act {
     SeeOffer,
 }
 
-// What it is answered.
+// The answer to it.
 #[derive(Clone, Copy, PartialEq)]
 enum Told {
     Passed,
@@ -113,7 +113,7 @@ fn free(word: &MutexWord, seat: &mut MutexSeat, pass: Option<MutexPass>) -> Told
     }
 }
 
-// What one seat of so many is answered.
+// The answer to one seat of so many.
 fn one_step(
     word: &MutexWord,
     count: u16,
@@ -140,7 +140,7 @@ fn one_step(
     }
 }
 
-// Where the seat of this number is.
+// The place of the seat of this number.
 fn place_of(seats: &[MutexSeat], number: u16) -> Option<usize>
     ensures { IfSome result (λ place. place < length seats.now) }
 {
@@ -152,7 +152,7 @@ fn place_of(seats: &[MutexSeat], number: u16) -> Option<usize>
     None
 }
 
-// What the seat of this number is answered.
+// The answer to the seat of this number.
 fn answer(
     word: &MutexWord,
     count: u16,
