@@ -1,4 +1,4 @@
--- What is cut off a list at a place that may lie after its end.
+-- The part that is cut off a list at a place that may lie after its end.
 use Rattle.std.proofs.Common.{arith, ◌≡◌, ◌≤◌, ℕ, zero, suc, List, [], ◌∷◌, drop, length, take, refl, ap}
 
 pub take_short : {X : Type 0} (xs : List X) (n : ℕ) → length xs ≤ n → take n xs ≡ xs

@@ -1,4 +1,4 @@
--- What a picture shows of each mark, and of the waits that go on.
+-- All that a picture shows of each mark, and of the waits that go on.
 use Rattle.std.specs.Prelude.{ℕ, zero, suc, ◌==◌, Bool, true, false, List, length, map, slice_get, codes, if◌then◌else◌, Option, Some, None, option_and_then, is_some}
 use Rattle.std.specs.List.{fold}
 use Rattle.lab_drawing.specs.Lanes.{is_lane}

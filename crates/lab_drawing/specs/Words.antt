@@ -1,4 +1,4 @@
--- What is after the answer in a caller's line: the state of a stax, of a mutex's word or of the core.
+-- The words after the answer in a caller's line: the state of a stax, of a mutex's word or of the core.
 use Rattle.std.specs.Prelude.{ℕ, List, [], ◌∷◌, codes, bytes_eq, if◌then◌else◌, Option, Some, None, option_and_then, option_map}
 use Rattle.std.specs.Option.{option_map_or, option_or}
 use Rattle.evl_scenario.specs.Values.{past_front}

@@ -1,4 +1,4 @@
-//! What is shown beside marks, in a picture that goes down.
+//! The numbers that are shown beside marks, in a picture that goes down.
 ghost use Rattle.std.specs.Prelude.{◌≡◌};
 ghost use Rattle.lab_drawing.specs.Events.{line_at};
 ghost use Rattle.lab_drawing.specs.Pictures as pictures;
@@ -27,7 +27,7 @@ fn line_told(line: &str) -> Option<u64>
     }
 }
 
-// What is shown beside a mark: of a play its count, of a spurious event the interrupt line.
+// The number that is shown beside a mark: of a play its count, of a spurious event the interrupt line.
 fn told_beside(mark: &Mark<'_>) -> Option<u64>
     ensures { result ≡ told_beside mark.now.shape mark.now.line.now }
 {

@@ -1,4 +1,4 @@
-//! What is drawn.
+//! The things that are drawn.
 ghost use Rattle.std.specs.Prelude.{◌≡◌};
 ghost use Rattle.lab_drawing.specs.Pictures as pictures;
 
@@ -6,7 +6,7 @@ use crate::frames::{Goes, Shows};
 use crate::marks::Mark;
 use crate::moments::Moment;
 
-/// What is drawn: a page, from 0, of marks, with the machine's state after the entry of each as far as that is known,
+/// All that is drawn: a page, from 0, of marks, with the machine's state after the entry of each as far as it is known,
 /// what is shown of that, and which way the marks go.
 #[derive(Drop)]
 pub struct Drawn<'a, 'b> {
@@ -17,7 +17,7 @@ pub struct Drawn<'a, 'b> {
     pub page: usize,
 }
 
-/// What is shown of a machine's state, by the moments that are known.
+/// The part that is shown of a machine's state, by the moments that are known.
 pub fn shown_with(moments: &[Moment]) -> Shows
     ensures { result ≡ pictures.shown_with moments.now }
 {

@@ -11,7 +11,7 @@ use evl_base::Stage;
 use lab_traces::{EntryLine, Says};
 use std::alloc::{AllocError, Global};
 
-/// What a call does on an interrupt line, by its lane.
+/// The effect of a call on an interrupt line, by its lane.
 #[derive(Clone, Copy, PartialEq, Eq)]
 pub enum OnLines {
     /// It installs a callback there.
@@ -50,7 +50,7 @@ pub fn has_callback(lines: &[Lane], lane: Lane) -> bool
     lines.iter().any(|line| is_lane(lane, *line))
 }
 
-// Where an interrupt of a line goes: to the out-of-band stage first.
+// The lane that an interrupt of a line goes to: the out-of-band stage first.
 fn target(lines: &[Lane], number: u16) -> Lane
     ensures { result ≡ events.target lines.now number }
 {
@@ -89,35 +89,35 @@ fn lane_called(call: &str) -> Option<Lane>
     Some(lane_on(stage, number))
 }
 
-// What `request` does on lines.
+// The effect of `request` on lines.
 fn requests(call: &str) -> Option<OnLines>
     ensures { result ≡ option_map Requests (events.lane_called call.now) }
 {
     Some(OnLines::Requests(lane_called(call)?))
 }
 
-// What `free` does on lines.
+// The effect of `free` on lines.
 fn frees(call: &str) -> Option<OnLines>
     ensures { result ≡ option_map Frees (events.lane_called call.now) }
 {
     Some(OnLines::Frees(lane_called(call)?))
 }
 
-// What `post` does on lines.
+// The effect of `post` on lines.
 fn posts(call: &str) -> Option<OnLines>
     ensures { result ≡ option_map Posts (events.lane_called call.now) }
 {
     Some(OnLines::Posts(lane_called(call)?))
 }
 
-// What `arrive` does on lines, where these have a callback.
+// The effect of `arrive` on lines, where these have a callback.
 fn arrives(lines: &[Lane], call: &str) -> Option<OnLines>
     ensures { result ≡ option_map (λ number. Posts (events.target lines.now number)) (events.line_at call.now) }
 {
     Some(OnLines::Posts(target(lines, line_at(call)?)))
 }
 
-// What a call that makes an event does on lines, where these have a callback.
+// The effect of a call that makes an event on lines, where these have a callback.
 fn events_of(lines: &[Lane], call: &str) -> Option<OnLines>
     ensures { result ≡ events.events_of lines.now call.now }
 {
@@ -130,7 +130,7 @@ fn events_of(lines: &[Lane], call: &str) -> Option<OnLines>
     }
 }
 
-// What a call does on lines, where these have a callback.
+// The effect of a call on lines, where these have a callback.
 fn called_on(lines: &[Lane], call: &str) -> Option<OnLines>
     ensures { result ≡ events.called_on lines.now call.now }
 {
@@ -143,7 +143,7 @@ fn called_on(lines: &[Lane], call: &str) -> Option<OnLines>
     }
 }
 
-// What an entry does on lines: it was answered `done`.
+// The effect of an entry on lines: it was answered `done`.
 fn entry_on(lines: &[Lane], entry: &EntryLine<'_>) -> Option<OnLines>
     ensures { result ≡ events.entry_on lines.now entry.now }
 {
@@ -154,7 +154,7 @@ fn entry_on(lines: &[Lane], entry: &EntryLine<'_>) -> Option<OnLines>
     }
 }
 
-/// What the call of a line of a trace does on interrupt lines, where these have a callback.
+/// The effect of the call of a line of a trace on interrupt lines, where these have a callback.
 pub fn said_on(lines: &[Lane], says: &Says<'_>) -> Option<OnLines>
     ensures { result ≡ events.said_on lines.now says.now }
 {

@@ -68,7 +68,7 @@ pub enum Goes {
     Down,
 }
 
-/// What a picture shows of lanes' states.
+/// The part of lanes' states that a picture shows.
 #[derive(Clone, Copy, PartialEq, Eq)]
 pub enum Shows {
     /// The waits that the answers report.
@@ -201,7 +201,7 @@ impl Sheet {
         }
     }
 
-    // Where the band of a column begins.
+    // The place at which the band of a column begins.
     fn band_top(&self, column: usize) -> usize {
         steps(self.top(), self.height(), column / COLUMNS)
     }
@@ -213,7 +213,7 @@ impl Sheet {
         matches!(self.shows, Shows::Words | Shows::Callers)
     }
 
-    /// Where a number that is no rank is: left of the tie, where it is the tied call that changes the number.
+    /// The place of a number that is no rank: left of the tie, where it is the tied call that changes the number.
     pub fn number_place(&self) -> &'static str {
         word_place(self.goes, self.shows_waits())
     }
@@ -225,12 +225,12 @@ impl Sheet {
         index_of(self.lanes.as_slice(), lane).is_some()
     }
 
-    /// Where the dates of the band of a column are, from the top.
+    /// The place of the dates of the band of a column, from the top.
     pub fn date_row(&self, column: usize) -> usize {
         self.band_top(column).saturating_add(DATES)
     }
 
-    /// Where a column is, from the left.
+    /// A column's place, from the left.
     pub fn across(&self, column: usize) -> usize {
         steps(LEFT + COLUMN / 2, COLUMN, column % COLUMNS)
     }
@@ -240,7 +240,7 @@ impl Sheet {
         index_of(self.lanes.as_slice(), lane).unwrap_or(0)
     }
 
-    /// Where a lane is in the band of a column, from the top.
+    /// A lane's place in the band of a column, from the top.
     pub fn down(&self, column: usize, lane: Lane) -> usize {
         let first = self.room(DATES).saturating_add(LANE);
         let top = self.band_top(column).saturating_add(first);
@@ -253,24 +253,24 @@ impl Sheet {
         foot.saturating_sub(self.down(column, lane))
     }
 
-    /// Where a row is in a picture that goes down, from the top.
+    /// A row's place in a picture that goes down, from the top.
     pub fn row_down(&self, row: usize) -> usize {
         let first = self.band_top(row).saturating_add(NAMES + ROW / 2);
         steps(first, ROW, row % COLUMNS)
     }
 
-    // Where the lines begin in a picture that goes down, from the left.
+    // The place at which the lines begin in a picture that goes down, from the left.
     fn lines_left(&self) -> usize {
         steps(self.dated, LANE_DOWN, self.lanes.len())
     }
 
-    // Where a lane is in a picture that goes down, from the left.
+    // A lane's place in a picture that goes down, from the left.
     fn lane_left(&self, lane: Lane) -> usize {
         let first = self.dated.saturating_add(IN_LANE);
         steps(first, LANE_DOWN, self.place(lane))
     }
 
-    /// Where a mark is in a lane, from the left.
+    /// A mark's place in a lane, from the left.
     pub fn left_of(&self, column: usize, lane: Lane) -> usize {
         match self.goes {
             Goes::Across => self.across(column),
@@ -278,7 +278,7 @@ impl Sheet {
         }
     }
 
-    /// Where a mark is in a lane, from the top.
+    /// A mark's place in a lane, from the top.
     pub fn top_of(&self, column: usize, lane: Lane) -> usize {
         match self.goes {
             Goes::Across => self.down(column, lane),
@@ -377,7 +377,7 @@ impl Sheet {
         Ok(text)
     }
 
-    // Where the lanes of the band that begins at a column end.
+    // The place at which the lanes end of the band that begins at a column.
     fn lanes_end(&self, column: usize) -> usize {
         let count = self.count.saturating_sub(column).min(COLUMNS);
         match self.goes {

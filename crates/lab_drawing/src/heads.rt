@@ -1,4 +1,4 @@
-//! What is above the bands of a picture as SVG: its opening, and its legend.
+//! The part above the bands of a picture as SVG: its opening, and its legend.
 ghost use Rattle.std.specs.Prelude.{◌≡◌, ◌++◌, string_bytes, OnOk};
 ghost use Rattle.lab_drawing.specs.Shapes.{place_text};
 
@@ -14,7 +14,7 @@ use std::alloc::{AllocError, Global};
 // How wide a character is.
 const CHARACTER: usize = 6;
 
-/// Where the first sign of a condition is, from the left.
+/// The place of the first sign of a condition, from the left.
 pub const FIRST_SIGN: usize = 20;
 
 /// The opening of a picture of this size. `AllocError` where the text couldn't grow.
@@ -37,14 +37,14 @@ fn sized(alloc: Global, goes: Goes, width: usize, height: usize) -> Result<Strin
     }
 }
 
-// That of a picture that goes across.
+// The size of a picture that goes across.
 fn sized_across(alloc: Global, width: usize, height: usize) -> Result<String, AllocError> {
     format!(in alloc;
         "<svg xmlns=\"http://www.w3.org/2000/svg\" width=\"{width}\" height=\"{height}\" viewBox=\"0 0 {width} {height}\" font-family=\"DejaVu Sans Mono, monospace\" font-size=\"9\">\n"
     )
 }
 
-// That of one that goes down.
+// The size of one that goes down.
 fn sized_down(alloc: Global, width: usize, height: usize) -> Result<String, AllocError> {
     format!(in alloc;
         "<svg xmlns=\"http://www.w3.org/2000/svg\" width=\"{width}\" height=\"{height}\" viewBox=\"0 0 {width} {height}\" font-family=\"DejaVu Sans Mono, monospace\" font-size=\"10\">\n"
@@ -65,7 +65,7 @@ fn put_dark(text: &mut String) -> Result<(), AllocError> {
     Ok(())
 }
 
-// Where the next sign is, with so much room beside the word.
+// The place of the next sign, with so much room beside the word.
 fn sign_end(space: usize, at: usize, word: &str) -> usize {
     steps(at.saturating_add(space), CHARACTER, word.len())
 }

@@ -1,4 +1,4 @@
-//! What is shown of a line below its mark.
+//! The part of a line that is shown below its mark.
 
 use crate::escapes::{put_escaped, put_text};
 use crate::frames::Goes;

@@ -9,7 +9,7 @@ use evl_base::Stage;
 use std::alloc::AllocError;
 use std::fmt;
 
-/// What a lane of a picture is of.
+/// The thing that a lane of a picture is of.
 #[derive(Clone, Copy, PartialEq, Eq)]
 pub enum Lane {
     Thread(u16),
@@ -51,7 +51,7 @@ impl fmt::Display for Lane {
     }
 }
 
-// Where a lane is among the lanes of a picture, from the top.
+// A lane's place among the lanes of a picture, from the top.
 fn place(lane: Lane) -> (u8, u16)
     ensures { result ≡ lanes.place lane }
 {

@@ -1,5 +1,5 @@
 //! Pictures of a trace: a mark for each entry and play, in lanes, as SVG.
-//! What names no source is this profile's own.
+//! All that names no source is this profile's own.
 #![tactic(auto)]
 
 mod beside;

@@ -35,7 +35,7 @@ pub enum Condition {
 }
 
 /// The state of one lane, with the effective rank of its thread, the owner of its mutex or who gets it, how many events
-/// are pending on its stage, how many callers hold its stax, or who has the core. Of a thread also its own policy, and
+/// are pending on its stage, how many callers hold its stax, or who has the core. For a thread also its own policy, and
 /// the thread whose rank it is lent, if it is.
 #[derive(Clone, Copy, PartialEq, Eq)]
 pub struct Standing {

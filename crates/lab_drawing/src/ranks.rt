@@ -43,7 +43,7 @@ fn letter_of(policy: Policy) -> &'static str
     }
 }
 
-/// Where a thread's own policy, or another number, is at its lane.
+/// The place of a thread's own policy, or of another number, at its lane.
 pub fn own_place(goes: Goes) -> &'static str {
     match goes {
         Goes::Across => "x=\"-7\" y=\"-6.5\" font-size=\"7\"",
@@ -51,7 +51,7 @@ pub fn own_place(goes: Goes) -> &'static str {
     }
 }
 
-/// Where a number that is no rank is: beside waits left of the tie, as it is the tied call that changes the number.
+/// The place of a number that is no rank: beside waits left of the tie, as it is the tied call that changes the number.
 pub fn word_place(goes: Goes, shows_waits: bool) -> &'static str {
     match goes {
         Goes::Across if shows_waits => "x=\"-2\" y=\"-7\" font-size=\"7\" text-anchor=\"end\"",
@@ -59,7 +59,7 @@ pub fn word_place(goes: Goes, shows_waits: bool) -> &'static str {
     }
 }
 
-// Where a rank by others is.
+// The place of a rank by others.
 fn lent_place(goes: Goes) -> &'static str {
     match goes {
         Goes::Across => "x=\"-7\" y=\"-12.5\" font-size=\"7\" font-weight=\"bold\"",

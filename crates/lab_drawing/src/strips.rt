@@ -52,7 +52,7 @@ pub fn strip_for(goes: Goes, condition: Condition) -> &'static str {
     }
 }
 
-// What is before the number above a lane: T is that of a thread, + that of pending events.
+// The sign before the number above a lane: T is that of a thread, + that of pending events.
 fn number_sign(condition: Condition) -> &'static str {
     match condition {
         Condition::Owned | Condition::Handed | Condition::Claimed | Condition::Taken => "T",
@@ -173,7 +173,7 @@ fn put_told_number(
     }
 }
 
-// What is drawn of a lane at its place: the strip, the number if that is printed, and the end.
+// The drawing of a lane at its place: the strip, the number if that is printed, and the end.
 fn strip_body(
     alloc: Global,
     sheet: &Sheet,
@@ -214,7 +214,7 @@ fn was_date(date: u64, before: Option<&Moment>) -> bool
     }
 }
 
-// What is before a date in a column: beside its row, or above its lanes.
+// The text before a date in a column: beside its row, or above its lanes.
 fn date_opening(alloc: Global, sheet: &Sheet, column: usize) -> Result<String, AllocError> {
     match sheet.goes {
         Goes::Across => {
@@ -230,7 +230,7 @@ fn date_opening(alloc: Global, sheet: &Sheet, column: usize) -> Result<String, A
     }
 }
 
-// What is after it.
+// The text after it.
 fn date_closing(alloc: Global, sheet: &Sheet, column: usize) -> Result<String, AllocError> {
     match sheet.goes {
         Goes::Across => {

@@ -128,7 +128,7 @@ fn frame(alloc: Global, sheet: &Sheet, column: usize) -> Result<String, AllocErr
     }
 }
 
-// What is known in a column: the entry of its mark, what is at the end of its tie, the waits that go on, and the
+// All that is known in a column: the entry of its mark, what is at the end of its tie, the waits that go on, and the
 // machine's states after it and before.
 #[derive(Clone, Copy, Drop)]
 struct Known<'a> {
@@ -277,7 +277,7 @@ fn picture(
     Ok(text)
 }
 
-/// The picture of what is drawn as SVG: a band of lanes for each 60 marks. Where the machine's state after each entry
+/// The picture of what is drawn as SVG: a band of lanes for each 60 marks. If the machine's state after each entry
 /// is known, dates and strips show it; the waits that the answers report are shown beside words, and where nothing else
 /// is known. `AllocError` where memory couldn't grow.
 pub fn write_svg(alloc: Global, drawn: &Drawn<'_, '_>) -> Result<Vec<u8>, AllocError>

@@ -2,7 +2,7 @@
 ghost use Rattle.std.specs.Prelude.{◌≡◌, option_map};
 ghost use Rattle.lab_drawing.specs.Texts.{around_part, number_in, up_to};
 
-/// What is before the first such part of a text, and what is after it.
+/// The text before the first such part of a text, and the text after it.
 pub fn around<'a>(part: &str, text: &'a str) -> Option<(&'a str, &'a str)>
     ensures { option_map (λ cut. (cut.0.now, cut.1.now)) result ≡ around_part part.now text.now }
 {
@@ -12,7 +12,7 @@ pub fn around<'a>(part: &str, text: &'a str) -> Option<(&'a str, &'a str)>
     }
 }
 
-/// What is before the first such part of a text, or the whole text where it has no such part.
+/// The text before the first such part of a text, or the whole text where it has no such part.
 pub fn up_to<'a>(part: &str, text: &'a str) -> &'a str
     ensures { result.now ≡ up_to part.now text.now }
 {

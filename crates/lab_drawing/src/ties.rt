@@ -7,7 +7,7 @@ use crate::marks::{Mark, Shape};
 use crate::moments::Moment;
 use std::alloc::{AllocError, Global};
 
-/// What is at the end of a tie.
+/// The ways in which a tie can end.
 #[derive(Clone, Copy, PartialEq, Eq)]
 pub enum TieEnd {
     /// The lane is named by the call.
@@ -47,7 +47,7 @@ fn stood(names: Option<Lane>, before: Option<&Moment>) -> bool
     }
 }
 
-/// What is at the end of the tie of a mark, by the moment before it.
+/// The end of the tie of a mark, by the moment before it.
 pub fn end_of(mark: &Mark<'_>, before: Option<&Moment>) -> TieEnd
     ensures { result ≡ pictures.end_of mark.now (option_map (λ moment. moment.now) before.entry) }
 {

@@ -20,7 +20,7 @@ use crate::words::{shown, standing_of};
 use lab_traces::before;
 use std::alloc::{AllocError, Global};
 
-// What is before the answer of a call that is done.
+// The text before the answer of a call that is done.
 #[tactic(auto, unfolding(crate::specs::Standings::before_done))]
 fn before_done(text: &str) -> Option<&str>
     ensures { option_map (λ front. front.now) result ≡ stands.before_done text.now }

@@ -52,7 +52,7 @@ pub fn note(waits: &mut [(Lane, bool)], mark: &Mark<'_>)
     }
 }
 
-// Where the bar of a wait is, around the place of a mark.
+// The place of the bar of a wait, around the place of a mark.
 fn bar_at(goes: Goes, left: usize, top: usize) -> (usize, usize) {
     match goes {
         Goes::Across => (left.saturating_sub(8), top.saturating_sub(3)),

@@ -1,4 +1,4 @@
-//! What is after the answer in a caller's line: the state of a stax, of a mutex's word or of the core.
+//! The words after the answer in a caller's line: the state of a stax, of a mutex's word or of the core.
 ghost use Rattle.std.specs.Prelude.{◌≡◌, option_map};
 ghost use Rattle.lab_drawing.specs.Words as words;
 
@@ -7,7 +7,7 @@ use crate::moments::{Condition, Standing};
 use crate::texts::{around, number, up_to};
 use lab_traces::behind;
 
-// What is between an answer and what is shown.
+// The text between an answer and what is shown.
 const BAR: &str = " | ";
 
 /// The answer alone.
@@ -40,7 +40,7 @@ fn lane_named(name: &str) -> Option<Lane>
     }
 }
 
-/// What is shown in a line or after an answer: a lane, and its state in words.
+/// The part that is shown in a line or after an answer: a lane, and its state in words.
 pub fn shown(line: &str) -> Option<(Lane, &str)>
     ensures { option_map (λ told. (told.0, told.1.now)) result ≡ words.word_shown line.now }
 {

@@ -1,4 +1,4 @@
--- What was found, put together.
+-- All that was found, put together.
 use Rattle.std.proofs.Common.{◌≡◌, ◌∙◌, List, [], ◌∷◌, ◌++◌, map, refl, ap}
 use Rattle.lab_faults.specs.Checks.{first_told}
 use Rattle.lab_faults.specs.Faults.{first_fault}

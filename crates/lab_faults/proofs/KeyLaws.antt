@@ -1,4 +1,4 @@
--- What one more piece says, and how far it may count.
+-- All that one more piece says, and how far it may count.
 use Rattle.std.proofs.Common.{◌≡◌, ◌∙◌, ℕ, ◌+◌, ◌<◌, ◌≤◌, Bool, true, false, cond, List, ◌∷◌, ◌++◌, Option, Some, None, drop, get_or, length, sym, ap, add-one, drop-cons, arith}
 use Rattle.lab_faults.specs.Keys.{CountsUpTo, bare_between, begins_heading, begun_steps, behind, behind_head, behind_in, behind_key, behind_other, braced, brackets_of, bracket_closed, entries, entry, first_kind, headed, headings_in, in_braces, is_equals, keys_to_come, bracket_opened}
 use Rattle.lab_faults.specs.declared.items.Entry.{Entry}

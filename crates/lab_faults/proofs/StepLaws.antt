@@ -1,4 +1,4 @@
--- What a step's faults come to.
+-- The result of a step's faults.
 use Rattle.std.proofs.Common.{◌≡◌, ◌∙◌, ℕ, ◌+◌, ◌<◌, ◌≤◌, true, false, List, [], ◌∷◌, ◌++◌, codes, length, map, refl, sym, ap, arith, length-append}
 use Rattle.std.proofs.lemmas.List.{append-nil, length-map}
 use Rattle.lab_faults.specs.Steps.{call_faults, first_byte, is_step, item_at, or_unread, step_faults, step_told, unread_text}

@@ -1,4 +1,4 @@
--- What is reported of a text that can't be played. Where it is no TOML, the place is the one that TOML's reader gives.
+-- The report of a text that can't be played. If it is no TOML, the place is the one that TOML's reader gives.
 use Rattle.std.specs.Prelude.{◌≡◌, ◌≢◌, ◌<◌, ◌≤◌, ◌⊎◌, ℕ, List, [], ◌∷◌, ◌++◌, codes, decimal, length, map, Option, None, Some, is_some, true, IsUtf8}
 use Rattle.toml.specs.Errors.{IsMemory, IsWithin, span_start}
 use Rattle.toml.specs.Parse.{parse_document}

@@ -16,14 +16,14 @@ use crate::wants::{board_keys, board_wanted, opening_keys};
 use evl_scenario::Fault;
 use std::alloc::{AllocError, Global};
 
-// What is said of a near key beside the board.
+// The words about a near key beside the board.
 fn opening_hint(alloc: Global, name: &str) -> Result<String, AllocError>
     ensures { IfOk result (λ hint. string_bytes hint ≡ words.hint_text name.now words.opening_keys) }
 {
     near_text(alloc, name, opening_keys())
 }
 
-// What is said of a key that is above the board, or of a near key of the board.
+// The words about a key that is above the board, or about a near key of the board.
 fn aside(alloc: Global, key: &str) -> Result<String, AllocError>
     ensures { IfOk result (λ hint. string_bytes hint ≡ boards.aside_text key.now) }
 {
@@ -33,7 +33,7 @@ fn aside(alloc: Global, key: &str) -> Result<String, AllocError>
     near_text(alloc, key, board_keys())
 }
 
-// What is said of a table that there isn't.
+// The words about a table that there isn't.
 fn no_table(alloc: Global, name: &str) -> Result<String, AllocError>
     ensures { IfOk result (λ text. string_bytes text ≡ boards.no_table_text name.now) }
 {
@@ -41,7 +41,7 @@ fn no_table(alloc: Global, name: &str) -> Result<String, AllocError>
     format!(in alloc; "there is no table \"{name}\"{hint} (tables: board, step)")
 }
 
-// What is said of a heading that a scenario doesn't have.
+// The words about a heading that a scenario doesn't have.
 #[tactic(auto, unfolding(crate::specs::Boards::heading_text))]
 fn heading_words(alloc: Global, name: &str) -> Result<String, AllocError>
     ensures { IfOk result (λ text. string_bytes text ≡ heading_text name.now) }
@@ -57,7 +57,7 @@ fn heading_words(alloc: Global, name: &str) -> Result<String, AllocError>
     }
 }
 
-// What is said of a key that the board doesn't have.
+// The words about a key that the board doesn't have.
 fn no_board_key(alloc: Global, key: &str) -> Result<String, AllocError>
     ensures { IfOk result (λ text. string_bytes text ≡ no_board_key_text key.now) }
 {
@@ -67,7 +67,7 @@ fn no_board_key(alloc: Global, key: &str) -> Result<String, AllocError>
     )
 }
 
-// What is said of a key of no table that may be beside the board.
+// The words about a key of no table that may be beside the board.
 fn unknown_key(alloc: Global, key: &str) -> Result<String, AllocError>
     ensures { IfOk result (λ text. string_bytes text ≡ boards.unknown_key_text key.now) }
 {
@@ -82,7 +82,7 @@ fn is_of_orders(key: &str) -> bool
     matches!(key, "setup" | "setups" | "ask")
 }
 
-// What is said of a key that isn't beside the board.
+// The words about a key that isn't beside the board.
 #[tactic(auto, unfolding(crate::specs::Boards::no_key_text))]
 fn no_key(alloc: Global, key: &str) -> Result<String, AllocError>
     ensures { IfOk result (λ text. string_bytes text ≡ no_key_text key.now) }
@@ -94,7 +94,7 @@ fn no_key(alloc: Global, key: &str) -> Result<String, AllocError>
     }
 }
 
-// What is said of a value that can't be at its key.
+// The words about a value that can't be at its key.
 fn value_words(alloc: Global, key: &str, value: &str) -> Result<String, AllocError>
     ensures { IfOk result (λ text. string_bytes text ≡ value_text key.now value.now) }
 {
@@ -102,7 +102,7 @@ fn value_words(alloc: Global, key: &str, value: &str) -> Result<String, AllocErr
     format!(in alloc; "{key} = {value}: {want} is wanted")
 }
 
-// What is said where the board doesn't say how many threads there are.
+// The words where the board doesn't say how many threads there are.
 fn no_threads(alloc: Global) -> Result<String, AllocError>
     ensures { IfOk result (λ text. string_bytes text ≡ no_threads_text) }
 {

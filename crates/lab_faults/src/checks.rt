@@ -16,7 +16,7 @@ use evl_scenario::{Fault, read_scenario};
 use std::alloc::{AllocError, Global};
 use toml::de::Error;
 
-// What is said of a text that is no TOML.
+// The words about a text that is no TOML.
 fn not_toml(alloc: Global, why: &str) -> Result<String, AllocError>
     ensures { IfOk result (λ words. string_bytes words ≡ not_toml_text why.now) }
 {
@@ -53,7 +53,7 @@ fn why_stopped(
     }
 }
 
-// Where the reader of TOML stopped, and why.
+// The place at which the reader of TOML stopped, and why.
 fn stop_told(alloc: Global, text: &[u8], stop: &Error) -> Result<(usize, String), AllocError>
     ensures read { IfOk result (λ fault_told. ¬ IsMemory stop.now) }
     ensures there { IfOk result (λ fault_told. fault_told.0 ≡ span_start stop.now) }
@@ -68,7 +68,7 @@ fn stop_told(alloc: Global, text: &[u8], stop: &Error) -> Result<(usize, String)
     Ok((span.start, words))
 }
 
-// Where a text is no TOML document, and why.
+// The place at which a text is no TOML document, and why.
 fn refused_for(alloc: Global, text: &[u8]) -> Result<(usize, String), AllocError>
     ensures { IfOk result (λ fault_told. IsRefusedFor text.now fault_told.0 (string_bytes fault_told.1)) }
 {
@@ -84,7 +84,7 @@ fn refused_for(alloc: Global, text: &[u8]) -> Result<(usize, String), AllocError
     }
 }
 
-// Where a text can't be read, and why.
+// The place at which a text can't be read, and why.
 fn syntax(alloc: Global, text: &[u8]) -> Result<(usize, String), AllocError>
     ensures { IfOk result (λ told. IsTextFault text.now told.0 (string_bytes told.1)) }
 {
@@ -95,7 +95,7 @@ fn syntax(alloc: Global, text: &[u8]) -> Result<(usize, String), AllocError>
     refused_for(alloc, text)
 }
 
-// What is said of a fault that nothing else is known of.
+// The words about a fault that nothing else is known of.
 fn plainly(alloc: Global, fault: Fault) -> Result<String, AllocError>
     ensures { IfOk result (λ words. string_bytes words ≡ plain_text fault) }
 {

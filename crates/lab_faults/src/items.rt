@@ -2,7 +2,7 @@
 ghost use Rattle.std.specs.Prelude.{◌≡◌};
 ghost use Rattle.lab_faults.specs.Steps.{bytes_between, unquoted};
 
-/// What a key or a heading is in.
+/// The section that a key or a heading is in.
 #[derive(Clone, Copy, PartialEq, Eq)]
 pub enum Section {
     /// Beside the board and the steps.
@@ -36,7 +36,7 @@ pub struct Items {
     pub items: Vec<Item>,
 }
 
-/// What a piece of a text says.
+/// The things that a piece of a text can say.
 #[derive(Clone, Copy)]
 pub enum Entry {
     Heads(Heading),

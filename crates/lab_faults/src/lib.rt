@@ -1,5 +1,5 @@
 //! The faults of a scenario's text, each with its place, what was wanted, and a near word.
-//! What names no source is this profile's own.
+//! All that names no source is this profile's own.
 #![tactic(auto)]
 
 mod boards;

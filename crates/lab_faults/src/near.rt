@@ -26,7 +26,7 @@ pub fn near<'a>(alloc: Global, text: &str, words: &[&'a str]) -> Result<Option<&
     Ok(best)
 }
 
-/// What is said of a near word, or nothing.
+/// The words about a near word, or nothing.
 pub fn near_text(alloc: Global, text: &str, words: &[&str]) -> Result<String, AllocError>
     ensures { IfOk result (λ hint. string_bytes hint ≡ hint_text text.now (map (λ word. word.now) words.now)) }
 {
@@ -72,7 +72,7 @@ fn means_tick(word: &str) -> bool
     matches!(word, "sleep" | "delay")
 }
 
-// What is said of the call that a beginner means by a word, if one is meant.
+// The words about the call that a beginner means by a word, if one is meant.
 fn meant_text(word: &str) -> Option<&'static str>
     ensures { option_map (λ text. text.now) result ≡ wants.meant_text word.now }
 {
@@ -95,7 +95,7 @@ fn meant_text(word: &str) -> Option<&'static str>
     }
 }
 
-/// What is said of the call that is meant by a word, or else of the nearest of these words, or nothing. `AllocError`
+/// The words on the call that is meant by a word, or else on the nearest of these words, or nothing. `AllocError`
 /// where memory couldn't grow.
 #[tactic(auto, unfolding(crate::specs::Wants::meant_or_near_text))]
 pub fn meant_or_near(alloc: Global, word: &str, words: &[&str]) -> Result<String, AllocError>

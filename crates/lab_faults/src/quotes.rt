@@ -42,7 +42,7 @@ pub fn unquoted_at(text: &[u8], items: &[Item], at: usize) -> Option<Item>
     None
 }
 
-// What is said of words without quotes at a key.
+// The words about words without quotes at a key.
 fn quotes_words(alloc: Global, key: &str, word: &str) -> Result<String, AllocError>
     ensures { IfOk result (λ words. string_bytes words ≡ quotes_text key.now word.now) }
 {
@@ -51,7 +51,7 @@ fn quotes_words(alloc: Global, key: &str, word: &str) -> Result<String, AllocErr
     )
 }
 
-/// What is said of a value without quotes. `AllocError` where memory couldn't grow.
+/// The words about a value without quotes. `AllocError` where memory couldn't grow.
 pub fn unquoted_words(alloc: Global, text: &[u8], item: Item) -> Result<String, AllocError>
     ensures { IfOk result (λ words. string_bytes words ≡ unquoted_text text.now item) }
 {

@@ -1,4 +1,4 @@
-//! What is reported of the faults of a file.
+//! The report of the faults of a file.
 ghost use Rattle.std.specs.Prelude.{◌≡◌, ◌++◌, Err, None, is_err, string_bytes, IfOk, OnOk};
 ghost use Rattle.evl_scenario.specs.Scenarios.{scenario_of};
 ghost use Rattle.evl_scenario.specs.declared.faults.Fault.{Fault};

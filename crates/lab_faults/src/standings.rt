@@ -1,4 +1,4 @@
-//! Where the pieces of a text are, and what each of them says.
+//! The places of a text's pieces, and what each of them says.
 ghost use Rattle.std.specs.Prelude.{◌≡◌, ◌<◌, if◌then◌else◌, Some};
 ghost use Rattle.lab_faults.specs.Keys as keys;
 ghost use Rattle.lab_faults.specs.Keys.{CountsUpTo, bare_between};
@@ -6,12 +6,12 @@ ghost use Rattle.lab_faults.specs.Keys.{CountsUpTo, bare_between};
 use crate::items::{Entry, Heading, Item, Section, bare, slice};
 use crate::tokens::{Kind, Token};
 
-/// Where a piece is.
+/// The place of a piece.
 #[derive(Clone, Copy)]
 pub struct Standing {
-    /// What the last heading begins.
+    /// The section that the last heading begins.
     pub section: Section,
-    /// What the last brace begins.
+    /// The section that the last brace begins.
     pub within: Section,
     /// How many steps were begun.
     pub steps: usize,
@@ -27,7 +27,7 @@ pub struct Standing {
     pub is_value: bool,
 }
 
-/// Where the first piece is.
+/// The place of the first piece.
 pub fn opening() -> Standing
     ensures { result ≡ keys.opening }
 {
@@ -50,7 +50,7 @@ fn bare_name(text: &[u8], range: (usize, usize)) -> &[u8]
     bare(slice(text, range))
 }
 
-// What a heading of this name begins.
+// The section that a heading of this name begins.
 fn headed(name: &[u8], brackets: usize, steps: usize) -> Section
     requires { steps < 9223372036854775808 }
     ensures { result ≡ keys.headed name.now brackets steps }
@@ -64,7 +64,7 @@ fn headed(name: &[u8], brackets: usize, steps: usize) -> Section
     }
 }
 
-// What braces begin that are the value of a key.
+// The section that braces begin that are the value of a key.
 fn braced(key: &[u8], steps: usize) -> Section
     requires { steps < 9223372036854775808 }
     ensures { result ≡ keys.braced key.now steps }
@@ -250,7 +250,7 @@ fn behind_other(text: &[u8], standing: Standing, token: Token, next: Kind) -> St
     }
 }
 
-/// Where the piece after one is, before one of the next kind.
+/// The place of the piece after one, before one of the next kind.
 #[tactic(auto, unfolding(crate::specs::Keys::behind))]
 pub fn behind(text: &[u8], standing: Standing, token: Token, next: Kind) -> Standing
     requires { CountsUpTo standing 9223372036854775807 }
@@ -273,7 +273,7 @@ fn key_section(standing: Standing) -> Section
     }
 }
 
-// What a piece of a heading says.
+// All that a piece of a heading says.
 fn head_entry(text: &[u8], standing: Standing, brackets: usize, token: Token) -> Entry
     requires { standing.steps < 9223372036854775808 }
     ensures { result ≡ keys.head_entry text.now standing brackets (token.from, token.to) token.kind }
@@ -288,7 +288,7 @@ fn head_entry(text: &[u8], standing: Standing, brackets: usize, token: Token) ->
     }
 }
 
-// What a word outside headings says.
+// All that a word outside headings says.
 fn word_entry(standing: Standing, word: (usize, usize), next: Kind) -> Entry
     ensures { result ≡ keys.other_entry standing word next Kind.Word }
 {
@@ -303,7 +303,7 @@ fn word_entry(standing: Standing, word: (usize, usize), next: Kind) -> Entry
     Entry::Goes(word)
 }
 
-// What a piece says that may be of a value.
+// All that a piece says that may be of a value.
 fn goes_if(is_value: bool, range: (usize, usize)) -> Entry
     ensures { result ≡ keys.goes_if is_value range }
 {
@@ -314,7 +314,7 @@ fn goes_if(is_value: bool, range: (usize, usize)) -> Entry
     }
 }
 
-// What a piece outside headings says.
+// All that a piece outside headings says.
 fn other_entry(standing: Standing, token: Token, next: Kind) -> Entry
     ensures { result ≡ keys.other_entry standing (token.from, token.to) next token.kind }
 {
@@ -327,7 +327,7 @@ fn other_entry(standing: Standing, token: Token, next: Kind) -> Entry
     }
 }
 
-/// What a piece says, before one of the next kind.
+/// All that a piece says, before one of the next kind.
 #[tactic(auto, unfolding(crate::specs::Keys::entry))]
 pub fn entry(text: &[u8], standing: Standing, token: Token, next: Kind) -> Entry
     requires { CountsUpTo standing 9223372036854775807 }

@@ -116,7 +116,7 @@ fn has_unknown(text: &[u8], keys: &[&str], items: &[Item]) -> bool
     false
 }
 
-// What is said of a key that a step's word doesn't have.
+// The words about a key that a step's word doesn't have.
 #[tactic(auto, unfolding(crate::specs::Steps::unknown_text))]
 fn unknown_words(
     alloc: Global,
@@ -170,7 +170,7 @@ fn note_all_unknown(
     Ok(())
 }
 
-// What is said of a key that is missing.
+// The words about a key that is missing.
 #[tactic(auto, unfolding(crate::specs::Steps::missing_text))]
 fn missing_words(alloc: Global, number: usize, word: &str, key: &str) -> Result<String, AllocError>
     ensures { IfOk result (λ words. string_bytes words ≡ missing_text number word.now key.now) }
@@ -236,7 +236,7 @@ fn is_misfit(
     Ok(!fits_step(alloc, word, key, shown(text, item.value).as_bytes())?)
 }
 
-// What is said of a value that can't be at its key.
+// The words about a value that can't be at its key.
 #[tactic(auto, unfolding(crate::specs::Steps::misfit_text))]
 fn misfit_words(alloc: Global, number: usize, key: &str, value: &str) -> Result<String, AllocError>
     ensures { IfOk result (λ words. string_bytes words ≡ misfit_text number key.now value.now) }
@@ -331,14 +331,14 @@ fn call_words() -> &'static [&'static str]
     &STEP_WORDS
 }
 
-// What is said of the one that is meant, or of the nearest.
+// The words about the one that is meant, or about the nearest.
 fn call_hint(alloc: Global, word: &str) -> Result<String, AllocError>
     ensures { IfOk result (λ hint. string_bytes hint ≡ meant_or_near_text word.now step_words) }
 {
     meant_or_near(alloc, word, call_words())
 }
 
-// What is said of a word that no call has.
+// The words about a word that no call has.
 fn no_call_words(alloc: Global, number: usize, word: &str) -> Result<String, AllocError>
     ensures { IfOk result (λ words. string_bytes words ≡ no_call_text number word.now) }
 {
@@ -367,7 +367,7 @@ fn note_word(
     }
 }
 
-// What is said of a step without a word.
+// The words about a step without a word.
 #[tactic(auto, unfolding(crate::specs::Steps::no_word_text))]
 fn no_word_words(alloc: Global, number: usize) -> Result<String, AllocError>
     ensures { IfOk result (λ words. string_bytes words ≡ no_word_text number) }
@@ -398,7 +398,7 @@ fn note_step(
     }
 }
 
-// What is said of a step of which nothing else is known.
+// The words about a step of which nothing else is known.
 #[tactic(auto, unfolding(crate::specs::Steps::unread_text))]
 fn unread_words(alloc: Global, number: usize) -> Result<String, AllocError>
     ensures { IfOk result (λ words. string_bytes words ≡ unread_text number) }
@@ -420,7 +420,7 @@ fn note_unread(
     finding.note(fault_of(number), at, words)
 }
 
-/// Where a step's first key is.
+/// The place of a step's first key.
 pub fn first_byte(items: &[Item]) -> usize
     ensures { result ≡ steps.first_byte items.now }
 {

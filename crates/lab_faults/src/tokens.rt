@@ -5,7 +5,7 @@ ghost use Rattle.lab_faults.specs.Pieces.{begun_word, token_marked, pieces_from,
 
 use std::alloc::{AllocError, Global};
 
-/// What a piece is.
+/// The kind of a piece.
 #[derive(Clone, Copy, PartialEq, Eq)]
 pub enum Kind {
     /// A text between quotes, or anything else without a mark in it.
@@ -27,7 +27,7 @@ pub struct Token {
     pub to: usize,
 }
 
-// Where the reading of a text is.
+// The part of a text that its reading is in.
 #[derive(Clone, Copy)]
 enum Reading {
     // Outside quotes and comments, in a word that may have begun.
@@ -40,7 +40,7 @@ enum Reading {
     Comment,
 }
 
-// What a byte by itself is.
+// The kind of a byte by itself.
 fn mark(byte: u8) -> Option<Kind>
     ensures { result ≡ pieces.mark byte }
 {

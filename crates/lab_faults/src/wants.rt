@@ -52,7 +52,7 @@ pub fn is_optional(key: &str) -> bool
     matches!(key, "tag" | "until" | "keep")
 }
 
-/// What value is wanted at a key of a step.
+/// The value that is wanted at a key of a step.
 pub fn wanted(key: &str) -> &'static str
     ensures { result.now ≡ wanted_text key.now }
 {
@@ -88,7 +88,7 @@ pub fn sample(key: &str) -> &'static [u8]
     }
 }
 
-/// What value is wanted at a key of a board, or at `limit`. `AllocError` where memory couldn't grow.
+/// The value that is wanted at a key of a board, or at `limit`. `AllocError` where memory couldn't grow.
 #[tactic(auto, unfolding(crate::specs::Wants::board_wanted_text))]
 pub fn board_wanted(alloc: Global, key: &str) -> Result<String, AllocError>
     ensures { IfOk result (λ words. string_bytes words ≡ board_wanted_text key.now) }

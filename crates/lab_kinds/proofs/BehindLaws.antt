@@ -1,4 +1,4 @@
--- What comes where nothing is found in a text's parts.
+-- The result where nothing is found in a text's parts.
 use Rattle.std.proofs.Common.{◌≡◌, ℕ, Bool, true, false, MatchBool, List, [], ◌∷◌, map, refl, subst}
 use Rattle.lab_faults.specs.Told.{Told, fault_told}
 use Rattle.lab_faults.specs.declared.found.Found.{Found}

@@ -1,4 +1,4 @@
--- Of which kind a text is, by its headings and keys.
+-- The kind of a text, by its headings and keys.
 use Rattle.std.specs.Prelude.{ℕ, Bool, true, false, ◌&&◌, ◌||◌, List, codes, if◌then◌else◌, is_some}
 use Rattle.std.specs.List.{list_any}
 use Rattle.std.specs.Str.{bytes_eq}

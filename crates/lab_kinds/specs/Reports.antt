@@ -1,4 +1,4 @@
--- What is reported of the faults of a text, by its kind.
+-- The report of the faults of a text, by its kind.
 use Rattle.std.specs.Prelude.{◌≡◌, ℕ, Bool, true, false, List, [], ◌∷◌, ◌++◌, map, None, Err, is_err, is_ok}
 use Rattle.evl_scenario.specs.Scenarios.{scenario_of}
 use Rattle.evl_scenario.specs.declared.faults.Fault.{Fault}

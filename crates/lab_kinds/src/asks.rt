@@ -81,7 +81,7 @@ pub fn callers_of<'a>(
     callers_in(alloc, text, setup, items.items.as_slice())
 }
 
-// What a caller is called.
+// A caller's name.
 fn caller_name(alloc: Global, who: &str) -> Result<String, AllocError>
     ensures { IfOk result (λ name. string_bytes name ≡ codes "T" ++ who.now) }
 {
@@ -181,7 +181,7 @@ fn is_answer_of(is_of_steps: bool, answer: &str) -> bool
     is_answer(answer) || (is_of_steps && is_among(step_answers(), answer))
 }
 
-// What is said of a text of no caller.
+// The words about a text of no caller.
 #[tactic(auto, unfolding(crate::specs::Orders::no_caller_text))]
 fn no_caller_words(alloc: Global, name: &str) -> Result<String, AllocError>
     ensures { IfOk result (λ words. string_bytes words ≡ no_caller_text name.now) }
@@ -191,7 +191,7 @@ fn no_caller_words(alloc: Global, name: &str) -> Result<String, AllocError>
     )
 }
 
-// What is said of a near answer of steps, where these are gone through.
+// The words about a near answer of steps, where these are gone through.
 fn near_step(alloc: Global, is_of_steps: bool, answer: &str) -> Result<String, AllocError>
     ensures { IfOk result (λ hint. string_bytes hint ≡ orders.near_step_text is_of_steps answer.now) }
 {
@@ -201,7 +201,7 @@ fn near_step(alloc: Global, is_of_steps: bool, answer: &str) -> Result<String, A
     Ok(String::new(alloc))
 }
 
-// What is said of a near answer.
+// The words about a near answer.
 fn near_answer(alloc: Global, is_of_steps: bool, answer: &str) -> Result<String, AllocError>
     ensures { IfOk result (λ hint. string_bytes hint ≡ orders.near_answer_text is_of_steps answer.now) }
 {
@@ -213,7 +213,7 @@ fn near_answer(alloc: Global, is_of_steps: bool, answer: &str) -> Result<String,
     Ok(hint)
 }
 
-// What is said of an answer that no call has.
+// The words about an answer that no call has.
 #[tactic(auto, unfolding(crate::specs::Orders::no_answer_text))]
 fn no_answer_words(alloc: Global, is_of_steps: bool, answer: &str) -> Result<String, AllocError>
     ensures { IfOk result (λ words. string_bytes words ≡ no_answer_text is_of_steps answer.now) }
@@ -320,7 +320,7 @@ fn check_nevers(
     Ok(())
 }
 
-// What is said of a key that asks of moments and is in quotes.
+// The words about a key that asks of moments and is in quotes.
 #[tactic(auto, unfolding(crate::specs::Orders::quoted_text))]
 fn quoted_words(alloc: Global, key: &str) -> Result<String, AllocError>
     ensures { IfOk result (λ words. string_bytes words ≡ quoted_text key.now) }

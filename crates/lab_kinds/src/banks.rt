@@ -13,7 +13,7 @@ use evl_scenario::Fault;
 use lab_faults::{Finding, Found, Heading, Item, found_in_text, items_of, named};
 use std::alloc::{AllocError, Global};
 
-// What is said of a table that a bank doesn't have.
+// The words about a table that a bank doesn't have.
 #[tactic(auto, unfolding(crate::specs::Banks::no_callback_text))]
 fn no_callback_words(alloc: Global, name: &str) -> Result<String, AllocError>
     ensures { IfOk result (λ words. string_bytes words ≡ no_callback_text name.now) }
@@ -21,7 +21,7 @@ fn no_callback_words(alloc: Global, name: &str) -> Result<String, AllocError>
     format!(in alloc; "there is no table \"{name}\" in a bank (tables: [[callback]])")
 }
 
-// What is said of a key in a row begins with this.
+// The words about a key in a row begin with this.
 #[tactic(auto, unfolding(crate::specs::Banks::row_place))]
 fn row_words(alloc: Global, row: usize) -> Result<String, AllocError>
     ensures { IfOk result (λ place. string_bytes place ≡ row_place row) }
@@ -29,7 +29,7 @@ fn row_words(alloc: Global, row: usize) -> Result<String, AllocError>
     format!(in alloc; "row {row}: ")
 }
 
-// What is said of a row as a whole.
+// The words about a row as a whole.
 #[tactic(auto, unfolding(crate::specs::Banks::bank_fault_text))]
 fn whole_row_words(alloc: Global, number: usize, row: usize) -> Result<String, AllocError>
     ensures { IfOk result (λ words. string_bytes words ≡ bank_fault_text (BankFault.Callback number (Part.Row row))) }
@@ -42,7 +42,7 @@ fn whole_row_words(alloc: Global, number: usize, row: usize) -> Result<String, A
     )
 }
 
-// What is said of a callback as a whole.
+// The words about a callback as a whole.
 #[tactic(auto, unfolding(crate::specs::Banks::bank_fault_text))]
 fn whole_words(alloc: Global, number: usize, part: Part) -> Result<String, AllocError>
     ensures { IfOk result (λ words. string_bytes words ≡ bank_fault_text (BankFault.Callback number part)) }
@@ -61,7 +61,7 @@ fn whole_words(alloc: Global, number: usize, part: Part) -> Result<String, Alloc
     }
 }
 
-// What is said of a bank as a whole.
+// The words about a bank as a whole.
 #[tactic(auto, unfolding(crate::specs::Banks::bank_fault_text))]
 fn bank_words(alloc: Global, fault: BankFault) -> Result<String, AllocError>
     ensures { IfOk result (λ words. string_bytes words ≡ bank_fault_text fault) }
@@ -198,7 +198,7 @@ fn found_in_bank(alloc: Global, text: &[u8]) -> Result<Vec<Found>, AllocError>
     Ok(found)
 }
 
-// Where the callback with this number is headed.
+// The place at which the callback with this number is headed.
 fn callback_place(headings: &[Heading], number: usize) -> usize
     ensures { result ≡ banks.callback_place headings.now number }
 {
@@ -208,7 +208,7 @@ fn callback_place(headings: &[Heading], number: usize) -> usize
     }
 }
 
-// Where the second of some headings is, or the text ends.
+// The place of the second of some headings, or of the text's end.
 fn second_place(text: &[u8], headings: &[Heading]) -> usize
     ensures { result ≡ banks.second_place text.now headings.now }
 {
@@ -236,7 +236,7 @@ fn is_of_row(from: usize, end: usize, row: usize, its: Option<&usize>, item: &It
     from < item.key.0 && item.key.0 < end && is_its
 }
 
-// Where the first key of a row is between two bytes; the first byte, if it has none there.
+// The place of a row's first key between two bytes; the first byte, if it has none there.
 fn row_start(from: usize, end: usize, row: usize, rows: &[usize], items: &[Item]) -> usize
     ensures { result ≡ banks.row_start from end row rows.now items.now }
 {
@@ -248,7 +248,7 @@ fn row_start(from: usize, end: usize, row: usize, rows: &[usize], items: &[Item]
     from
 }
 
-// Where a callback or a row as a whole is at fault.
+// The place at which a callback or a row as a whole is at fault.
 fn fault_place(
     text: &[u8],
     headings: &[Heading],

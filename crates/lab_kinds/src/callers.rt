@@ -23,7 +23,7 @@ fn is_staxes(text: &[u8], item: Item) -> bool
     is_of_board(item.section) && named(text, item.key) == "staxes"
 }
 
-// What is said of such limits that can't be read.
+// The words about such limits that can't be read.
 fn staxes_words(alloc: Global, value: &str) -> Result<String, AllocError>
     ensures { IfOk result (λ words. string_bytes words ≡ callers.staxes_text value.now) }
 {
@@ -82,7 +82,7 @@ fn check_own_board(
     check_threads(alloc, finding, headings, keys)
 }
 
-// What is said of a step begins with this.
+// The words about a step begin with this.
 #[tactic(auto, unfolding(crate::specs::Callers::step_place))]
 fn place_of(alloc: Global, number: usize, word: &str) -> Result<String, AllocError>
     ensures { IfOk result (λ place. string_bytes place ≡ step_place number word.now) }

@@ -1,4 +1,4 @@
-//! Of which kind a text is.
+//! The kind of a text.
 ghost use Rattle.std.specs.Prelude.{◌≡◌, IfOk};
 ghost use Rattle.std.specs.List.{list_any};
 ghost use Rattle.lab_kinds.specs.Kinds as kinds;
@@ -89,7 +89,7 @@ fn has_callers(text: &[u8], items: &[Item]) -> bool
     items.iter().any(|item| is_of_callers(text, *item))
 }
 
-// Of which kind a text with these headings and keys is.
+// The kind of a text with these headings and keys.
 fn kind_in(text: &[u8], headings: &[Heading], items: &[Item]) -> TextKind
     ensures { result ≡ kind_in text.now headings.now items.now }
 {
@@ -140,7 +140,7 @@ fn checked_as(kind: TextKind, is_of_steps: bool) -> TextKind
     }
 }
 
-/// Of which kind a text is, by its headings and keys: a bank has callbacks, a text of orders steps that are set up or
+/// The kind of a text, by its headings and keys: a bank has callbacks, a text of orders steps that are set up or
 /// what is asked, a text of callers staxes or words that callers alone have; any other text is a scenario.
 /// `AllocError` where memory couldn't grow.
 #[tactic(auto, unfolding(crate::specs::Kinds::kind_of))]

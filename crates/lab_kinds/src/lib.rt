@@ -1,5 +1,5 @@
 //! The kinds of texts that the lab takes, and the faults of each, with their places, what was wanted, and near words.
-//! What names no source is this profile's own.
+//! All that names no source is this profile's own.
 #![tactic(auto)]
 
 mod asking;

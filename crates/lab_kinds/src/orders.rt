@@ -252,7 +252,7 @@ fn is_some_found(found: &[Found]) -> bool
     !matches!(found, [])
 }
 
-// Where nothing is found, whether the orders of whole calls can be asked for.
+// If nothing is found, whether the orders of whole calls can be asked for.
 #[tactic(auto, using(crate::proofs::BehindLaws::behind_some, crate::proofs::BehindLaws::behind_steps, crate::proofs::BehindLaws::behind_none))]
 fn found_behind(
     alloc: Global,

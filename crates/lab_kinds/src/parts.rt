@@ -60,7 +60,7 @@ fn put_asked_line(text: &mut String, is_asked: bool, line: &str) -> Result<(), A
     text.push_str("\n")
 }
 
-/// What is asked in these lines, each at its place. `AllocError` where memory couldn't grow.
+/// All that is asked in these lines, each at its place. `AllocError` where memory couldn't grow.
 pub fn asked_in(alloc: Global, lines: &[&str]) -> Result<String, AllocError>
     ensures { IfOk result (λ text. string_bytes text ≡ asked_from false (map (λ line. line.now) lines.now)) }
 {

@@ -1,4 +1,4 @@
-//! What is said of what is asked.
+//! The words about what is asked.
 ghost use Rattle.std.specs.Prelude.{◌≡◌, IfOk, Some, option_map, string_bytes};
 ghost use Rattle.lab_scenario_orders.specs.KeyLines.{key_name};
 ghost use Rattle.lab_kinds.specs.Asking as asking;
@@ -8,7 +8,7 @@ use evl_scenario::Fault;
 use lab_scenario_orders::{AskFault, AskKey, FactFault, Never, Part, TextFault};
 use std::alloc::{AllocError, Global};
 
-// What is said of a key that can't be asked.
+// The words about a key that can't be asked.
 fn key_words(key: AskKey) -> &'static str
     ensures { result.now ≡ asking.key_words key }
 {
@@ -27,7 +27,7 @@ fn key_words(key: AskKey) -> &'static str
     }
 }
 
-// What a board lacks.
+// The words for a part that a board lacks.
 fn part_words(part: Part) -> &'static str
     ensures { result.now ≡ asking.part_words part }
 {
@@ -76,7 +76,7 @@ fn key_text(key: AskKey) -> &'static str
     }
 }
 
-// What is said of a text that isn't facts of the board.
+// The words about a text that isn't facts of the board.
 fn facts_words(
     alloc: Global,
     key: AskKey,
@@ -125,7 +125,7 @@ fn ends_wait(answer: &str) -> bool
         || begins(b"bytes ", answer.as_bytes())
 }
 
-// What is said to a user who may lack a step that ends its wait.
+// The words to a user who may lack a step that ends its wait.
 fn finish_text(answer: &str) -> &'static str
     ensures { result.now ≡ asking.finish_text answer.now }
 {
@@ -136,7 +136,7 @@ fn finish_text(answer: &str) -> &'static str
     }
 }
 
-/// What is said of an answer that no step of its caller can have, with what may be meant. `AllocError` where memory
+/// The words about an answer that no step of its caller can have, with what may be meant. `AllocError` where memory
 /// couldn't grow.
 pub fn impossible_words(
     alloc: Global,

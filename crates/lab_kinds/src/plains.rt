@@ -59,7 +59,7 @@ pub fn is_what_if(was: bool, line: &str) -> bool
     }
 }
 
-// What comes after an equals sign.
+// The text after an equals sign.
 fn behind_equals(text: &str) -> Option<&str>
     ensures { option_map (λ value. value.now) result ≡ option_map trim (past_front (codes "=") (trim text.now)) }
 {
@@ -132,7 +132,7 @@ pub fn plain_in(alloc: Global, lines: &[&str]) -> Result<String, AllocError>
     Ok(text)
 }
 
-// What comes before the first `=`, and what after it.
+// The text before the first `=`, and the text after it.
 fn around_equals(text: &str) -> Option<(&str, &str)>
     ensures { option_map (λ parts. (parts.0.now, parts.1.now)) result ≡ keys.around_equals text.now }
 {
@@ -207,7 +207,7 @@ fn put_unquestioned(text: &mut String, is_asked: bool, line: &str) -> Result<(),
     text.push_str("\n")
 }
 
-/// What is asked in these lines but of moments, each at its place. `AllocError` where memory couldn't grow.
+/// All that is asked in these lines but of moments, each at its place. `AllocError` where memory couldn't grow.
 pub fn unquestioned_in(alloc: Global, lines: &[&str]) -> Result<String, AllocError>
     ensures { IfOk result (λ text. string_bytes text ≡ unquestioned_from false (map (λ line. line.now) lines.now)) }
 {

@@ -1,4 +1,4 @@
-//! What is reported of the faults of a text, by its kind.
+//! The report of the faults of a text, by its kind.
 ghost use Rattle.std.specs.Prelude.{◌≡◌, IfOk, None, is_err, map, string_bytes};
 ghost use Rattle.lab_kinds.specs.Reports.{JudgesScenario, Reports, ScenarioTells, TellsKind, is_some_found};
 ghost use Rattle.evl_scenario.specs.Scenarios.{scenario_of};

@@ -9,7 +9,7 @@ use evl_scenario::Fault;
 use lab_faults::{Finding, Item, is_among, is_optional, item_at, listed, named, near_text, shown};
 use std::alloc::{AllocError, Global};
 
-/// What is said of a key that the table doesn't have.
+/// The words about a key that the table doesn't have.
 #[tactic(auto, unfolding(crate::specs::Tables::unknown_text))]
 pub fn unknown_words(
     alloc: Global,
@@ -24,7 +24,7 @@ pub fn unknown_words(
     format!(in alloc; "{place}no key \"{key}\"{hint} (keys: {names})")
 }
 
-// What is said of a value that can't stand at its key.
+// The words about a value that can't be at its key.
 #[tactic(auto, unfolding(crate::specs::Tables::misfit_text))]
 fn misfit_words(alloc: Global, place: &str, key: &str, value: &str) -> Result<String, AllocError>
     ensures { IfOk result (λ words. string_bytes words ≡ misfit_text place.now key.now value.now) }
@@ -33,7 +33,7 @@ fn misfit_words(alloc: Global, place: &str, key: &str, value: &str) -> Result<St
     format!(in alloc; "{place}{key} = {value}: {want} is wanted")
 }
 
-// What is said of a key that is missing.
+// The words about a key that is missing.
 #[tactic(auto, unfolding(crate::specs::Tables::missing_text))]
 fn missing_words(alloc: Global, place: &str, key: &str) -> Result<String, AllocError>
     ensures { IfOk result (λ words. string_bytes words ≡ missing_text place.now key.now) }

@@ -156,7 +156,7 @@ fn is_count_key(key: &str) -> bool
     matches!(key, "accepts" | "every")
 }
 
-/// What value is wanted at a key.
+/// The value that is wanted at a key.
 pub fn wanted_at(key: &str) -> &'static str
     ensures { result.now ≡ words.wanted_at key.now }
 {

@@ -1,4 +1,4 @@
--- What lines say, line by line.
+-- All that lines say, line by line.
 use Rattle.std.proofs.Common.{◌≡◌, ◌∙◌, ◌⊎◌, inl, inr, ◌+◌, ◌<◌, Bor, List, ℕ, drop, get_or, length, map, Option, None, Result, Err, sym, ap}
 use Rattle.std.proofs.lemmas.List.{drop_more}
 use Rattle.lab_lines.specs.Texts.{Gathered, IsAt, and_then, gathered, nothing_said, said_of, with_said}

@@ -1,4 +1,4 @@
--- What was heard of a line, part by part.
+-- All that was heard of a line, part by part.
 use Rattle.std.proofs.Common.{◌≡◌, ◌∙◌, ◌≤◌, ◌∷◌, ℕ, Bool, true, false, List, [], drop, get_or, length, sym, ap, arith, if◌then◌else◌, is_some, Option, None, position, Result, Ok, Err, IfOk}
 use Rattle.evl_scenario.specs.Scenarios.{scenario_of}
 use Rattle.evl_scenario.specs.declared.steps.Step.{Step}

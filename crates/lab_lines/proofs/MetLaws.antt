@@ -1,4 +1,4 @@
--- What is said of the first step that is not answered as expected.
+-- The words about the first step that is not answered as expected.
 use Rattle.std.proofs.Common.{◌≡◌, List, Option, Some, None, Result, IfOk, find, refl, subst}
 use Rattle.evl_scenario.specs.declared.steps.Step.{Step}
 use Rattle.lab_traces.specs.Entries.{EntryParts}

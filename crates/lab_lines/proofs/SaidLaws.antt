@@ -1,4 +1,4 @@
--- What a line says, and texts that are put together.
+-- All that a line says, and texts that are put together.
 use Rattle.std.proofs.Common.{◌≡◌, ◌∙◌, ◌++◌, List, [], ℕ, append_assoc, ap, position, Result, Ok, Err, IfOk}
 use Rattle.lab_lines.specs.Lines.{ends_said, up_to_word, words_of}
 use Rattle.lab_lines.specs.Texts.{said_in, said_of_plain, said_of_words}

@@ -117,7 +117,7 @@ fn place_of(small_line: usize, pairs: &[Pair]) -> usize {
     }
 }
 
-// What was wanted in a line whose small scenario can't be read.
+// The words on what was wanted in a line whose small scenario can't be read.
 fn explain(alloc: Global, text: &[u8], pairs: &[Pair]) -> Result<Says, AllocError>
     ensures { IfOk result (λ says. said_in says ≡ unread) }
 {
@@ -135,7 +135,7 @@ fn explain(alloc: Global, text: &[u8], pairs: &[Pair]) -> Result<Says, AllocErro
     }
 }
 
-// What the small scenario of a board says.
+// All that the small scenario of a board says.
 fn read_opening(alloc: Global, text: &[u8], pairs: &[Pair]) -> Result<Says, AllocError>
     ensures { IfOk result (λ says. said_in says ≡ opened_board (scenario_of None text.now)) }
 {
@@ -149,7 +149,7 @@ fn read_opening(alloc: Global, text: &[u8], pairs: &[Pair]) -> Result<Says, Allo
     }
 }
 
-// What the keys of a board say.
+// All that the keys of a board say.
 fn read_pairs(alloc: Global, line: &[u8], pairs: &[Pair]) -> Result<Says, AllocError>
     ensures { IfOk result (λ says. said_in says ≡ board_of_pairs line.now pairs.now) }
 {
@@ -162,7 +162,7 @@ fn read_pairs(alloc: Global, line: &[u8], pairs: &[Pair]) -> Result<Says, AllocE
     }
 }
 
-/// What the words after `board` say. `AllocError` where memory couldn't grow.
+/// All that the words after `board` say. `AllocError` where memory couldn't grow.
 pub fn read_board(alloc: Global, line: &[u8], rest: &[Part]) -> Result<Says, AllocError>
     ensures { IfOk result (λ says. said_in says ≡ board_said line.now rest.now) }
 {
@@ -189,7 +189,7 @@ fn limit_scenario(alloc: Global, value: &[u8]) -> Result<Vec<u8>, AllocError>
     Ok(text)
 }
 
-// That a limit is wanted at a byte.
+// The fault that a limit is wanted at a byte.
 fn no_limit(alloc: Global, at: usize) -> Result<Says, AllocError>
     ensures { IfOk result (λ says. said_in says ≡ unread) }
 {
@@ -200,7 +200,7 @@ fn no_limit(alloc: Global, at: usize) -> Result<Says, AllocError>
     )?))
 }
 
-// What the small scenario of a limit says, whose value is at a byte.
+// All that the small scenario of a limit says, whose value is at a byte.
 fn read_limit_text(alloc: Global, text: &[u8], at: usize) -> Result<Says, AllocError>
     ensures { IfOk result (λ says. said_in says ≡ opened_limit (scenario_of None text.now)) }
 {
@@ -214,7 +214,7 @@ fn read_limit_text(alloc: Global, text: &[u8], at: usize) -> Result<Says, AllocE
     }
 }
 
-/// What the words after `limit` say. `AllocError` where memory couldn't grow.
+/// All that the words after `limit` say. `AllocError` where memory couldn't grow.
 pub fn read_limit(alloc: Global, line: &[u8], rest: &[Part]) -> Result<Says, AllocError>
     ensures { IfOk result (λ says. said_in says ≡ limit_said line.now rest.now) }
 {

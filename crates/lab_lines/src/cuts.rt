@@ -1,4 +1,4 @@
-//! What of a line is said: without quotes, before a comment and an answer, and after the number of an entry.
+//! The part of a line that is said: without quotes, before a comment and an answer, and after the number of an entry.
 ghost use Rattle.std.specs.Prelude.{◌≡◌, IfOk, drop, is_some, position};
 ghost use Rattle.std.specs.List.{list_all};
 ghost use Rattle.lab_lines.specs.Lines as lines;

@@ -1,4 +1,4 @@
-//! What a text expects its steps to be answered.
+//! The answers that a text expects of its steps.
 ghost use Rattle.std.specs.Prelude.{◌≡◌, ◌<◌, ◌≤◌, ◌+◌, ◌++◌, IfErr, IfOk, OnOk, Ok, length, map, position, string_bytes, true};
 ghost use Rattle.std.specs.Str.Lines.{lines};
 ghost use Rattle.lab_lines.specs.Expects as expects;
@@ -65,7 +65,7 @@ fn before_comment<'a>(line: &[u8], words: &'a [Part]) -> &'a [Part]
     }
 }
 
-// What is from the first of some words to the end of the last.
+// The bytes from the first of some words to the end of the last.
 fn spanned<'a>(line: &'a [u8], words: &[Part]) -> &'a [u8]
     ensures { result.now ≡ spanned line.now words.now }
 {
@@ -116,7 +116,7 @@ fn asks_said(line: &[u8], words: &[Part]) -> Option<bool>
     }
 }
 
-// Of a line without quotes.
+// The same for a line without quotes.
 #[tactic(auto, unfolding(crate::specs::Expects::asks))]
 fn asks(line: &[u8], words: &[Part]) -> Option<bool>
     requires { words.now ≡ lines.words_of line.now }
@@ -201,7 +201,7 @@ fn put_lines(
     Ok(step)
 }
 
-// What lines expect.
+// The answers that lines expect.
 fn expected_in_lines(alloc: Global, lines: &[&str]) -> Result<Vec<Expected>, AllocError>
     ensures { IfOk result (λ all. map expects_in all.items ≡ expects_of_lines (map (λ line. line.now) lines.now)) }
 {
@@ -211,7 +211,7 @@ fn expected_in_lines(alloc: Global, lines: &[&str]) -> Result<Vec<Expected>, All
     Ok(all)
 }
 
-// What a text of lines expects.
+// The answers that a text of lines expects.
 fn expected_in_text(alloc: Global, text: &str) -> Result<Vec<Expected>, AllocError>
     ensures { IfOk result (λ all. map expects_in all.items ≡ expects_of_lines (lines text.now)) }
 {
@@ -234,7 +234,7 @@ fn expected_in_bytes(alloc: Global, text: &[u8]) -> Result<Vec<Expected>, Expect
     }
 }
 
-/// What a text expects its steps to be answered, by step: in a text of lines what comes after ` -> ` and a call, in
+/// The answers that a text expects of its steps, by step: in a text of lines what comes after ` -> ` and a call, in
 /// one of tables the keys `expect` of steps. `NoAnswer` where such a key has no answer in quotes.
 pub fn read_expected(alloc: Global, text: &[u8]) -> Result<Vec<Expected>, ExpectFault>
     ensures read { IfOk result (λ all. expects_of text.now ≡ Ok (map expects_in all.items)) }

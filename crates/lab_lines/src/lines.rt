@@ -1,4 +1,4 @@
-//! What a line asks for.
+//! The step that a line asks for.
 ghost use Rattle.std.specs.Prelude.{◌≡◌, ◌<◌, ◌+◌, IfOk, IsTrue, None, Ok, drop, min, string_bytes};
 ghost use Rattle.std.specs.List.{list_all};
 ghost use Rattle.evl_scenario.specs.Scenarios.{scenario_of};
@@ -85,12 +85,12 @@ fn place_of(small_line: usize, word: Part, thread: Part, pairs: &[Pair]) -> usiz
     }
 }
 
-/// What is reported of a step that can't be read, without the step's number, which is that of the small scenario.
+/// The report of a step that can't be read, without the step's number, which is that of the small scenario.
 pub fn told_of(words: &str) -> &str {
     words.strip_prefix("step 1: ").unwrap_or(words)
 }
 
-// What was wanted in a line whose small scenario can't be read.
+// The words on what was wanted in a line whose small scenario can't be read.
 fn explain(
     alloc: Global,
     text: &[u8],
@@ -250,7 +250,7 @@ fn read_plain(alloc: Global, line: &[u8]) -> Result<Heard, AllocError>
     read_said(alloc, line, said_of(line, words.as_slice()))
 }
 
-/// Where a line can't be read, by where it can't without its quotes.
+/// The place at which a line can't be read, by that place without its quotes.
 pub fn unread_in(line: &[u8], unread: Unread) -> Unread {
     Unread {
         column: column_in(line, unread.column),
@@ -258,7 +258,7 @@ pub fn unread_in(line: &[u8], unread: Unread) -> Unread {
     }
 }
 
-// What was heard of a line without quotes, with its place in the line.
+// All that was heard of a line without quotes, with its place in the line.
 fn placed_in(line: &[u8], heard: Heard) -> Heard
     ensures { heard_step result ≡ heard_step heard }
 {

@@ -36,7 +36,7 @@ fn count_of(value: &[u8]) -> Option<u64>
     }
 }
 
-// What each of so many elements is.
+// The value of each of so many elements.
 fn plain_item(key: &[u8]) -> &'static [u8]
     ensures { result.now ≡ boards.plain_item key.now }
 {

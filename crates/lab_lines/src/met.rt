@@ -64,7 +64,7 @@ fn fronts(kind: ReplyKind) -> &'static [&'static str]
     }
 }
 
-// What is before the first blank, and what is after it.
+// The text before the first blank, and the text after it.
 fn around_blank(text: &str) -> Option<(&str, &str)>
     ensures { option_map (λ parts. (parts.0.now, parts.1.now)) result ≡ around_space text.now }
 {
@@ -199,7 +199,7 @@ fn entry_at<'a>(entries: &[EntryLine<'a>], step: usize) -> Option<EntryLine<'a>>
     entries.get(step.saturating_sub(1)).copied()
 }
 
-// What the step is answered of which something is expected.
+// The answer of the step of which something is expected.
 fn answer_at<'a>(entries: &[EntryLine<'a>], expected: &Expected) -> Option<&'a str>
     ensures { option_map (λ answer. answer.now) result ≡ answer_at (map parts_of entries.now) expected.now }
 {
@@ -297,7 +297,7 @@ fn answers_at(
     }
 }
 
-// What is said of the word that may be meant, or nothing.
+// The words about the word that may be meant, or nothing.
 fn hint_for(alloc: Global, expected: &Expected, answers: &[&str]) -> Result<String, AllocError>
     ensures { IfOk result (λ hint. string_bytes hint ≡ hint_text (string_bytes expected.now.answer) (map (λ answer. answer.now) answers.now)) }
 {
@@ -311,7 +311,7 @@ fn quoted(alloc: Global, answer: &str, hint: &str) -> Result<String, AllocError>
     format!(in alloc; "\"{answer}\"{hint}")
 }
 
-// That a call is never answered so.
+// The words that a call is never answered so.
 fn never_said(alloc: Global, step: usize, word: &str, answer: &str) -> Result<String, AllocError>
     ensures { IfOk result (λ text. string_bytes text ≡ met.never_said step word.now answer.now) }
 {
@@ -332,7 +332,7 @@ fn never_words(
     never_said(alloc, expected.step, word, answer.as_str())
 }
 
-// That a step is answered otherwise.
+// The words that a step is answered otherwise.
 fn unmet_words(alloc: Global, expected: &Expected, answer: &str) -> Result<String, AllocError>
     ensures { IfOk result (λ text. string_bytes text ≡ unmet_words expected.now answer.now) }
 {

@@ -1,4 +1,4 @@
-//! Where the parts of a line are.
+//! The places of a line's parts.
 ghost use Rattle.std.specs.Prelude.{◌≡◌, ◌<◌, ◌==◌, ◌++◌, ◌∷◌, [], List, IfOk, IfSome, OnOk, position};
 ghost use Rattle.lab_lines.specs.Lines as lines;
 ghost use Rattle.lab_lines.specs.Lines.{begun_then, ended_word, lengthened, pair_around, pairs_of, with_rest, words_of};

@@ -1,4 +1,4 @@
-//! What a line of a text says.
+//! All that a line of a text says.
 ghost use Rattle.std.specs.Prelude.{◌≡◌, ◌∷◌, List, IfOk, drop};
 ghost use Rattle.lab_lines.specs.Lines.{heard_step};
 ghost use Rattle.lab_lines.specs.Texts as texts;
@@ -13,7 +13,7 @@ use evl_base::Board;
 use evl_scenario::Step;
 use std::alloc::{AllocError, Global};
 
-/// What a line says.
+/// The things that a line can say.
 #[derive(Drop)]
 pub enum Says {
     /// It is empty, a comment, or a play of a trace.
@@ -54,7 +54,7 @@ fn step_of(heard: Heard) -> Says
     }
 }
 
-// What a line says with this first word.
+// All that a line says with this first word.
 fn read_by(
     alloc: Global,
     line: &[u8],
@@ -76,7 +76,7 @@ fn read_by(
     }
 }
 
-// What a line says by its words.
+// All that a line says by its words.
 fn read_kind(alloc: Global, line: &[u8], words: &[Part]) -> Result<Says, AllocError>
     ensures { IfOk result (λ says. said_in says ≡ said_by line.now words.now) }
 {
@@ -102,7 +102,7 @@ pub fn is_play(line: &[u8], words: &[Part]) -> bool
     }
 }
 
-// What a line without quotes says, by the words that are said.
+// All that a line without quotes says, by the words that are said.
 fn read_said(alloc: Global, line: &[u8], words: &[Part]) -> Result<Says, AllocError>
     ensures { IfOk result (λ says. said_in says ≡ said_of_words line.now words.now) }
 {
@@ -119,7 +119,7 @@ fn read_said(alloc: Global, line: &[u8], words: &[Part]) -> Result<Says, AllocEr
     }
 }
 
-// What a line without quotes says.
+// All that a line without quotes says.
 fn read_plain(alloc: Global, line: &[u8]) -> Result<Says, AllocError>
     ensures { IfOk result (λ says. said_in says ≡ said_of_plain line.now) }
 {
@@ -127,7 +127,7 @@ fn read_plain(alloc: Global, line: &[u8]) -> Result<Says, AllocError>
     read_said(alloc, line, said_of(line, words.as_slice()))
 }
 
-// What a line without quotes says, with its place in the line.
+// All that a line without quotes says, with its place in the line.
 fn placed_in(line: &[u8], says: Says) -> Says
     ensures { said_in result ≡ said_in says }
 {
@@ -137,7 +137,7 @@ fn placed_in(line: &[u8], says: Says) -> Says
     }
 }
 
-/// What a line of a text says. `AllocError` where memory couldn't grow.
+/// All that a line of a text says. `AllocError` where memory couldn't grow.
 pub fn read_says(alloc: Global, line: &[u8]) -> Result<Says, AllocError>
     ensures { IfOk result (λ says. said_in says ≡ said_of line.now) }
 {

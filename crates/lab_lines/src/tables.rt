@@ -188,7 +188,7 @@ fn put_expected(
     Ok(spot)
 }
 
-// What keys expect.
+// The answers that keys expect.
 fn expected_by(alloc: Global, text: &[u8], keys: &[Item]) -> Result<Vec<Expected>, AllocError>
     ensures { IfOk result (λ all. map expects_in all.items ≡ flat_map (item_expects text.now) keys.now) }
 {
@@ -208,7 +208,7 @@ fn no_answer(text: &[u8], item: Item) -> ExpectFault
     ExpectFault::NoAnswer(spot.line, number_of(item.section))
 }
 
-// What keys expect, of which one may have no answer.
+// The answers that keys expect, where one key may have none.
 fn expected_unless(
     alloc: Global,
     text: &[u8],
@@ -228,7 +228,7 @@ fn expected_unless(
     }
 }
 
-/// What the keys `expect` of a text of tables expect of its steps, in order. `NoAnswer` where a value is no answer.
+/// The answers that the keys `expect` of a text of tables expect, in order of steps. `NoAnswer` where a value is none.
 pub fn expected_in_tables(alloc: Global, text: &[u8]) -> Result<Vec<Expected>, ExpectFault>
     ensures read { IfOk result (λ all. expects_of_tables text.now ≡ Ok (map expects_in all.items)) }
     ensures refused { IfErr result (IsFaultOf (expects_of_tables text.now)) }

@@ -36,7 +36,7 @@ pub struct Meant {
     pub setup: usize,
 }
 
-/// What lines have said. A step is kept as the entry of a history, since a scenario is written of those.
+/// All that lines have said. A step is kept as the entry of a history, since a scenario is written of those.
 #[derive(Drop)]
 pub struct Gathering {
     pub opening: Option<(Board, u32)>,
@@ -177,7 +177,7 @@ fn nothing(alloc: Global) -> Gathering
     }
 }
 
-// What lines say.
+// All that lines say.
 fn gather(alloc: Global, lines: &[&str]) -> Result<Gathering, LinesFault>
     ensures said { IfOk result (λ g. gathered 1 nothing_said (map (λ line. line.now) lines.now) ≡ Ok (gathered_in g)) }
     ensures refused { IfErr result (λ e. (e ≡ LinesFault.Memory) ⊎ ((number : ℕ) × IsAt number e × (gathered 1 nothing_said (map (λ line. line.now) lines.now) ≡ Err number))) }

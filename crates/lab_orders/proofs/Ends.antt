@@ -1,4 +1,4 @@
--- Where there is no run of so many steps, there is no longer one.
+-- If there is no run of so many steps, there is no longer one.
 use Rattle.std.proofs.Common.{◌≡◌, ℕ, zero, suc, ◌+◌, [], ◌++◌, ◌∙◌, ap, add-zero, add-suc, append-nil}
 use Rattle.std.specs.Prelude.{filter, flat_map}
 use Rattle.lab_orders.specs.Machines.{Machine, is_over, longer, runs, orders}

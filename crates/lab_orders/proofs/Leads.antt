@@ -1,4 +1,4 @@
--- Where steps lead, one after another.
+-- The moments that steps lead to, one after another.
 use Rattle.std.proofs.Common.{◌≡◌, ℕ, ◌+◌, List, [], ◌∷◌, ◌++◌, get_or, length, take, refl, sym, ◌∙◌, ap}
 use Rattle.std.specs.Prelude.{◌<◌, ◌≤◌, Option, Some, None, option_and_then}
 use Rattle.std.proofs.lemmas.List.{take_all, take_more}

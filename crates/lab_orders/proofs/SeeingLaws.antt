@@ -1,4 +1,4 @@
--- What is seen of a machine is counted as it is.
+-- All that is seen of a machine is counted as it is.
 use Rattle.std.proofs.Common.{◌≡◌, ℕ, zero, suc, ◌+◌, Bool, true, false, cond, List, [], ◌∷◌, refl, sym, ◌∙◌, ap}
 use Rattle.std.specs.Prelude.{◌&&◌, Option, Some, None, is_none, option_map}
 use Rattle.std.specs.List.{list_all}

@@ -1,4 +1,4 @@
--- What callers were answered at each of their steps, over all orders.
+-- The answers of callers at each of their steps, over all orders.
 use Rattle.std.specs.Prelude.{ℕ, zero, suc, ◌+◌, ◌-◌, ◌==◌, Bool, false, ◌&&◌, ◌||◌, not, nat_lt, if◌then◌else◌, List, [], ◌∷◌, ◌++◌, codes, drop, filter, filter_map, is_some, length, map, string_bytes, sum_by, take, Option, Some, None, option_and_then, unwrap_or}
 use Rattle.std.specs.Fmt.{decimal}
 use Rattle.std.specs.Cmp.Lexicographic.{pointwise}

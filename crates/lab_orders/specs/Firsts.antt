@@ -21,7 +21,7 @@ IsFirst m s holds steps Nowhere = (k : ℕ) → k < steps → HoldsAfterNone m s
 IsFirst m s holds steps (After order) = (length order.items < steps) × LeadsFirst m s holds order.items
 
 -- rule: For each question about moments the first order to a moment as it looks for is reported, a shortest one; if
---   none is, no moment of any run that was gone through is so. What is looked for is a function of the kernel's
+--   none is, no moment of any run that was gone through is so. All that is looked for is a function of the kernel's
 --   records: that all facts are so, or, of `always`, that not all are. Moments that are merged have the same records,
 --   so the same facts.
 --   also: Facts.is_so; Watches.is_noted; Verdicts.{is_found_against, state_against}

@@ -1,4 +1,4 @@
--- What the orders of a machine are.
+-- The orders of a machine.
 use Rattle.std.specs.Prelude.{ℕ, ◌≡◌, ◌≢◌, ◌↔◌, ◌+◌, ◌≤◌, ◌<◌, ◌==◌, List, [], ◌∷◌, length, AllPairs, Contains, Some, IsSome, count_by, option_map}
 use Rattle.lab_orders.specs.Machines.{Machine, Run, IsRun, led_along, runs, orders}
 use Rattle.lab_orders.specs.Weights.{total}
@@ -13,7 +13,7 @@ abbrev pub RunsAreThereOnce : Type 0 → Type 0
 RunsAreThereOnce S =
     (m : Machine S) (s : S) (k : ℕ) → AllPairs (λ r q. r.order ≢ q.order) (runs m s k)
 
--- Where there is no run of so many steps, there is no order of as many or more.
+-- If there is no run of so many steps, there is no order of as many or more.
 abbrev pub OrdersEnd : Type 0 → Type 0
 OrdersEnd S =
     (m : Machine S) (s : S) (k more : ℕ) → runs m s k ≡ [] → orders m s (k + more) ≡ orders m s k

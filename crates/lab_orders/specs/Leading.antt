@@ -1,4 +1,4 @@
--- Where one order leads.
+-- The moment that one order leads to.
 use Rattle.std.specs.Prelude.{ℕ, ◌≡◌, ◌<◌, List, Some, None, length, slice_index_or, take}
 use Rattle.lab_orders.specs.Machines.{Machine, led_along}
 use Rattle.lab_orders.specs.declared.leading.Led.{Led}

@@ -1,4 +1,4 @@
--- Where the nodes of one number of steps are found again.
+-- The places at which the nodes of one number of steps are found again.
 use Rattle.std.specs.Prelude.{ℕ, zero, suc, ◌≡◌, ◌<◌, nat_eq, cond, List, Option, Some, None, length, map, slice_get, slice_index_or}
 use Rattle.std.specs.HashMap.{get}
 use Rattle.lab_orders.specs.Fronts.{AreApart, states}

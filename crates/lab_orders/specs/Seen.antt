@@ -1,4 +1,4 @@
--- What is kept of callers while their answers are gone through.
+-- The records that are kept of callers while their answers are gone through.
 use Rattle.std.specs.Prelude.{ℕ, List, [], ◌∷◌, ◌++◌, if◌then◌else◌, map}
 use Rattle.std.specs.List.{list_any}
 use Rattle.std.specs.Str.{bytes_eq}

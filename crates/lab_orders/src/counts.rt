@@ -10,14 +10,14 @@ use crate::Tally;
 use crate::rows::{answer_at, row};
 use std::alloc::{AllocError, Global};
 
-/// What is reported of one caller in an outcome, from the arrow before its first answer on, and how many orders end so.
+/// The report of one caller in an outcome, from the arrow before its first answer on, and how many orders end so.
 #[derive(Clone, Copy, Drop)]
 pub(crate) struct Row<'a> {
     pub(crate) told: &'a [u8],
     pub(crate) count: u128,
 }
 
-// What is reported of a caller in an outcome.
+// The report of a caller in an outcome.
 fn row_of<'a>(who: &[u8], outcome: &'a Tally) -> Row<'a>
     ensures told { result.told.now ≡ row who.now (string_bytes outcome.now.told) }
     ensures count { result.count ≡ outcome.now.count }
@@ -28,7 +28,7 @@ fn row_of<'a>(who: &[u8], outcome: &'a Tally) -> Row<'a>
     }
 }
 
-/// What is reported of a caller in each outcome.
+/// The report of a caller in each outcome.
 pub(crate) fn rows_of<'a>(
     alloc: Global,
     outcomes: &'a [Tally],

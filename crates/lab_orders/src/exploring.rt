@@ -12,7 +12,7 @@ use crate::nodes::Node;
 use crate::worlds::World;
 use std::alloc::{AllocError, Global};
 
-/// Where the orders of a world end.
+/// The ends of the orders of a world.
 #[derive(Drop)]
 pub struct Explored<M> {
     /// The moments at which nobody can make a step, those of the shortest orders first.
@@ -197,7 +197,7 @@ fn next_front<W: World>(
     }
 }
 
-// What was found, as far as it was gone.
+// All that was found, as far as it was gone.
 fn found<M: Drop>(front: Front<M>, firsts: Vec<First>) -> Explored<M>
     ensures ends { result.ends.items ≡ front.ends.items }
     ensures firsts { result.firsts.items ≡ firsts.items }
@@ -247,10 +247,10 @@ pub fn explore<W: World>(
     ensures asked { IfOk result (λ found. found.steps ≤ steps) }
     ensures gone { IfOk result (λ found. IsGone (W.machine world.now) (W.state world.now) (W.state world.now start) most found.steps found.moments) }
 
-    // Where each two moments of one state are known as such, no two of one number of steps are at one state.
+    // If each two moments of one state are known as such, no two of one number of steps are at one state.
     ensures apart { IfOk result (λ found. W.complete world.now → GoesApart (W.machine world.now) (W.state world.now) (W.state world.now start) most found.steps found.moments) }
 
-    // Where nothing was cut off, no run has as many steps.
+    // If nothing was cut off, no run has as many steps.
     ensures whole { IfOk result (λ found. found.whole ≡ true → runs (W.machine world.now) (W.state world.now start) found.steps ≡ []) }
 
     // Else it came as far as was asked, or there are more runs of so many steps than `most`.
@@ -263,7 +263,7 @@ pub fn explore<W: World>(
     ensures over { IfOk result (λ found. AreOver (W.machine world.now) (W.state world.now) found.ends.items) }
     ensures shortest { IfOk result (λ found. AreShortest found.steps found.ends.items) }
 
-    // Of each question there is the first order that leads to a moment at which it holds; where there is none, it holds
+    // For each question there is the first order that leads to a moment at which it holds; if there is none, it holds
     // at no moment of any order that was gone through.
     ensures firsts { IfOk result (λ found. AreFirsts (W.machine world.now) (W.state world.now start) (W.holds world.now) found.steps 0 found.firsts.items) }
     ensures each { IfOk result (λ found. length found.firsts.items ≡ W.asked world.now) }

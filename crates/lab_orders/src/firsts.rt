@@ -12,7 +12,7 @@ use std::alloc::{AllocError, Global};
 pub enum First {
     /// There is none.
     Nowhere,
-    /// Who makes each step.
+    /// The caller of each step.
     After(Vec<u16>),
 }
 

@@ -5,7 +5,7 @@ ghost use Rattle.lab_orders.specs.Leading.{LeadsSo};
 use crate::worlds::World;
 use std::alloc::{AllocError, Global};
 
-/// Where an order leads.
+/// The place that an order leads to.
 #[derive(Drop)]
 pub enum Led<M> {
     /// To this moment.
@@ -14,7 +14,7 @@ pub enum Led<M> {
     Stuck(usize),
 }
 
-/// Where an order leads from a moment, by who makes each step. `AllocError` where memory couldn't grow.
+/// The place that an order leads to from a moment, by who makes each step. `AllocError` where memory couldn't grow.
 pub fn lead<W: World>(
     alloc: Global,
     world: &W,

@@ -1,5 +1,5 @@
 //! Every order in which the callers of a world may come: how many orders there are, and where they end.
-//! What names no source is this profile's own.
+//! All that names no source is this profile's own.
 #![tactic(auto)]
 
 mod counts;

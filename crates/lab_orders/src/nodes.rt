@@ -16,6 +16,6 @@ pub struct Node<M> {
 pub struct Reached<M, H> {
     /// The moment.
     pub at: M,
-    /// What is at hand there.
+    /// All that is at hand there.
     pub hand: H,
 }

@@ -1,8 +1,8 @@
-//! What one caller was answered, by what is reported of an outcome.
+//! The answers of one caller, by what is reported of an outcome.
 ghost use Rattle.std.specs.Prelude.{◌≡◌, drop, option_map, take};
 ghost use Rattle.lab_orders.specs.Answers.{answer_at, answer_of, begins, is_end, later_row, row, row_here, text_behind};
 
-// What comes after the first text in the second, if that begins with it.
+// The text after the first text in the second, if that begins with it.
 fn behind<'a>(front: &[u8], text: &'a [u8]) -> Option<&'a [u8]>
     ensures { option_map (λ rest. rest.now) result ≡ text_behind front.now text.now }
 {
@@ -30,7 +30,7 @@ fn before(text: &[u8], count: usize) -> &[u8]
     text.get(..count).unwrap_or(text)
 }
 
-// What comes after this name, if a text begins with it and an arrow.
+// The text after this name, if a text begins with that and an arrow.
 fn row_here<'a>(who: &[u8], text: &'a [u8]) -> Option<&'a [u8]>
     ensures { option_map (λ rest. rest.now) result ≡ row_here who.now text.now }
 {
@@ -62,7 +62,7 @@ fn later_row<'a>(who: &[u8], text: &'a [u8]) -> &'a [u8]
     rest
 }
 
-/// What is reported of a caller from the arrow before its first answer on; nothing where it has none.
+/// The report of a caller from the arrow before its first answer on; nothing where it has none.
 pub(crate) fn row<'a>(who: &[u8], told: &'a [u8]) -> &'a [u8]
     ensures { result.now ≡ row who.now told.now }
 {

@@ -8,7 +8,7 @@ use crate::levels::OrdersError;
 /// An outcome.
 #[derive(Drop)]
 pub struct Tally {
-    /// What is reported of it: two outcomes are the same where this is.
+    /// The report of it: two outcomes are the same where this is.
     pub told: String,
     /// How many orders end so.
     pub count: u128,

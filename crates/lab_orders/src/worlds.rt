@@ -1,4 +1,4 @@
-//! What callers drive.
+//! The worlds that callers drive.
 ghost use Rattle.std.specs.Prelude.{ℕ, Bool, ◌≡◌, ◌≢◌, ◌<◌, true, false, IfOk, IfSome, option_map};
 
 use crate::nodes::Reached;
@@ -9,13 +9,13 @@ use std::alloc::{AllocError, Global};
 pub trait World {
     ghost use Rattle.lab_orders.specs.Machines.{Machine};
 
-    /// What is kept of the world at one moment.
+    /// All that is kept of the world at one moment.
     type Moment: Drop;
 
-    /// What is at hand right after a step, by which its moment is distinguished from others.
+    /// All that is at hand right after a step, by which its moment is distinguished from others.
     type Hand: Drop;
 
-    /// What contracts know of a moment.
+    /// All that contracts know of a moment.
     type State;
 
     /// The world as a machine.
@@ -24,19 +24,19 @@ pub trait World {
     /// The state of a moment.
     ghost state: { Self → Self.Moment → Self.State };
 
-    /// That a moment is one of this world.
+    /// Whether a moment is one of this world.
     ghost fits: { Self → Self.Moment → Type 0 };
 
-    /// That this is at hand at a moment.
+    /// Whether this is at hand at a moment.
     ghost is_at_hand: { Self → Self.Hand → Self.Moment → Type 0 };
 
-    /// What is asked at each moment: whether the question with this number holds of a state.
+    /// The questions at each moment: whether the one with this number holds of a state.
     ghost holds: { Self → ℕ → Self.State → Bool };
 
     /// How many questions are asked.
     ghost asked: { Self → ℕ };
 
-    /// That each two moments of one state are known as such, and have the digest of that state.
+    /// Whether each two moments of one state are known as such, and have the digest of that state.
     ghost complete: { Self → Type 0 };
 
     /// The digest of a state, where there is one.

@@ -1,4 +1,4 @@
--- What the kernel's calls leave, and what a copy of one takes.
+-- The state that the kernel's calls leave, and the room that a copy of one takes.
 use Rattle.std.proofs.Common.{◌≡◌, ℕ, ◌≤◌, List, Result, Ok, Err, refl, sym, ap, arith}
 use Rattle.evl_base.specs.Call.{boxes_in_call}
 use Rattle.evl_base.specs.declared.call.Call.{Call}

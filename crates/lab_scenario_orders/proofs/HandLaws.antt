@@ -1,4 +1,4 @@
--- What is known of a moment, of what is at hand there.
+-- All that is known of a moment, of what is at hand there.
 use Rattle.std.proofs.Common.{◌≡◌, ap, subst, sym}
 use Rattle.std.specs.Prelude.{IfSome, Option, Some, None, option_map}
 

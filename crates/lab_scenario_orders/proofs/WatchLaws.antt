@@ -1,4 +1,4 @@
--- What is noted of a moment, and texts with `and` between them.
+-- The notes of a moment, and texts with `and` between them.
 use Rattle.std.proofs.Common.{All, Bor, append_assoc, ◌≡◌, ℕ, zero, suc, Bool, false, List, [], ◌∷◌, ◌++◌, map, refl, sym, ◌∙◌, ap}
 use Rattle.std.specs.Prelude.{codes, slice_get, unwrap_or}
 use Rattle.std.proofs.lemmas.List.{map-append}

@@ -1,4 +1,4 @@
--- What calls can be answered, as it is written.
+-- The answers that calls can have, as they are written.
 use Rattle.std.specs.Prelude.{ℕ, Bool, false, ◌&&◌, ◌||◌, nat_eq, nat_le, not, List, [], ◌∷◌, codes, find, is_some, length, string_bytes, Option}
 use Rattle.std.specs.Char.{is_ascii_digit}
 use Rattle.std.specs.List.{list_all, list_any}

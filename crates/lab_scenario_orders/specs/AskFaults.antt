@@ -82,7 +82,7 @@ abbrev pub IsWhyIn : List Caller → Board → Option Members → AskFault → T
 IsWhyIn callers board None e = (e ≡ fault.Table) ⊎ (e ≡ fault.Memory)
 IsWhyIn callers board (Some ms) e = IsWhy callers board ms e
 
--- rule: What is asked is refused for a key that has no such value or isn't one of `[ask]`; for a text of `never`, by
+-- rule: All that is asked is refused for a key that has no such value or isn't one of `[ask]`; for a text of `never`, by
 --   its number from 1, that is no caller of the text with one answer; or for a text of facts, by its key and number,
 --   with the word that may be meant where one of its parts between ` and `s is no fact, else with the first part that
 --   it names and the board lacks.

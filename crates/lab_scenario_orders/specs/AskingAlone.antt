@@ -55,7 +55,7 @@ asked_of ask c = map (is_asked_of ask.never.items) c.callers.items
 abbrev pub one_against : Callers → Ask → List Bool → Seen → ℕ
 one_against c ask told seen = cond (is_against ask (told_text c (forget told seen))) 1 0
 
--- What came of what is asked alone: how many orders there are, and how many of them end against it.
+-- The result of what is asked alone: how many orders there are, and how many of them end against it.
 pub record IsVerdict (c : Callers) (bank : List Handler) (ask : Ask) (most : ℕ) (told : List Bool) (found : Verdict) : Type 0 where
   pub count : found.orders ≡ length (orders (machine c) (first_seen c bank) found.steps)
   pub against : found.against ≡ total (one_against c ask told) (orders (machine c) (first_seen c bank) found.steps)

@@ -1,4 +1,4 @@
--- What is asked of all orders, by what is reported of their ends.
+-- The questions about all orders, by what is reported of their ends.
 use Rattle.std.specs.Prelude.{ℕ, ◌≡◌, ◌==◌, Bool, true, false, ◌&&◌, ◌||◌, if◌then◌else◌, List, [], ◌∷◌, ◌++◌, codes, map, drop, take, length, string_bytes, Option, Some, None, is_some, option_and_then, option_map, unwrap_or, All}
 use Rattle.std.specs.Fmt.{decimal}
 use Rattle.std.specs.List.{list_any}

@@ -50,7 +50,7 @@ key_name key.Outcomes = Some (codes "outcomes")
 key_name key.Other = None
 
 -- rule: A text is split by lines into tables `[ask]` and a scenario, of which it has the board, limit and steps, and
---   how many are set up. What is asked is what the tables say; `never` names only callers, each with one answer,
+--   how many are set up. The tables say all that is asked; `never` names only callers, each with one answer,
 --   without white space around either; a key's fault has the first line that sets the key. A report says that somebody
 --   is stuck exactly if one of its lines does.
 --   also: Callers.scenario; Asks.{who, parted}

@@ -1,4 +1,4 @@
--- What all orders of callers end in.
+-- The outcomes that all orders of callers end in.
 use Rattle.std.specs.Prelude.{ℕ, ◌≡◌, ◌≤◌, ◌<◌, ◌+◌, ◌⊎◌, true, false, List, [], length, map, All, AllPairs}
 use Rattle.evl_kernel.specs.state.States.{Handler}
 use Rattle.lab_orders.specs.Firsts.{AreFirsts}
@@ -64,7 +64,7 @@ pub record AreOutcomes (c : Callers) (bank : List Handler) (watches : List Watch
   -- no number of steps that leads to more than `most` moments was gone on from, and so many moments were gone through
   pub asked : found.steps ≤ length c.steps.items + 1
   pub gone : IsGone (machine c) (seen_at c bank) (first_seen c bank) most found.steps found.moments
-  -- Where nothing was cut off, no run has as many steps; else there is one, and more than `most` runs have, or it went
+  -- If nothing was cut off, no run has as many steps; else there is one, and more than `most` runs have, or it went
   -- further than all steps together.
   pub whole : found.whole ≡ true → runs (machine c) (first_seen c bank) found.steps ≡ []
   pub cut : found.whole ≡ false → (length c.steps.items < found.steps) ⊎ (most < length (runs (machine c) (first_seen c bank) found.steps))

@@ -1,4 +1,4 @@
--- What is reported of callers at the end of an order.
+-- The lines that are reported of callers at the end of an order.
 use Rattle.std.specs.Prelude.{ℕ, zero, suc, ◌==◌, Bool, List, [], ◌∷◌, ◌++◌, codes, length, Option, Some, None, is_some, if◌then◌else◌, option_map, slice_get, slice_index, slice_index_or}
 use Rattle.std.specs.Fmt.{decimal, signed_decimal}
 use Rattle.std.specs.List.{list_any}

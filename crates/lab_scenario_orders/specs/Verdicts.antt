@@ -1,4 +1,4 @@
--- What is against what is asked.
+-- All that is against what is asked.
 use Rattle.std.specs.Prelude.{◌+◌, ℕ, Bool, true, false, ◌&&◌, ◌||◌, nat_lt, if◌then◌else◌, is_some, List, [], ◌∷◌, length, slice_get, Option, Some, None}
 use Rattle.std.specs.Option.{option_map_or}
 use Rattle.lab_orders.specs.declared.firsts.First.{First}
@@ -17,7 +17,7 @@ asks_anything asks =
 abbrev pub is_count_against : ℕ → Bool → ℕ → Bool
 is_count_against wanted whole count = nat_lt wanted count || (whole && nat_lt count wanted)
 
--- What was found of a question about moments is against it: a moment as it looks for, but where it is asked that there is
+-- The result of a question about moments is against it: a moment as it looks for, but where it is asked that there is
 -- one; there, that there is none, if nothing was cut off.
 abbrev pub is_found_against : When → Bool → First → Bool
 is_found_against Never whole (After order) = true

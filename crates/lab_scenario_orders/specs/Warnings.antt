@@ -1,4 +1,4 @@
--- What looks odd in all orders.
+-- All that looks odd in all orders.
 use Rattle.std.specs.Prelude.{ℕ, Bool, true, false, ◌&&◌, ◌==◌, ◌+◌, ◌-◌, List, [], ◌∷◌, ◌++◌, codes, decimal, find, flat_map, if◌then◌else◌, length, string_bytes, Option}
 use Rattle.std.specs.List.{list_all}
 use Rattle.std.specs.Option.{option_map_or}

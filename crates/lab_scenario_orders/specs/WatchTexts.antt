@@ -1,4 +1,4 @@
--- What is asked of each moment, as it is written.
+-- The questions about each moment, as they are written.
 use Rattle.std.specs.Prelude.{ℕ, ◌++◌, List, [], codes, map, string_bytes, Option, Some, None, option_and_then, option_map}
 use Rattle.toml.specs.Data.{Data, Members, as_array, as_str, get_member}
 use Rattle.evl_scenario.specs.Tables.{all_given}

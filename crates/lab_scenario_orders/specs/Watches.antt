@@ -1,4 +1,4 @@
--- What is asked of each moment.
+-- The questions about each moment.
 use Rattle.std.specs.Prelude.{ℕ, ◌≡◌, Bool, false, not, List, All, string_bytes, None, slice_get}
 use Rattle.std.specs.Option.{option_map_or}
 use Rattle.evl_base.specs.declared.board.Board.{Board}

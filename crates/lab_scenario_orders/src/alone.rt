@@ -1,4 +1,4 @@
-//! What came of what is asked alone, without the answers of callers of whom nobody asks.
+//! The result of what is asked alone, without the answers of callers of whom nobody asks.
 ghost use Rattle.std.specs.Prelude.{◌≡◌, ◌+◌, ◌*◌, ◌<◌, ◌⊎◌, [], cond, false, IfOk, length, map, string_bytes, sum_by, true, ◌≤◌, IfErr};
 ghost use Rattle.std.specs.List.{list_any};
 ghost use Rattle.std.specs.Str.{bytes_eq};
@@ -19,14 +19,14 @@ use crate::worlds::Driven;
 use lab_orders::{Explored, First, Node, OrdersError, explore};
 use std::alloc::{AllocError, Global};
 
-/// What came of what is asked.
+/// The result of what is asked.
 #[derive(Drop)]
 pub struct Verdict {
     /// How many orders there are.
     pub orders: u128,
     /// How many of them end against what is asked.
     pub against: u128,
-    /// Of each question about moments the first order that leads to one as it looks for.
+    /// For each question about moments the first order that leads to one as it looks for.
     pub firsts: Vec<First>,
     /// How many steps were gone through: the orders are those of fewer.
     pub steps: usize,
@@ -55,7 +55,7 @@ fn is_asked_of(alloc: Global, never: &[Never], caller: &Caller) -> Result<bool, 
     Ok(false)
 }
 
-// Of each caller whether it is.
+// For each caller, whether it is.
 fn asked_of(alloc: Global, ask: &Ask, callers: &Callers) -> Result<Vec<bool>, AllocError>
     ensures { IfOk result (λ asked. asked.items ≡ asked_of ask.now callers.now) }
 {
@@ -158,7 +158,7 @@ fn sums_of<B: BankMaker>(
     Ok(sums)
 }
 
-// What was found, with the sums of its ends.
+// All that was found, with the sums of its ends.
 fn verdict_of<B: BankMaker>(
     alloc: Global,
     callers: &Callers,

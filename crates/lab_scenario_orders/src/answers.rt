@@ -1,4 +1,4 @@
-//! What calls can be answered, as it is written.
+//! The answers that calls can have, as they are written.
 ghost use Rattle.std.specs.Prelude.{◌≡◌, IfOk, find, map, option_map};
 ghost use Rattle.std.specs.List.{list_all, list_any};
 ghost use Rattle.std.specs.Str.{bytes_eq};
@@ -64,7 +64,7 @@ fn is_bytes(text: &str) -> bool
     }
 }
 
-// What comes before the first blank, and what after it.
+// The text before the first blank, and the text after it.
 fn around_blank(text: &str) -> Option<(&str, &str)>
     ensures { option_map (λ parts. (parts.0.now, parts.1.now)) result ≡ around_space text.now }
 {
@@ -266,8 +266,8 @@ fn meant_by(
     meant_among(alloc, steps, never, plain_answers())
 }
 
-/// What may be meant by an answer that no step of its caller can have: one that it can have, without a number, and at
-/// most two edits away. `AllocError` where memory couldn't grow.
+/// The answer that may be meant by one that no step of its caller can have: one that it can have, without a number, and
+/// at most two edits away. `AllocError` where memory couldn't grow.
 pub fn near_answer(
     alloc: Global,
     callers: &Callers,

@@ -33,7 +33,7 @@ pub fn ask_all<B: BankMaker>(
     ensures uncounted { IfErr result (CanNotTell callers.now (B.bank bank.now)) }
     ensures against { IfOk result (λ asked. asked.against ≡ position (λ outcome. is_against ask.now (string_bytes outcome.told)) asked.outcomes.all.items) }
 
-    // Where no outcome is, no order ends so.
+    // If there is no outcome, no order ends so.
     ensures none { IfOk result (λ asked. asked.against ≡ None
         → All (λ run. is_against ask.now (told_text callers.now run.at) ≡ false) (orders (machine callers.now) (first_seen callers.now (B.bank bank.now)) asked.outcomes.steps)) }
 {

@@ -1,4 +1,4 @@
-//! What is asked alone: the answers of callers of whom nobody asks are forgotten.
+//! Questions asked alone: the answers of callers of whom nobody asks are forgotten.
 ghost use Rattle.std.specs.Prelude.{ℕ, List, ◌≡◌, IfOk, IfSome, ◌<◌, length, map, option_map, slice_get, string_bytes, true, unwrap_or};
 ghost use Rattle.evl_kernel.specs.state.States.{Handler};
 ghost use Rattle.lab_scenario_orders.specs.AskingAlone.{ForgetsAnswers, asked_go, forget, kept_from, kept_one};
@@ -23,7 +23,7 @@ fn is_told(told: &[bool], number: usize) -> bool
     told.get(number).copied().unwrap_or(true)
 }
 
-// What is kept of the answers of the caller with this number.
+// The part that is kept of the answers of the caller with this number.
 fn kept_one(alloc: Global, told: &[bool], number: usize, answers: String) -> String
     ensures { string_bytes result ≡ kept_one told.now number (string_bytes answers) }
 {
@@ -34,7 +34,7 @@ fn kept_one(alloc: Global, told: &[bool], number: usize, answers: String) -> Str
     }
 }
 
-// What is kept of the answers of callers.
+// The part that is kept of the answers of callers.
 fn all_kept(alloc: Global, told: &[bool], answers: Vec<String>) -> Result<Vec<String>, AllocError>
     ensures { IfOk result (λ all. map string_bytes all.items ≡ kept_from told.now 0 (map string_bytes answers.items)) }
 {
@@ -122,7 +122,7 @@ fn next_kept<B: BankMaker>(
 #[derive(Clone, Copy, Drop)]
 pub struct Alone<'a, B> {
     pub driven: Driven<'a, B>,
-    /// Of each caller whether its answers are kept.
+    /// For each caller, whether its answers are kept.
     pub told: &'a [bool],
 }
 

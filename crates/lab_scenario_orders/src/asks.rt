@@ -1,4 +1,4 @@
-//! What is asked of all orders.
+//! The questions about all orders.
 ghost use Rattle.std.specs.Prelude.{◌≡◌, IfErr, IfOk, IsSomeAnd, List, None, Option, Some, codes, false, option_and_then, option_map, position, string_bytes};
 ghost use Rattle.std.specs.List.{list_any};
 ghost use Rattle.std.specs.Str.{bytes_eq};
@@ -39,7 +39,7 @@ pub struct Never {
     pub answer: String,
 }
 
-/// What is asked of all orders.
+/// The questions about all orders.
 #[derive(Drop)]
 pub struct Ask {
     /// Answers that callers may have in no order.
@@ -150,7 +150,7 @@ fn number_at(table: &Table) -> Result<Option<u16>, AskFault>
     }
 }
 
-// What a table `[ask]` asks.
+// All that a table `[ask]` asks.
 fn read_table(alloc: Global, callers: &Callers, table: &Table) -> Result<Ask, AskFault>
     ensures asks { IfOk result (Asks (table_view table.now)) }
     ensures who { IfOk result (λ ask. AreOfCallers callers.now.callers.items ask.never.items) }
@@ -193,7 +193,7 @@ fn read_table(alloc: Global, callers: &Callers, table: &Table) -> Result<Ask, As
     }
 }
 
-// What a document asks in which nothing is but `[ask]`.
+// All that a document asks in which nothing is but `[ask]`.
 fn read_document(alloc: Global, callers: &Callers, document: &Table) -> Result<Ask, AskFault>
     ensures asks { IfOk result (λ ask. IsSomeAnd (ask_table (table_view document.now)) (λ table. Asks table ask)) }
     ensures who { IfOk result (λ ask. AreOfCallers callers.now.callers.items ask.never.items) }
@@ -216,7 +216,7 @@ fn read_document(alloc: Global, callers: &Callers, document: &Table) -> Result<A
     }
 }
 
-// What a text asks that is just the table `[ask]`.
+// All that a text asks that is just the table `[ask]`.
 fn read_text(alloc: Global, callers: &Callers, text: &str) -> Result<Ask, AskFault>
     ensures asks { IfOk result (λ ask. IsSomeAnd (option_and_then ask_table (parse_document text.now)) (λ table. Asks table ask)) }
     ensures who { IfOk result (λ ask. AreOfCallers callers.now.callers.items ask.never.items) }
@@ -272,7 +272,7 @@ fn placed(alloc: Global, text: &str, fault: AskFault) -> AskFault
     }
 }
 
-/// What the table `[ask]` of a text of callers asks: nothing where there is none.
+/// All that the table `[ask]` of a text of callers asks: nothing where there is none.
 pub fn read_ask(alloc: Global, callers: &Callers, bytes: &[u8]) -> Result<Ask, AskFault>
     ensures asks { IfOk result (λ ask. IsSomeAnd (option_and_then ask_table (parse_document (ask_part bytes.now))) (λ table. Asks table ask)) }
     ensures who { IfOk result (λ ask. AreOfCallers callers.now.callers.items ask.never.items) }
@@ -323,7 +323,7 @@ impl Question for Stuck {
     }
 }
 
-// What is reported of a thread, be it stuck or not.
+// The report of a thread, be it stuck or not.
 fn past_stuck(text: &[u8]) -> &[u8]
     ensures { result.now ≡ past_stuck text.now }
 {

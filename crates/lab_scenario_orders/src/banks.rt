@@ -4,7 +4,7 @@ ghost use Rattle.std.specs.Prelude.{◌≡◌, [], map, IfOk};
 use evl_pipeline::{Callback, Handler};
 use std::alloc::{AllocError, Global};
 
-/// What makes the callbacks of a bank.
+/// A maker of the callbacks of a bank.
 pub trait BankMaker {
     ghost use Rattle.std.specs.Prelude.{List};
     ghost use Rattle.evl_kernel.specs.state.States.{Handler};
@@ -12,7 +12,7 @@ pub trait BankMaker {
     /// A callback.
     type Made: Handler;
 
-    /// What each callback declares and answers, by number.
+    /// All that each callback declares and answers, by number.
     ghost bank: { Self → List Handler };
 
     /// The callbacks, once more.

@@ -15,7 +15,7 @@ pub struct Caller {
     pub places: Vec<usize>,
 }
 
-/// What is set up on a board, and the callers that come then.
+/// The steps that are set up on a board, and the callers that come then.
 #[derive(Drop)]
 pub struct Callers {
     pub board: Board,
@@ -24,7 +24,7 @@ pub struct Callers {
     /// Whether steps are made as threads are picked: one of an attached out-of-band thread only while it is, and one of
     /// an attached in-band thread only while nobody is.
     pub as_picked: bool,
-    /// What is set up, in order.
+    /// The steps that are set up, in order.
     pub setup: Vec<Step>,
     /// All other steps, as they stand in the text.
     pub steps: Vec<Step>,

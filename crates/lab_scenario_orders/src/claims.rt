@@ -12,7 +12,7 @@ use evl_base::Board;
 use std::alloc::{AllocError, Global};
 use strsim::levenshtein;
 
-// What comes before the first `and` in a text, and after it.
+// The text before the first `and` in a text, and the text after it.
 fn around_and(text: &str) -> Option<(&str, &str)>
     ensures written { IfSome result (λ parts. text.now ≡ parts.0.now ++ (codes " and " ++ parts.1.now)) }
     ensures first { IfSome result (λ parts. IsSingle parts.0.now) }
@@ -39,7 +39,7 @@ fn texts_of(alloc: Global, text: &str) -> Result<Vec<&str>, AllocError>
     Ok(texts)
 }
 
-// What each of these texts claims; none where one isn't a fact.
+// The facts that each of these texts claims; none where one isn't a fact.
 fn claims_of(alloc: Global, texts: &[&str]) -> Result<Option<Vec<Claim>>, AllocError>
     ensures each { IfOk result (λ all. IfSome all (λ claims. map claim_in (map (λ one. one.now) texts.now) ≡ map (λ claim. Some claim) claims.items)) }
     ensures strange { IfOk result (λ all. IfNone all (has_strange (map (λ one. one.now) texts.now) ≡ true)) }
@@ -54,7 +54,7 @@ fn claims_of(alloc: Global, texts: &[&str]) -> Result<Option<Vec<Claim>>, AllocE
     Ok(Some(claims))
 }
 
-/// What a text claims; none where it isn't facts with `and` between them. `AllocError` where memory couldn't grow.
+/// A text's claims; none where it isn't facts with `and` between them. `AllocError` where memory couldn't grow.
 pub(crate) fn claims_in(alloc: Global, text: &str) -> Result<Option<Vec<Claim>>, AllocError>
     ensures claims { IfOk result (λ all. IfSome all (λ claims. Claims text.now claims.items)) }
     ensures unread { IfOk result (λ all. IfNone all (IsUnread text.now)) }
@@ -138,8 +138,8 @@ fn first_for(
     Ok(None)
 }
 
-/// What may be meant in a text that isn't facts: a word of facts at most two edits away from one of its words, which is
-/// none. `AllocError` where memory couldn't grow.
+/// The word that may be meant in a text that isn't facts: one of facts at most two edits away from one of its words,
+/// which is none. `AllocError` where memory couldn't grow.
 pub(crate) fn near_word(alloc: Global, text: &str) -> Result<Option<&'static str>, AllocError>
     ensures { IfOk result (λ found. option_map (λ word. word.now) found ≡ near_word text.now) }
 {

@@ -7,7 +7,7 @@ use std::alloc::Global;
 // The start of a digest.
 const START: u64 = 14_695_981_039_346_656_037;
 
-// What a digest is multiplied by.
+// The number that a digest is multiplied by.
 const FACTOR: u64 = 1_099_511_628_211;
 
 // A digest with a number more.

@@ -9,7 +9,7 @@ use evl_base::{FlagId, LineNo, MutexId, SemId, Stage, ThreadId, Way, XbufId};
 use evl_kernel::Awaited;
 use evl_scenario::number_of_text;
 
-// What comes before the first blank, and what after it.
+// The text before the first blank, and the text after it.
 fn around_blank(text: &str) -> Option<(&str, &str)>
     ensures { option_map (λ parts. (parts.0.now, parts.1.now)) result ≡ around_space text.now }
 {
@@ -138,7 +138,7 @@ fn reading_in(text: &str) -> Option<Awaited>
     }
 }
 
-// What a thread waits for.
+// The thing that a thread waits for.
 fn wait_in(text: &str) -> Option<Awaited>
     ensures { result ≡ wait_in text.now }
 {

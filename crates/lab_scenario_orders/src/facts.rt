@@ -46,7 +46,7 @@ pub enum Fact {
     Stalled(Stage),
 }
 
-/// What a board has a number of.
+/// The parts of which a board has a number.
 #[derive(Clone, Copy, PartialEq, Eq)]
 pub enum Part {
     Thread,
@@ -250,21 +250,21 @@ fn lacked_from(number: u16, count: usize, part: Part) -> Option<Part>
     }
 }
 
-// What a board lacks of a thread.
+// The part that a board lacks for a thread.
 fn lacked_thread(board: &Board, who: ThreadId) -> Option<Part>
     ensures { result ≡ lacked_thread board.now who }
 {
     lacked_from(who.0, usize::from(board.threads), Part::Thread)
 }
 
-// What a board lacks of a mutex.
+// The part that a board lacks for a mutex.
 fn lacked_mutex(board: &Board, mutex: MutexId) -> Option<Part>
     ensures { result ≡ lacked_mutex board.now mutex }
 {
     lacked_from(mutex.0, board.mutexes.len(), Part::Mutex)
 }
 
-// What a board lacks of what a thread waits for.
+// The part that a board lacks for what a thread waits for.
 fn lacked_wait(board: &Board, on: Awaited) -> Option<Part>
     ensures { result ≡ lacked_wait board.now on }
 {
@@ -277,7 +277,7 @@ fn lacked_wait(board: &Board, on: Awaited) -> Option<Part>
     }
 }
 
-/// What a fact names that a board lacks.
+/// The part that a fact names and a board lacks.
 pub(crate) fn lacked(board: &Board, fact: Fact) -> Option<Part>
     ensures { result ≡ lacked board.now fact }
 {

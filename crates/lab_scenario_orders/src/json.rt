@@ -1,4 +1,4 @@
-//! What is reported of all orders, as JSON.
+//! The report of all orders, as JSON.
 ghost use Rattle.std.specs.Prelude.{◌≡◌, ◌++◌, IfOk, OnOk, map, string_bytes};
 ghost use Rattle.std.specs.Str.Lines.{lines};
 ghost use Rattle.lab_scenario_orders.specs.Json.{begin_json, comma, end_json, first_json, found_json, head_json, holds_json, json_text, line_json, lines_from, name_json, names_from, order_json, orders_json, outcome_json, outcomes_from, outcomes_json, state_json_at, states_from, states_json, steps_json, truth_text, wanted_json, whole_json};
@@ -321,10 +321,10 @@ fn put_outcome_list(
     text.push_str("]}\n")
 }
 
-/// What is reported of all orders as one line of JSON: how many orders and moments there are, how many steps were gone through
-/// and whether that is all; of each question about moments whether it holds, `null` where that isn't known, with the first
-/// order; of each outcome how many orders end so, whether it is against what is asked, what is reported, and its order.
-/// `AllocError` where memory couldn't grow.
+/// The report of all orders as one line of JSON: how many orders and moments there are, how many steps were gone
+/// through and whether that is all; for each question about moments whether it holds, `null` where that isn't known,
+/// with the first order; for each outcome how many orders end so, whether it is against what is asked, what is
+/// reported, and its order. `AllocError` where memory couldn't grow.
 pub fn write_json(
     alloc: Global,
     callers: &Callers,

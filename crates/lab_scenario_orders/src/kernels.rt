@@ -75,7 +75,7 @@ pub(crate) fn is_held<C>(kernel: &KernelOf<C, Global>, as_picked: bool, who: Thr
     goes_on(kernel, who) || (as_picked && !has_turn(kernel, who))
 }
 
-/// Of each caller whether it can make no step.
+/// For each caller, whether it can make no step.
 pub(crate) fn held_of<C>(
     alloc: Global,
     kernel: &KernelOf<C, Global>,
@@ -234,7 +234,7 @@ fn much_room(alloc: Global) -> Result<Vec<u8>, AllocError> {
 }
 
 /// Takes much room and leaves it: from then on the C library keeps what kernels leave for the next ones, up to twice as much,
-/// where it would give it back to the system each time. Where there isn't so much nothing comes of it.
+/// where it would give it back to the system each time. If there isn't so much, nothing comes of it.
 pub(crate) fn keep_room(alloc: Global) {
     drop(much_room(alloc));
 }

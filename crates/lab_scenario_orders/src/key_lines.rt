@@ -21,7 +21,7 @@ pub(crate) const ASK_KEYS: [&str; 8] = [
     "outcomes",
 ];
 
-// What comes before the first `=`, and what after it.
+// The text before the first `=`, and the text after it.
 fn around_equals(text: &str) -> Option<(&str, &str)>
     ensures { option_map (λ parts. (parts.0.now, parts.1.now)) result ≡ around_equals text.now }
 {

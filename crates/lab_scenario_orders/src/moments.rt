@@ -1,4 +1,4 @@
-//! What is kept of callers at one moment.
+//! The records that are kept of callers at one moment.
 ghost use Rattle.std.specs.Prelude.{◌≡◌, ◌+◌, [], ◌<◌, true, IfOk, OnOk, length, map, slice_index_or, slice_set, string_bytes};
 ghost use Rattle.lab_scenario_orders.specs.Callers.{answer_line};
 ghost use Rattle.lab_scenario_orders.specs.Moments.{trail_after};
@@ -7,22 +7,22 @@ use crate::callers::{Caller, Callers};
 use evl_scenario::StepAnswer;
 use std::alloc::{AllocError, Global};
 
-/// What is kept of callers at one moment: how many steps each has made, and what it was answered. The kernel itself is
-/// led there anew where it is needed.
+/// All that is kept of callers at one moment: how many steps each has made, and what it was answered. The kernel
+/// itself is led there anew where it is needed.
 #[derive(Drop)]
 pub struct Moment {
     /// How many steps of each caller were made.
     pub(crate) made: Vec<usize>,
-    /// What each caller was answered, as text.
+    /// Each caller's answers, as text.
     pub(crate) answers: Vec<String>,
     /// The places of the steps that weren't refused, in the order in which they were made: a refusal leaves the kernel
     /// as it was.
     pub(crate) trail: Vec<usize>,
     /// A digest of how the kernel is.
     pub(crate) standing: u64,
-    /// Of each question about moments whether the kernel is as it looks for.
+    /// For each question about moments, whether the kernel is as it looks for.
     pub(crate) noted: Vec<bool>,
-    /// Of each caller whether it is held there: its thread can make no step.
+    /// For each caller, whether it is held there: its thread can make no step.
     pub(crate) held: Vec<bool>,
 }
 

@@ -42,7 +42,7 @@ fn never_of(alloc: Global, text: &str, who: &str, answer: &str) -> Result<Never,
     Ok(Never { text, who, answer })
 }
 
-// What comes before the first arrow in a text, and after it.
+// The text before the first arrow in a text, and the text after it.
 fn around_arrow(text: &str) -> Option<(&str, &str)>
     ensures arrow { IfSome result (λ parts. text.now ≡ parts.0.now ++ (codes "->" ++ parts.1.now)) }
     ensures first { IfSome result (λ parts. HasSubslice parts.0.now (codes "->") → ⊥) }

@@ -29,11 +29,11 @@ use std::alloc::{AllocError, Global};
 /// The outcomes of the orders of callers, each once, those of the shortest orders first.
 #[derive(Drop)]
 pub struct Outcomes {
-    /// What is reported of each: lines of the callers that wait, which begin with `stuck: ` where they have a step more;
+    /// The report of each: lines of the callers that wait, which begin with `stuck: ` where they have a step more;
     /// what each caller was answered; and what there is at the end. How many orders end so, and the first of them that
     /// was found.
     pub all: Vec<Tally>,
-    /// Of each question about moments the first order that leads to one as it looks for.
+    /// For each question about moments the first order that leads to one as it looks for.
     pub firsts: Vec<First>,
     /// How many orders there are.
     pub count: u128,
@@ -45,7 +45,7 @@ pub struct Outcomes {
     pub whole: bool,
 }
 
-// What is reported of a moment, with the kernel as it is there.
+// The report of a moment, with the kernel as it is there.
 fn told_by<B: BankMaker>(
     alloc: Global,
     kernel: &KernelOf<B::Made, Global>,
@@ -59,7 +59,7 @@ fn told_by<B: BankMaker>(
     told_of(alloc, kernel, callers, moment)
 }
 
-/// What is reported of a moment, where it is an end. `AllocError` where memory couldn't grow.
+/// The report of a moment, where it is an end. `AllocError` where memory couldn't grow.
 pub(crate) fn told_there<B: BankMaker>(
     alloc: Global,
     callers: &Callers,
@@ -205,7 +205,7 @@ pub(crate) fn start_of<B: BankMaker>(
     }
 }
 
-// Where all orders end.
+// The ends of all orders.
 fn ends_of<B: BankMaker>(
     alloc: Global,
     callers: &Callers,

@@ -1,4 +1,4 @@
-//! What is reported of all orders, as text.
+//! The report of all orders, as text.
 ghost use Rattle.std.specs.Prelude.{[], ◌≡◌, ◌++◌, IfOk, OnOk, codes, flat_map, if◌then◌else◌, map, string_bytes};
 ghost use Rattle.std.specs.Str.Lines.{lines};
 ghost use Rattle.lab_scenario_orders.specs.Reports.{comment, counts_text, found_text, head_text, number_text, order_text, orders_text, outcome_text, outcomes_text, reach_text, report_text, state_at, state_text, states_text, watch_line, way_text, who_text};

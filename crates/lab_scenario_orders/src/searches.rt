@@ -3,11 +3,11 @@ ghost use Rattle.std.specs.Prelude.{◌≡◌, option_map};
 ghost use Rattle.evl_scenario.specs.Values.{past_front};
 ghost use Rattle.lab_scenario_orders.specs.Asks.{begins, text_behind, is_answered, is_end, later_line, some_line, stands_here, waits_behind_number};
 
-/// What is asked of a text that begins with a line.
+/// A question about a text that begins with a line.
 pub(crate) trait Question {
     ghost use Rattle.std.specs.Prelude.{ℕ, List, Bool};
 
-    /// Of which texts it holds.
+    /// The texts of which it holds.
     ghost holds: { Self → List ℕ → Bool };
 
     /// Whether it holds of a text.
@@ -36,7 +36,7 @@ pub(crate) fn some_line<Q: Question>(question: &Q, text: &[u8]) -> bool
     question.asks(text) || later_line(question, text)
 }
 
-/// What comes after the first text in the second, if that begins with it.
+/// The text after the first text in the second, if that begins with it.
 pub(crate) fn behind<'a>(front: &[u8], text: &'a [u8]) -> Option<&'a [u8]>
     ensures { option_map (λ rest. rest.now) result ≡ text_behind front.now text.now }
 {
@@ -50,7 +50,7 @@ pub(crate) fn begins(front: &[u8], text: &[u8]) -> bool
     behind(front, text).is_some()
 }
 
-/// What comes after this front part of a text, as text.
+/// The text after this front part of a text, as text.
 pub fn past<'a>(front: &str, text: &'a str) -> Option<&'a str>
     ensures { option_map (λ rest. rest.now) result ≡ past_front front.now text.now }
 {

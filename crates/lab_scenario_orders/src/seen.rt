@@ -1,4 +1,4 @@
-//! What contracts know of callers at one moment.
+//! All that contracts know of callers at one moment.
 use std::marker::Model;
 
 /// How many steps of each caller were made, what it was answered, and the records of the kernel: for contracts alone,

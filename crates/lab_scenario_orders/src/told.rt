@@ -1,4 +1,4 @@
-//! What is reported of callers at the end of an order.
+//! The lines that are reported of callers at the end of an order.
 ghost use Rattle.std.specs.Prelude.{◌≡◌, ◌≤◌, ◌++◌, [], OnOk, IfOk, length, map, slice_index_or, string_bytes};
 ghost use Rattle.lab_scenario_orders.specs.Told.{answered_text, awaited_at, callers_text, elements_text, flags_line, has_more, is_caller, lines_below, mutex_line, pending_text, sem_line, stuck_text, unpicked_text, waiting_text, waits_text, xbuf_line, xbufs_text};
 
@@ -136,7 +136,7 @@ fn put_answered(text: &mut String, who: ThreadId, told: &str) -> Result<(), Allo
     write!(text, "T{number}{told}\n")
 }
 
-// What a caller was answered.
+// A caller's answers.
 fn told_at(answers: &[String], caller: usize) -> &str
     ensures { result.now ≡ slice_index_or (map string_bytes answers.now) caller [] }
 {
@@ -413,7 +413,7 @@ fn put_pending<C>(text: &mut String, kernel: &KernelOf<C, Global>) -> Result<(),
     put_lines(text, &Pending { kernel, stage }, LINES as u16)
 }
 
-/// What is reported of an end: lines `stuck: ` of the callers that have a step more, which wait; lines of the others that
+/// The report of an end: lines `stuck: ` of the callers that have a step more, which wait; lines of the others that
 /// wait; what each caller was answered; who else waits; recorded owners, counts, bits and bytes; and the events that
 /// are pending.
 pub(crate) fn told_of<C>(

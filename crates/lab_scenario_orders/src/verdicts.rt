@@ -1,4 +1,4 @@
-//! What is against what is asked.
+//! All that is against what is asked.
 ghost use Rattle.std.specs.Prelude.{◌≡◌};
 ghost use Rattle.lab_scenario_orders.specs.Verdicts.{asks_anything, is_count_against, is_found_against, is_state_against, state_against};
 

@@ -1,4 +1,4 @@
-//! What looks odd in all orders: a step that is refused alike in each, a wait without its end.
+//! All that looks odd in all orders: a step that is refused alike in each, a wait without its end.
 ghost use Rattle.std.specs.Prelude.{◌≡◌, ◌++◌, OnOk, find, string_bytes};
 ghost use Rattle.evl_base.specs.Refusal.{name_of};
 ghost use Rattle.lab_scenario_orders.specs.Asks.{some_line};

@@ -1,4 +1,4 @@
-//! What is asked of each moment, as it is written.
+//! The questions about each moment, as they are written.
 ghost use Rattle.std.specs.Prelude.{◌≡◌, ◌++◌, IfErr, IfOk, List, None, Some, map, string_bytes};
 ghost use Rattle.evl_scenario.specs.Tables.{all_given};
 ghost use Rattle.evl_base.specs.declared.board.Board.{Board};
@@ -62,7 +62,7 @@ fn with_text(alloc: Global, when: When, text: &str, claims: Vec<Claim>) -> Resul
     Ok(Watch { when, text, claims })
 }
 
-// What is asked by a text that claims this.
+// The question of a text that claims this.
 fn claimed(
     alloc: Global,
     board: &Board,
@@ -87,7 +87,7 @@ fn claimed(
     }
 }
 
-// What is asked by the text with this number.
+// The question of the text with this number.
 fn watch_in(
     alloc: Global,
     board: &Board,
@@ -107,7 +107,7 @@ fn watch_in(
     }
 }
 
-// What is asked by the value with this number.
+// The question of the value with this number.
 fn read_watch(
     alloc: Global,
     board: &Board,
@@ -126,7 +126,7 @@ fn read_watch(
     }
 }
 
-// What is asked by these values.
+// The questions of these values.
 fn read_values(
     alloc: Global,
     board: &Board,
@@ -152,7 +152,7 @@ fn read_values(
     Ok(all)
 }
 
-// What is asked at the key of this.
+// The questions at the key of this.
 fn watches_at(
     alloc: Global,
     board: &Board,
@@ -199,7 +199,7 @@ fn put_together(watches: Vec<Watch>, others: Vec<Watch>) -> Result<Vec<Watch>, A
     }
 }
 
-/// What a table `[ask]` asks of each moment on a board.
+/// All that a table `[ask]` asks of each moment on a board.
 pub(crate) fn read_watches(
     alloc: Global,
     board: &Board,

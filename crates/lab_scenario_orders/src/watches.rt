@@ -1,4 +1,4 @@
-//! What is asked of each moment.
+//! The questions about each moment.
 ghost use Rattle.std.specs.Prelude.{◌≡◌, IfOk, map};
 ghost use Rattle.lab_scenario_orders.specs.Watches.{is_noted, is_noted_by};
 
@@ -23,7 +23,7 @@ pub struct Watch {
     pub when: When,
     /// The text that says so.
     pub text: String,
-    /// What it claims: all of these are so.
+    /// The facts that it claims: all of these are so.
     pub claims: Vec<Claim>,
 }
 
@@ -45,7 +45,7 @@ fn is_noted<C>(kernel: &KernelOf<C, Global>, watch: &Watch) -> bool
     is_noted_by(watch.when, are_all_so(kernel, watch.claims.as_slice()))
 }
 
-/// Of each of these whether a kernel is as is looked for.
+/// For each of these, whether a kernel is as is looked for.
 pub(crate) fn noted<C>(
     alloc: Global,
     kernel: &KernelOf<C, Global>,

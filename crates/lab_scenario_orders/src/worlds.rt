@@ -28,7 +28,7 @@ pub struct Driven<'a, B> {
     pub alloc: Global,
     pub callers: &'a Callers,
     pub bank: &'a B,
-    /// What is asked of each moment.
+    /// The questions about each moment.
     pub watches: &'a [Watch],
 }
 

@@ -1,4 +1,4 @@
--- Who owns a mutex after a claim on it.
+-- The owner of a mutex after a claim on it.
 use Rattle.std.proofs.Common.{◌≡◌, ◌≢◌, ℕ, ◌-◌, ◌==◌, ◌&&◌, Bool, true, false, [], ◌∷◌, refl, sym, ap, ◌∙◌, eq-eqb, ne_eqb}
 use Rattle.std.specs.Prelude.{if◌then◌else◌, not}
 use Rattle.evl_words.specs.MutexBits.{number_in}

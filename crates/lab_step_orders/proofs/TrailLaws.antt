@@ -1,4 +1,4 @@
--- What a trail with a visit more leads to, and how long lists are with one element changed.
+-- The moments that a trail with a visit more leads to, and how long lists are with one element changed.
 use Rattle.std.proofs.Common.{◌≡◌, ◌<◌, true, ℕ, suc, List, [], ◌∷◌, ◌++◌, length, map, refl, ap, ◌∙◌, sym}
 use Rattle.std.specs.Prelude.{Option, Some, None, slice_set}
 use Rattle.std.proofs.lemmas.Bool.{lt-ltb}

@@ -1,4 +1,4 @@
--- What is kept of callers at one moment.
+-- The records that are kept of callers at one moment.
 use Rattle.std.specs.Prelude.{ℕ, ◌≡◌, Bool, true, nat_lt, length, List, [], ◌∷◌, ◌++◌, map, Option, Some, None, string_bytes}
 use Rattle.std.specs.Option.{option_map_or}
 use Rattle.lab_step_orders.specs.Seen.{Seen}

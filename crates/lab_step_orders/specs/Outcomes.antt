@@ -1,4 +1,4 @@
--- What all orders of atomic steps end in.
+-- The outcomes that all orders of atomic steps end in.
 use Rattle.std.specs.Prelude.{ℕ, ◌≡◌, ◌≤◌, ◌<◌, ◌⊎◌, true, false, List, [], ◌++◌, length, map, All, AllPairs, Some, string_bytes}
 use Rattle.lab_orders.specs.Firsts.{AreFirsts}
 use Rattle.lab_orders.specs.Fronts.{IsGone}

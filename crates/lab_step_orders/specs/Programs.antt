@@ -157,7 +157,7 @@ first_ahead c gates mutexes k wait (Finish keep) = finish_wait wait keep (holds_
 --   also: Programs.first_ahead; Visits.{visit_turn, state_after}
 --   clauses: step_outcomes_of
 --   rows: deadline; mutex_2; mutex_3; mutex_3_twice; two_mutexes; two_that_try_a_mutex_end_in_three_ways
--- What is ahead of a caller that is here in this call. A caller has found a word only where there is a stax
+-- All that is ahead of a caller that is here in this call. A caller has found a word only where there is a stax
 abbrev pub ahead_at : Crew → List Shared → List Shared → ℕ → Option Waiting → Place → Option WordCall → Option Ahead
 ahead_at c gates mutexes k wait Begins call = option_map (first_ahead c gates mutexes k wait) call
 ahead_at c gates mutexes k wait (Found stax old) call = option_map (λ g. Turns (exchange_turn (limit_of c stax.0) (stage_of c k) stax old g)) (slice_get gates stax.0)

@@ -1,4 +1,4 @@
--- What each order of atomic steps keeps: each gate and each mutex has a world of its own at every moment.
+-- All that each order of atomic steps keeps: each gate and each mutex has a world of its own at every moment.
 use Rattle.std.specs.Prelude.{ℕ, ◌≡◌, ◌≤◌, Bool, true, List, [], length, replicate, Option, Some, None, if◌then◌else◌, slice_get}
 use Rattle.std.specs.List.{list_all}
 use mathlib.Core.Option.{some}

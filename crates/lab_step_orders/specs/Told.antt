@@ -1,4 +1,4 @@
--- What is reported of callers and of the words at the end of an order.
+-- The lines that are reported of callers and of the words at the end of an order.
 use Rattle.std.specs.Prelude.{ℕ, zero, suc, ◌-◌, ◌==◌, Bool, true, false, List, [], ◌++◌, Option, Some, None, codes, if◌then◌else◌, length, nat_lt, slice_get, slice_index, slice_index_or}
 use Rattle.std.specs.Fmt.{decimal, signed_decimal}
 use Rattle.std.specs.Option.{option_map_or}

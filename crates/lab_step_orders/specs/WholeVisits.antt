@@ -34,7 +34,7 @@ EndsSo c told = (order : List ℕ) × LeadsTo c (first_seen c) told order
 --   their own; where none of these gives up, they have no other.
 --   clauses: visits_are_whole
 --   rows: core_is_taken_and_given_by_turns
--- Of callers that make the right steps: each outcome of whole visits is one of any visits; and where nobody gives up, they have no other.
+-- For callers that make the right steps each outcome of whole visits is one of any visits; if nobody gives up, they have no other.
 abbrev pub VisitsAreWhole : Type 0
 VisitsAreWhole = (c w : Crew) (told : List ℕ) → AreWhole c w → c.what_if ≡ None
     → (EndsSo w told → EndsSo c told) × (NobodyGivesUp c → EndsSo c told → EndsSo w told)

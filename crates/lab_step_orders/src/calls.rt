@@ -25,7 +25,7 @@ pub enum WordCall {
     Finish(bool),
 }
 
-/// What a call is answered.
+/// The answer to a call.
 #[derive(Clone, Copy, PartialEq, Eq)]
 pub enum Answer {
     /// A pass.

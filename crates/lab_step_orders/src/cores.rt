@@ -41,7 +41,7 @@ pub(crate) fn is_done(core: Option<Taken>) -> bool
     }
 }
 
-/// Who has it after a turn of a caller.
+/// The one that has it after a turn of a caller.
 pub(crate) fn core_after(change: CoreChange, caller: u16, core: Option<Taken>) -> Option<Taken>
     ensures { result ≡ core_after change caller core }
 {
@@ -115,7 +115,7 @@ pub(crate) fn is_early<C>(kernel: &KernelOf<C, Global>, caller: u16, asked: Aske
     }
 }
 
-/// What the visit does to the core's lock of one that has the core.
+/// The change of the core's lock by the visit of one that has the core.
 pub(crate) fn ended_by(asked: Asked) -> CoreChange
     ensures { result ≡ ended_by asked }
 {

@@ -26,14 +26,14 @@ pub struct Crew {
     pub board: Board,
     /// How many entries the kernel's history may have.
     pub limit: u32,
-    /// What is set up.
+    /// The steps that are set up.
     pub setup: Vec<Step>,
     /// The calls of the kernel that callers make, in no order.
     pub steps: Vec<Step>,
     pub callers: Vec<CrewCaller>,
     /// The wrong step that they make, if any.
     pub what_if: Option<WhatIf>,
-    /// What is asked of each moment.
+    /// The questions about each moment.
     pub watches: Vec<StepWatch>,
     // How many callers there are.
     count: u16,

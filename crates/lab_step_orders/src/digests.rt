@@ -6,7 +6,7 @@ use crate::steps::{Place, Taken};
 // The start of a digest.
 const START: u64 = 14_695_981_039_346_656_037;
 
-// What a digest is multiplied by.
+// The number that a digest is multiplied by.
 const FACTOR: u64 = 1_099_511_628_211;
 
 // A digest with a number more.
@@ -23,7 +23,7 @@ fn with_words(digest: u64, words: &[SharedWord]) -> u64 {
     all
 }
 
-// What distinguishes a place from others, mostly.
+// The number that distinguishes a place from others, mostly.
 fn of_place(place: Place) -> u64 {
     match place {
         Place::Begins => 0,
@@ -33,7 +33,7 @@ fn of_place(place: Place) -> u64 {
     }
 }
 
-// What says who has the core.
+// The number that says who has the core.
 fn of_core(core: Option<Taken>) -> u64 {
     match core {
         Some(taken) => u64::from(taken.who) + if taken.is_done { 65_536 } else { 1 },

@@ -19,7 +19,7 @@ use crate::wrongs::made_so;
 use evl_shell::leave;
 use std::alloc::{AllocError, Global};
 
-// What is ahead of a caller.
+// The turn or the visit ahead of a caller.
 fn next_ahead(crew: &Crew, moment: &Moment, caller: u16) -> Option<Ahead>
     requires caller { caller < length crew.now.callers.items }
     requires fits { IsMoment crew.now moment.now }

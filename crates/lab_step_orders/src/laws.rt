@@ -1,4 +1,4 @@
-//! What all orders of atomic steps keep. Each law is the contract of a function without a body.
+//! The laws that all orders of atomic steps keep. Each is the contract of a function without a body.
 ghost use Rattle.lab_step_orders.specs.StepLaws.{NoStaxIsShared, OneHasTheMutex, WordsStand};
 ghost use Rattle.lab_step_orders.specs.WholeVisits.{VisitsAreWhole};
 

@@ -1,4 +1,4 @@
-//! What is kept of callers at one moment.
+//! The records that are kept of callers at one moment.
 ghost use Rattle.std.specs.Prelude.{◌≡◌, ◌+◌, [], ◌<◌, ◌≤◌, true, None, replicate, IfOk, OnOk, length, map, slice_get, slice_index, slice_index_or, slice_set, string_bytes};
 ghost use Rattle.lab_step_orders.specs.Moments.{IsMoment, seen_of, shared_of, trail_after};
 ghost use Rattle.lab_step_orders.specs.Seen.{after, answers_after, changed_at, first_seen, free_word, gates_after, made_after, mutexes_after, place_after, wait_after};
@@ -20,21 +20,21 @@ use crate::words::{gate_after, mutex_after};
 use evl_base::{MutexId, StaxId};
 use std::alloc::{AllocError, Global};
 
-/// What is kept of callers and words at one moment.
+/// All that is kept of callers and words at one moment.
 #[derive(Drop)]
 pub struct Moment {
     /// The word of each stax, and of each mutex.
     pub gates: Vec<SharedWord>,
     pub mutexes: Vec<SharedWord>,
-    /// Where each caller is in its call.
+    /// Each caller's place in its call.
     pub(crate) places: Vec<Place>,
     /// How many calls of each caller are over.
     pub(crate) made: Vec<usize>,
-    /// What each caller was answered, as text.
+    /// Each caller's answers, as text.
     pub(crate) answers: Vec<String>,
-    /// What each caller waits for.
+    /// Each caller's wait.
     pub(crate) waits: Vec<Option<Waiting>>,
-    /// Who has the core.
+    /// The caller that has the core.
     pub core: Option<Taken>,
     /// The kernel's calls in visits, in their order, but for those that were refused: a refusal leaves the kernel as it
     /// was.
@@ -206,7 +206,7 @@ fn mutexes_after(
     }
 }
 
-// Where a caller is after a turn.
+// A caller's place after a turn.
 fn place_after(then: Then) -> Place
     ensures { result ≡ place_after then }
 {
@@ -271,7 +271,7 @@ fn tell(told: &mut String, answer: Answer) -> Result<(), AllocError>
     Ok(())
 }
 
-// What a caller was answered, after a turn.
+// A caller's answers, after a turn.
 fn told_after(alloc: Global, text: &str, then: Then) -> Result<String, AllocError>
     ensures { IfOk result (λ told. string_bytes told ≡ answers_after then text.now) }
 {
@@ -294,7 +294,7 @@ fn copied_texts(alloc: Global, texts: &[String]) -> Result<Vec<String>, AllocErr
     Ok(copied)
 }
 
-// What callers were answered, with that of one caller as a turn leaves it.
+// The callers' answers, with those of one caller as a turn leaves them.
 fn answers_after(
     alloc: Global,
     answers: &[String],

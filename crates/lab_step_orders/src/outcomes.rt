@@ -20,10 +20,10 @@ use std::alloc::{AllocError, Global};
 /// The outcomes of the orders of callers' steps, each once, those of the shortest orders first.
 #[derive(Drop)]
 pub struct StepOutcomes {
-    /// What is reported of each: what each caller was answered, and how each stax and each mutex is at the end. How many
+    /// The report of each: what each caller was answered, and how each stax and each mutex is at the end. How many
     /// orders end so, and the first of them that was found.
     pub all: Vec<Tally>,
-    /// Of each question about moments the first order that leads to one as it looks for.
+    /// For each question about moments the first order that leads to one as it looks for.
     pub firsts: Vec<First>,
     /// How many orders there are.
     pub count: u128,
@@ -114,7 +114,7 @@ fn outcomes_at(
     Ok(all)
 }
 
-// Where all orders end.
+// The ends of all orders.
 fn ends_of(alloc: Global, crew: &Crew, most: usize) -> Result<Explored<Moment>, OrdersError>
     ensures counted { IfOk result (λ found. (f : Seen → ℕ) → weight (seen_of crew.now) f found.ends.items
         ≡ total f (orders (machine crew.now) (first_seen crew.now) found.steps)) }

@@ -108,7 +108,7 @@ fn try_stax(limit: u16, stage: Stage, stax: StaxId, caller: u16, gate: &SharedWo
     }
 }
 
-// What the exchange of a word is answered where this one is.
+// The answer to the exchange of a word where this one is.
 fn exchanged(limit: u16, stage: Stage, old: u64, word: u64) -> Answer
     ensures { result ≡ turns.exchanged limit stage old word }
 {
@@ -201,7 +201,7 @@ fn try_mutex(
     ends(WordStep::AtMutex(mutex, MutexStep::Try), answer)
 }
 
-// What is ahead of one that begins to lock a mutex.
+// The turn or the visit ahead of one that begins to lock a mutex.
 fn begin_mutex(
     stage: Stage,
     mutex: MutexId,
@@ -273,7 +273,7 @@ fn unlock_mutex(mutex: MutexId, caller: u16, wait: Option<Waiting>, shared: &Sha
     }
 }
 
-// What is ahead of one that ends its wait for a mutex.
+// The turn or the visit ahead of one that ends its wait for a mutex.
 fn finish_mutex(mutexes: &[SharedWord], wait: Option<Waiting>) -> Ahead
     ensures { result ≡ turns.finish_mutex (map shared_of mutexes.now) wait }
 {
@@ -298,7 +298,7 @@ fn holds_some(all: &[SharedWord], caller: u16) -> bool
     false
 }
 
-// What is ahead of one that ends another wait, and says whether it holds something.
+// The turn or the visit ahead of one that ends another wait, and says whether it holds something.
 fn finish_wait(wait: Option<Waiting>, keep: bool, held: bool) -> Ahead
     ensures { result ≡ turns.finish_wait wait keep held }
 {
@@ -350,7 +350,7 @@ fn claim_stax_at(gates: &[SharedWord], stax: StaxId) -> Turn
     }
 }
 
-// What is refused of a mutex that isn't there.
+// The refusal for a mutex that isn't there.
 fn refused_missing(wait: Option<Waiting>, other: Refusal) -> Turn
     ensures { result ≡ turns.refused_missing wait other }
 {
@@ -403,7 +403,7 @@ fn unlock_mutex_at(
     }
 }
 
-// What is ahead of one that begins to lock a mutex, if it is there.
+// The turn or the visit ahead of one that begins to lock a mutex, if it is there.
 fn begin_mutex_at(
     crew: &Crew,
     mutexes: &[SharedWord],
@@ -420,7 +420,7 @@ fn begin_mutex_at(
     }
 }
 
-// What is ahead of one that begins a call.
+// The turn or the visit ahead of one that begins a call.
 fn first_ahead(
     crew: &Crew,
     gates: &[SharedWord],
@@ -456,7 +456,7 @@ fn first_ahead(
     }
 }
 
-/// What is ahead of a caller that is here in this call, if anything is.
+/// All that is ahead of a caller that is here in this call, if anything is.
 pub(crate) fn ahead_at(
     crew: &Crew,
     gates: &[SharedWord],

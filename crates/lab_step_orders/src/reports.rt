@@ -1,4 +1,4 @@
-//! What is reported of all orders, as text.
+//! The report of all orders, as text.
 ghost use Rattle.std.specs.Prelude.{[], ◌≡◌, ◌++◌, ◌<◌, IfOk, IfSome, OnOk, codes, decimal, flat_map, if◌then◌else◌, length, map, string_bytes};
 ghost use Rattle.std.specs.Str.Lines.{lines};
 ghost use Rattle.lab_step_orders.specs.Moments.{IsMoment, seen_of};
@@ -84,7 +84,7 @@ fn put_turn(text: &mut String, mark: &str, caller: u16, turn: Turn) -> Result<()
     write!(text, "{mark}T{caller} {word}")
 }
 
-// What parts a turn from the one before: nothing but a blank comes before the first.
+// The mark that parts a turn from the one before: nothing but a blank comes before the first.
 fn mark_at(index: usize) -> &'static str
     ensures { result.now ≡ reports.mark_at index }
 {

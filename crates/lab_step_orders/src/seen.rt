@@ -1,4 +1,4 @@
-//! What contracts know of callers and words at one moment.
+//! All that contracts know of callers and words at one moment.
 use std::marker::Model;
 
 /// The words; of each caller where it is in its call, how many calls are over, what it was answered and for what it

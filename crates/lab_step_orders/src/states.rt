@@ -1,4 +1,4 @@
-//! What is reported of questions about moments, as text.
+//! The report of questions about moments, as text.
 ghost use Rattle.std.specs.Prelude.{◌≡◌, ◌++◌, OnOk, string_bytes};
 ghost use Rattle.lab_scenario_orders.specs.Reports.{found_text, reach_text};
 ghost use Rattle.lab_scenario_orders.specs.WatchTexts.{when_key};

@@ -14,7 +14,7 @@ pub enum GateStep {
     Unclaim,
 }
 
-/// What a caller does to the word of a mutex: one exchange, or what it does with the kernel in hand.
+/// A step of a caller on the word of a mutex: one exchange, or what it does with the kernel in hand.
 #[derive(Clone, Copy, PartialEq, Eq)]
 pub enum MutexStep {
     Try,
@@ -32,7 +32,7 @@ pub enum MutexStep {
     Forget,
 }
 
-/// What the kernel is called in a visit.
+/// The call of the kernel in a visit.
 #[derive(Clone, Copy, PartialEq, Eq)]
 pub enum Visit {
     Release(MutexId),
@@ -46,7 +46,7 @@ pub enum Visit {
     Step(usize),
 }
 
-/// What a turn does to its caller's wait.
+/// The change of a caller's wait by its turn.
 #[derive(Clone, Copy, PartialEq, Eq)]
 pub enum WaitChange {
     Same,
@@ -54,7 +54,7 @@ pub enum WaitChange {
     Ends,
 }
 
-/// What a caller waits for.
+/// The thing that a caller waits for.
 #[derive(Clone, Copy, PartialEq, Eq)]
 pub enum Waiting {
     Mutex(MutexId),
@@ -69,7 +69,7 @@ pub enum WordStep {
     AtMutex(MutexId, MutexStep),
 }
 
-/// Where a caller is in its next call.
+/// A caller's place in its next call.
 #[derive(Clone, Copy, PartialEq, Eq)]
 pub enum Place {
     /// Before its first step.
@@ -82,7 +82,7 @@ pub enum Place {
     Claimed(MutexId),
 }
 
-/// What a turn comes to.
+/// The result of a turn.
 #[derive(Clone, Copy, PartialEq, Eq)]
 pub enum Then {
     /// The call goes on.
@@ -91,7 +91,7 @@ pub enum Then {
     Answers(Answer),
 }
 
-/// What a turn does to the core's lock.
+/// The change of the core's lock by a turn.
 #[derive(Clone, Copy, PartialEq, Eq)]
 pub enum CoreChange {
     Same,
@@ -101,7 +101,7 @@ pub enum CoreChange {
     Gives,
 }
 
-/// Who has the core, and whether that has visited the kernel.
+/// The caller that has the core, and whether it has visited the kernel.
 #[derive(Clone, Copy, PartialEq, Eq)]
 pub struct Taken {
     pub who: u16,
@@ -126,7 +126,7 @@ pub enum WhatIf {
     OfferDropsMark,
     /// A wait for a mutex begins, and its word isn't marked.
     ClaimSetsNoMark,
-    /// Who finds its mutex claimed as it unlocks it leaves it so.
+    /// A caller that finds its mutex claimed as it unlocks it leaves it so.
     UnlockSkipsKernel,
     /// The last one out of a stax leaves the mark there.
     LeaveKeepsMark,
@@ -136,14 +136,14 @@ pub enum WhatIf {
 #[derive(Clone, Copy, PartialEq, Eq)]
 pub struct Turn {
     pub step: Option<WordStep>,
-    /// What the kernel is called.
+    /// The call of the kernel.
     pub visit: Option<Visit>,
     pub core: CoreChange,
     pub wait: WaitChange,
     pub then: Then,
 }
 
-/// What a visit is for.
+/// The purpose of a visit.
 #[derive(Clone, Copy, PartialEq, Eq)]
 pub enum Asked {
     /// A mutex that others claim is handed on.
@@ -158,7 +158,7 @@ pub enum Asked {
     Finish,
 }
 
-/// What is ahead of a caller.
+/// The turn or the visit ahead of a caller.
 #[derive(Clone, Copy, PartialEq, Eq)]
 pub enum Ahead {
     Turns(Turn),

@@ -1,4 +1,4 @@
-//! What is reported of callers and words at the end of an order.
+//! The lines that are reported of callers and words at the end of an order.
 ghost use Rattle.std.specs.Prelude.{◌≡◌, ◌++◌, [], IfOk, OnOk, length, map, slice_index_or, string_bytes};
 ghost use Rattle.evl_words.specs.MutexBits.{number_in};
 ghost use Rattle.lab_step_orders.specs.Moments.{seen_of, shared_of};
@@ -40,7 +40,7 @@ fn put_lines<L: Lines>(text: &mut String, lines: &L, count: usize) -> Result<(),
     Ok(())
 }
 
-// What a caller was answered.
+// A caller's answers.
 fn told_at(answers: &[String], caller: usize) -> &str
     ensures { result.now ≡ slice_index_or (map string_bytes answers.now) caller [] }
 {
@@ -305,7 +305,7 @@ fn put_rests(
     put
 }
 
-/// What is reported of an end: who is stuck, who waits with no call left, what each caller was answered, and how each stax
+/// The report of an end: who is stuck, who waits with no call left, what each caller was answered, and how each stax
 /// and each mutex is.
 pub(crate) fn told_of(alloc: Global, crew: &Crew, moment: &Moment) -> Result<String, AllocError>
     ensures { IfOk result (λ told. string_bytes told ≡ told_text crew.now (seen_of crew.now moment.now)) }

@@ -95,7 +95,7 @@ fn claimed(mutex: MutexId, visit: Visit, answer: Result<Reply, Refusal>) -> Turn
     }
 }
 
-// What the kernel answers to a visit.
+// The kernel's answer to a visit.
 fn answered<C: Handler>(
     alloc: Global,
     crew: &Crew,
@@ -188,7 +188,7 @@ fn ended(mutex: MutexId, word: u64, caller: u16, timed_out: bool) -> Turn
     }
 }
 
-// What a call of the kernel alone is answered.
+// The answer to a call of the kernel alone.
 fn answer_of(reply: &Reply) -> Answer
     ensures { result ≡ turns.answer_of reply.now }
 {
@@ -204,7 +204,7 @@ fn answer_of(reply: &Reply) -> Answer
     }
 }
 
-// What an answer does to the caller's wait.
+// The change of the caller's wait by an answer.
 fn wait_told(reply: &Reply, visit: Visit) -> WaitChange
     ensures { result ≡ turns.wait_told reply.now visit }
 {

@@ -1,4 +1,4 @@
-//! What is asked of each moment: facts of words, of who holds them, and of who has the core.
+//! The questions about each moment: facts of words, of who holds them, and of who has the core.
 use evl_base::{MutexId, Stage, StaxId, ThreadId};
 use lab_scenario_orders::When;
 
@@ -36,6 +36,6 @@ pub struct StepWatch {
     pub when: When,
     /// The text that says so.
     pub text: String,
-    /// What it claims: all of these are so.
+    /// The facts that it claims: all of these are so.
     pub claims: Vec<StepClaim>,
 }

@@ -62,7 +62,7 @@ pub(crate) fn refusal_at(limit: u16, word: u64, stage: Stage) -> Option<Refusal>
     }
 }
 
-/// Who leaves a gate with this word.
+/// Whether the one that leaves a gate with this word is the last one.
 pub(crate) fn left_at(word: u64) -> Left
     ensures { result ≡ left_in word }
 {
@@ -196,7 +196,7 @@ pub(crate) fn mutex_after(
     with_holder(alloc, mutex, word, caller, held)
 }
 
-/// What a claim on a mutex with this word finds: the thread that has it; none where it is free.
+/// The thread that a claim on a mutex with this word finds to have it; none where it is free.
 pub(crate) fn owner_in(word: u64) -> Option<ThreadId>
     ensures { result ≡ owner_in word }
 {

@@ -1,4 +1,4 @@
--- What `lab convert` prints of a text.
+-- All that `lab convert` prints of a text.
 use Rattle.std.proofs.Common.{◌≡◌, ℕ, List, Bool, true, false, not, Option, None, Result, Ok, IfOk, OnOk, inl, inr, refl, subst, string_bytes}
 use Rattle.std.specs.Prelude.{MatchBool, nat_lt}
 use Rattle.std.specs.Io.KnownBytes.{Appends}

@@ -1,4 +1,4 @@
--- What is written, by what each call of the body writes.
+-- All that is written, by what each call of the body writes.
 use Rattle.std.proofs.Common.{◌≡◌, ◌≢◌, ◌≤◌, length, subst, ℕ, List, [], Bool, true, Option, Some, None, Result, Ok, Err, IfOk, OnOk, refl}
 use Rattle.std.specs.Prelude.{IsSomeAnd, is_ok}
 use Rattle.std.specs.Io.KnownBytes.{Appends}

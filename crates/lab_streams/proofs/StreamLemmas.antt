@@ -1,4 +1,4 @@
--- What ends early ends early whatever becomes of an input that it does not read.
+-- A part that ends early does so whatever becomes of an input that it does not read.
 use Rattle.std.proofs.Common.{Bool, false, Result, Ok, Err, refl, ℕ}
 use Rattle.std.specs.Prelude.{IfErr}
 use Rattle.std.specs.declared.io.Error.{Error}

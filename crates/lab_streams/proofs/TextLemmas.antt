@@ -1,4 +1,4 @@
--- What is read up to a bound.
+-- The bytes that are read up to a bound.
 use Rattle.std.proofs.Common.{arith, ◌≡◌, ◌∙◌, ℕ, ◌<◌, ◌≤◌, min, List, length, length-take, take_all, Option, Some, None, Result, Ok, Err, IfOk, IfErr, ap}
 use Rattle.evl_shell.specs.Readings.{IsFrontOf}
 use Rattle.lab_streams.specs.Readings.{IsTooLong, most_bytes}

@@ -1,4 +1,4 @@
--- What is said of how a text ended that was played, and the status.
+-- The words on how a text ended that was played, and the status.
 use Rattle.std.specs.Prelude.{ℕ, List, ◌++◌, codes, decimal, Bool, if◌then◌else◌, Option, Some, None, option_map}
 use Rattle.evl_scenario.specs.Lines.{line_feed}
 use Rattle.evl_scenario.specs.declared.faults.Fault.{Fault}

@@ -1,4 +1,4 @@
--- What `lab convert` prints, and the faults of a text of lines.
+-- All that `lab convert` prints, and the faults of a text of lines.
 use Rattle.std.specs.Prelude.{◌≡◌, ◌⊎◌, ℕ, List, ◌++◌, codes, decimal, string_bytes, Bool, true, false, not, nat_lt, MatchBool, Option, Some, None, IsSomeAnd, Ok}
 use Rattle.evl_scenario.specs.Lines.{line_feed}
 use Rattle.evl_scenario.specs.Scenarios.{Script, scenario_of}
@@ -74,7 +74,7 @@ ConvertsMeant as_lines name meant output =
     MatchBool (nat_lt 0 meant.setup) (output ≡ refuses 2 (line_about name set_up_words)) (Converts as_lines name (string_bytes meant.scenario) output)
 
 -- A text of lines is printed as a scenario, unless lines are asked for, and the scenario in any other text as lines, unless a
--- scenario is. What they expect is left out.
+-- scenario is. Their expected answers are left out.
 abbrev pub ConvertsText : Converting → List ℕ → List ℕ → Output → Type 0
 ConvertsText asked name text output =
     ((is_lines text ≡ false) × Converts (not asked.toml) name (unexpecting text) output)

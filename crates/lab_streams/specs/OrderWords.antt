@@ -1,4 +1,4 @@
--- What the words after `orders` ask for, by what was found of them.
+-- All that the words after `orders` ask for, by what was found of them.
 use Rattle.std.specs.Prelude.{◌≡◌, codes, true, false, Some, None}
 use Rattle.clap.specs.Words.{first_value}
 use Rattle.clap.specs.declared.parser.matches.Found.{Found}

@@ -1,4 +1,4 @@
--- What the program writes, and the status that it ends with.
+-- The bytes that the program writes, and the status that it ends with.
 use Rattle.std.specs.Prelude.{◌≡◌, ◌≤◌, ℕ, List, [], length, Bool, true, Option, IsSomeAnd, Ok, Err}
 use Rattle.std.specs.Io.KnownBytes.{Appends}
 use Rattle.evl_kernel.specs.state.States.{Handler}

@@ -1,4 +1,4 @@
--- What is read of texts, up to a bound.
+-- The bytes that are read of texts, up to a bound.
 use Rattle.std.specs.Prelude.{◌≡◌, ◌<◌, ℕ, List, codes, length, Option, Some, None, Result, Ok, Err, IfSome}
 use Rattle.lab_streams.specs.Texts.{IsAllOf}
 use Rattle.lab_streams.specs.declared.texts.Unread.{Unread}

@@ -1,4 +1,4 @@
--- What the words after `draw`, `play`, `live` and `orders` ask for, by what was found of them.
+-- All that the words after `draw`, `play`, `live` and `orders` ask for, by what was found of them.
 use Rattle.std.specs.Prelude.{◌≡◌, ℕ, List, codes, Bool, true, false, if◌then◌else◌, Option, Some, None, option_and_then}
 use Rattle.std.specs.Option.{option_map_or}
 use Rattle.std.specs.Str.{bytes_eq}

@@ -18,7 +18,7 @@ use std::alloc::{AllocError, Global};
 use std::io;
 use std::rt::Files;
 
-// What is wanted of a callback, of how many times it accepts, and of its rows.
+// All that is wanted of a callback, of how many times it accepts, and of its rows.
 const NO_KEYS: &str = "a table with no keys but accepts and do is wanted, at most 64 of them";
 
 const NO_ACCEPTS: &str = "accepts: a number from 1 to 18446744073709551615 is wanted";

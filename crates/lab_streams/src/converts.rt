@@ -23,10 +23,10 @@ use std::alloc::{AllocError, Global};
 use std::io::{self, Read};
 use std::rt::Files;
 
-// What is wanted where no line says a board.
+// All that is wanted where no line says a board.
 const NO_BOARD: &str = "a line with the board is wanted, as board threads=2 sems=[0]";
 
-// What is wanted of a text that means too long a scenario.
+// All that is wanted of a text that means too long a scenario.
 const TOO_LONG: &str = "a scenario of at most 1048576 bytes is wanted";
 
 // Reports a fault at a line and a byte.
@@ -122,7 +122,7 @@ fn convert_scenario<O: Stream, E: Stream>(
     }
 }
 
-// Prints the scenario of a text of lines in a form, and answers the status. Where steps are set up it is refused, since
+// Prints the scenario of a text of lines in a form, and answers the status. If steps are set up it is refused, since
 // no form would say that.
 fn convert_meant<O: Stream, E: Stream>(
     alloc: Global,

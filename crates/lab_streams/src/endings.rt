@@ -45,7 +45,7 @@ pub fn tell_refused<E: Stream>(err: &mut E, name: &str, why: &str) -> io::Result
     Ok(true)
 }
 
-/// What is reported of a text that is too long.
+/// The report of a text that is too long.
 pub const TOO_LONG: &str = "67108865 bytes or more; a text has at most 67108864";
 
 /// Says why a text isn't read. Want of memory isn't reported: it is this function's own error.
@@ -86,7 +86,7 @@ pub fn tell_fault<E: Stream>(err: &mut E, name: &str, fault: Fault) -> io::Resul
     }
 }
 
-/// What a kind is to `lab orders`, which takes texts for it as it takes scenarios.
+/// A kind as it is to `lab orders`, which takes texts for it as it takes scenarios.
 pub fn as_orders(kind: TextKind) -> TextKind
     ensures { result ≡ endings.as_orders kind }
 {

@@ -1,5 +1,5 @@
-//! What the parts of the lab share: their streams, the texts and the banks that they read, what they say of faults, and what
-//! their words ask for.
+//! All that the parts of the lab share: their streams, the texts and the banks that they read, what they say of
+//! faults, and what their words ask for.
 #![tactic(auto)]
 
 mod banks;

@@ -1,4 +1,4 @@
-//! What the program ends with.
+//! The statuses that the program ends with.
 ghost use Rattle.std.specs.Prelude.{◌≡◌, ◌||◌, Err, is_ok, max, true, IfErr, IfOk};
 ghost use Rattle.lab_streams.specs.Endings as endings;
 

@@ -66,8 +66,8 @@ pub fn read_file<R: Files + AllocGlobal>(rt: &R, path: &str) -> Result<Vec<u8>, 
     }
 }
 
-/// The text of a file, or of the input where none is named, or `-`, with the same refusals. Of either at most 67,108,865
-/// bytes are read.
+/// The text of a file, or of the input where none is named, or `-`, with the same refusals. At most 67,108,865
+/// bytes of either are read.
 pub fn read_text<R: Files + AllocGlobal, I: Read>(
     rt: &R,
     file: Option<&str>,

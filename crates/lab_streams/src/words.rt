@@ -1,4 +1,4 @@
-//! What the words after `draw`, `play`, `live` and `orders` ask for.
+//! All that the words after `draw`, `play`, `live` and `orders` ask for.
 ghost use Rattle.std.specs.Prelude.{◌≡◌, codes, option_map, unwrap_or};
 ghost use Rattle.clap.specs.Words.{first_value, found_of};
 ghost use Rattle.lab_streams.specs.Words as words;
@@ -23,7 +23,7 @@ pub enum Way {
     Fitting,
 }
 
-/// What `draw` asks for.
+/// All that `draw` asks for.
 #[derive(Clone, Copy, PartialEq, Eq)]
 pub struct Drawing {
     pub form: Form,
@@ -34,18 +34,18 @@ pub struct Drawing {
     pub page: u32,
 }
 
-/// What is reported of a scenario that was played.
+/// The report of a scenario that was played.
 #[derive(Clone, Copy, PartialEq, Eq)]
 pub enum Telling<'a> {
     /// Its trace.
     Trace,
     /// A line of JSON for each entry.
     Json,
-    /// Where it differs first from the trace that this folder has of it.
+    /// The place at which it differs first from the trace that this folder has of it.
     Against(&'a str),
 }
 
-/// What `play` asks for.
+/// All that `play` asks for.
 #[derive(Clone, Copy, PartialEq, Eq)]
 pub struct Playing<'a> {
     /// The file of the bank; the program's where none is named.
@@ -55,7 +55,7 @@ pub struct Playing<'a> {
     pub telling: Telling<'a>,
 }
 
-/// What `live` asks for.
+/// All that `live` asks for.
 #[derive(Clone, Copy, PartialEq, Eq)]
 pub struct Driving<'a> {
     /// The scenario that comes first.
@@ -66,7 +66,7 @@ pub struct Driving<'a> {
     pub limit: Option<u32>,
 }
 
-/// What `convert` asks for: lines, or a scenario; the form that the text hasn't where neither is named.
+/// All that `convert` asks for: lines, or a scenario; the form that the text hasn't where neither is named.
 #[derive(Clone, Copy, PartialEq, Eq)]
 pub struct Converting {
     pub lines: bool,
@@ -111,7 +111,7 @@ fn way_of(matches: &ArgMatches<'_>) -> Way
     }
 }
 
-/// What is printed of all orders, or which order alone is asked for.
+/// All that is printed of orders, or which order alone is asked for.
 #[derive(Clone, Copy, PartialEq, Eq)]
 pub enum Shown<'a> {
     /// The report.
@@ -120,18 +120,18 @@ pub enum Shown<'a> {
     Json,
     /// The scenario of the outcome with this number alone, from 1.
     Outcome(u32),
-    /// That of the first order to a moment as the question with this number looks for, from 1.
+    /// The scenario of the first order to a moment as the question with this number looks for, from 1.
     State(u32),
-    /// What came of what is asked alone: answers of callers of whom nobody asks are forgotten.
+    /// The result of what is asked alone: answers of callers of whom nobody asks are forgotten.
     Alone,
-    /// That of the order that this text says.
+    /// The scenario of the order that this text says.
     Order(&'a str),
     /// Which answers came at each step, and in how many orders each.
     Answers,
 }
 
-/// What `orders` is asked for: the file of a bank, how many moments one number of steps may lead to, what is printed, and
-/// the text.
+/// All that `orders` is asked for: the file of a bank, how many moments one number of steps may lead to, what is
+/// printed, and the text.
 #[derive(Clone, Copy, Drop)]
 pub struct Asked<'a> {
     pub bank: Option<&'a str>,
@@ -149,7 +149,7 @@ impl<'a> Asked<'a> {
     }
 }
 
-/// What `draw` is asked for.
+/// All that `draw` is asked for.
 pub fn drawing_of(matches: &ArgMatches<'_>) -> Drawing
     ensures form { result.form ≡ words.form_of (found_of matches.now) }
     ensures way { result.way ≡ words.way_of (found_of matches.now) }
@@ -164,7 +164,7 @@ pub fn drawing_of(matches: &ArgMatches<'_>) -> Drawing
     }
 }
 
-// What is to be reported of the scenarios that are played.
+// All that is to be reported of the scenarios that are played.
 fn telling_of<'a>(matches: &ArgMatches<'a>) -> Telling<'a>
     ensures { AsksFor (found_of matches.now) result }
 {
@@ -179,7 +179,7 @@ fn telling_of<'a>(matches: &ArgMatches<'a>) -> Telling<'a>
 
 // rule: The part and its options are those that `clap` found in the command line.
 //   clauses: playing_of; drawing_of; driving_of; asked_of
-/// What `play` is asked for.
+/// All that `play` is asked for.
 pub fn playing_of<'a>(matches: &ArgMatches<'a>) -> Playing<'a>
     ensures bank { option_map (λ file. file.now) result.bank ≡ first_value (found_of matches.now) (codes "bank") }
     ensures limit { result.limit ≡ words.number_at (found_of matches.now) (codes "limit") }
@@ -192,7 +192,7 @@ pub fn playing_of<'a>(matches: &ArgMatches<'a>) -> Playing<'a>
     }
 }
 
-/// What `live` is asked for.
+/// All that `live` is asked for.
 pub fn driving_of<'a>(matches: &ArgMatches<'a>) -> Driving<'a>
     ensures file { option_map (λ file. file.now) result.file ≡ first_value (found_of matches.now) (codes "FILE") }
     ensures bank { option_map (λ file. file.now) result.bank ≡ first_value (found_of matches.now) (codes "bank") }
@@ -205,7 +205,7 @@ pub fn driving_of<'a>(matches: &ArgMatches<'a>) -> Driving<'a>
     }
 }
 
-// What is printed of all orders, or which order alone is asked for.
+// All that is printed of orders, or which order alone is asked for.
 fn shown_of<'a>(matches: &ArgMatches<'a>) -> Shown<'a>
     ensures { Shows (found_of matches.now) result }
 {
@@ -231,7 +231,7 @@ fn shown_of<'a>(matches: &ArgMatches<'a>) -> Shown<'a>
     }
 }
 
-/// What `orders` is asked for.
+/// All that `orders` is asked for.
 pub fn asked_of<'a>(matches: &ArgMatches<'a>) -> Asked<'a>
     ensures bank { option_map (λ file. file.now) result.bank ≡ first_value (found_of matches.now) (codes "bank") }
     ensures most { result.most ≡ unwrap_or (words.number_at (found_of matches.now) (codes "most")) 100000 }
@@ -246,7 +246,7 @@ pub fn asked_of<'a>(matches: &ArgMatches<'a>) -> Asked<'a>
     }
 }
 
-/// What `convert` is asked for.
+/// All that `convert` is asked for.
 pub fn converting_of(matches: &ArgMatches<'_>) -> Converting
     ensures lines { result.lines ≡ words.is_set (found_of matches.now) (codes "lines") }
     ensures toml { result.toml ≡ words.is_set (found_of matches.now) (codes "toml") }
