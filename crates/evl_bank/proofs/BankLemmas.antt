@@ -1,4 +1,4 @@
--- What the callbacks of the program's bank declare and answer.
+-- The declarations and answers of the callbacks of the program's bank.
 use Rattle.std.proofs.Common.{◌≡◌, ℕ, ◌∙◌}
 use Rattle.evl_pipeline.specs.declared.plan.Plan.{Plan}
 use Rattle.evl_kernel.specs.state.States.{Handler}

@@ -158,12 +158,12 @@ pub fn play_program<F: Files, R: Read, S: Sink, T: Sink>(
     }
 }
 
-/// What is done with the program's bank, once there is memory for it.
+/// A user of the program's bank, once there is memory for it.
 pub trait BankUser: Drop {
-    /// What it answers.
+    /// Its answer.
     type Output;
 
-    /// What is known of the answer, by what the callbacks declare and answer.
+    /// The facts about the answer, by what the callbacks declare and answer.
     ghost makes: { Self → List Handler → Self.Output → Type 0 };
 
     /// Takes the bank, whose callbacks are eight.

@@ -1,5 +1,5 @@
 //! The callbacks that the program has, the program over them, and whatever else is done with them.
-//! What names no source is this profile's own.
+//! Rules that name no source are this profile's own.
 #![tactic(auto)]
 
 mod bank;

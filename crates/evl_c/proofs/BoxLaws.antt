@@ -1,4 +1,4 @@
--- What a slot leads to may go to another host thread: a kernel with its board, and what is owned of a box whose value may.
+-- All that a slot leads to may go to another host thread: a kernel with its board, and what is owned of a box whose value may.
 use mathlib.Core.List.{[]}
 use base.Shift.{Keyless}
 use denote.RattleType.{RattleType}

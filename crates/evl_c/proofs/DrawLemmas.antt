@@ -1,4 +1,4 @@
--- What is in C's buffer where nothing is drawn.
+-- C's buffer where nothing is drawn.
 use Rattle.std.proofs.Common.{◌≡◌, ℕ, List, refl}
 use Rattle.evl_c.specs.Draws.{shown}
 use Rattle.evl_c.specs.Pictures.{failed}

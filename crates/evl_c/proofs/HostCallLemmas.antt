@@ -1,4 +1,4 @@
--- What C learns of a caller of a machine that was there, and is.
+-- C's view of a caller of a machine that was there, and is.
 use Rattle.std.proofs.Common.{◌≡◌, ℕ, List, Option, Some, Result, subst, sym}
 use Rattle.evl_base.specs.declared.refusal.Refusal.{Refusal}
 use Rattle.evl_hosts.specs.Hosts.{HostState, Looks, Steps, TellsTrace}

@@ -1,4 +1,4 @@
--- What C learns of orders, by what each call of the body answers.
+-- C's view of orders, by what each call of the body answers.
 use Rattle.std.proofs.Common.{◌≡◌, ◌∙◌, ◌-◌, ℕ, ne_eqb, Bor, List, Option, Some, None, IsSomeAnd, Result, Ok, Err, IfOk, option_map, position, slice_get, string_bytes, ap, refl}
 use Rattle.lab_orders.specs.declared.tallies.Tally.{Tally}
 use Rattle.lab_scenario_orders.specs.Answers.{first_impossible}

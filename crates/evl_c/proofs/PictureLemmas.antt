@@ -1,4 +1,4 @@
--- What is drawn of a text, by what each call of the body draws.
+-- The picture of a text, by what each call of the body draws.
 use Rattle.std.proofs.Common.{◌≡◌, ◌∙◌, ◌⊎◌, inl, inr, ℕ, ◌-◌, List, Option, Some, None, Result, map, refl, sym, subst}
 use Rattle.std.specs.Prelude.{IfSome}
 use Rattle.std.specs.List.{All}

@@ -1,4 +1,4 @@
--- What C learns of answers and plays.
+-- C's view of answers and plays.
 use Rattle.std.specs.Prelude.{ℕ, ℤ, pos, negsuc, Bool, true, false, List, [], length, Option, Some, None, Result, Ok, Err}
 use Rattle.evl_base.specs.Refusal.{number_of}
 use Rattle.evl_base.specs.declared.numbers.ThreadId.{ThreadId}

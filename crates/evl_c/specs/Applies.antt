@@ -1,4 +1,4 @@
--- What a call of C's did.
+-- The effect of a call of C's.
 use Rattle.std.specs.Prelude.{◌≡◌, ℕ, ◌+◌, ◌-◌, ◌≤◌, ◌↔◌, List, length, Option, Some, None, Result, Err, IsTrue, IsFalse}
 use Rattle.evl_base.specs.declared.call.Call.{Call}
 use Rattle.evl_base.specs.declared.refusal.Refusal.{Refusal}

@@ -1,4 +1,4 @@
--- What C learns of a text of callers: what `lab callers` prints.
+-- C's view of a text of callers: what `lab callers` prints.
 use Rattle.std.specs.Prelude.{◌≡◌, ◌⊎◌, ◌-◌, ◌^◌, min, ℕ, List, [], ◌++◌, false, length, map, string_bytes, Option, Some, None, IsSomeAnd}
 use Rattle.evl_kernel.specs.state.Openings.{can_open}
 use Rattle.evl_kernel.specs.state.States.{Handler}

@@ -1,4 +1,4 @@
--- What C learns of the faults of a text: what `lab check` prints.
+-- C's view of the faults of a text: what `lab check` prints.
 use Rattle.std.specs.Prelude.{◌≡◌, ◌⊎◌, ℕ, Bool, true, false, List, [], ◌++◌, codes, decimal, string_bytes, Option, Some, None, IsSomeAnd}
 use Rattle.evl_kernel.specs.state.States.{Handler}
 use Rattle.evl_scenario.specs.Scenarios.{scenario_of}

@@ -1,4 +1,4 @@
--- What C learns of a picture.
+-- C's view of a picture.
 use Rattle.std.specs.Prelude.{◌≡◌, ℕ, Bool, nat_le, nat_eq, ◌&&◌, List, length, Option, Some, None, IfSome, Err, if◌then◌else◌}
 use Rattle.evl_kernel.specs.state.States.{Handler}
 use Rattle.evl_c.specs.Pictures.{Outcome, DrawsBytes, picture, beyond, neither, unread}

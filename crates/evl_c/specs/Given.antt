@@ -1,4 +1,4 @@
--- What a text of C's is taken for: a text of lines for its scenario, any other text for itself.
+-- The text that a text of C's is taken for: its scenario for a text of lines, any other text itself.
 use Rattle.std.specs.Prelude.{◌≡◌, ◌⊎◌, ◌-◌, ◌^◌, min, ℕ, List, Option, Result, Err}
 use Rattle.evl_kernel.specs.state.States.{Handler}
 use Rattle.evl_scenario.specs.declared.faults.Fault.{Fault}

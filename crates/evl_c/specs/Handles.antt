@@ -1,4 +1,4 @@
--- What a handle holds.
+-- The content of a handle.
 use Rattle.std.specs.Prelude.{Option}
 use Rattle.evl_kernel.specs.state.KernelViews.{KernelView}
 use Rattle.evl_plans.specs.declared.planned.Planned.{Planned}

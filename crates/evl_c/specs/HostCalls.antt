@@ -1,4 +1,4 @@
--- What handles of a machine's callers hold, and what a call of C's did.
+-- The content of the handles of a machine's callers, and the effect of a call of C's.
 use Rattle.std.specs.Prelude.{◌≡◌, ◌⊎◌, ℕ, Bool, ◌&&◌, nat_le, List, length, map, replicate, Option, Some, None, Result, Ok, Err, string_bytes}
 use Rattle.std.specs.List.{list_all}
 use Rattle.evl_base.specs.declared.board.Board.{Board}
@@ -96,7 +96,7 @@ abbrev pub AsksAs : Result ReadingForm Refusal → ReadingForm → ℕ → Type 
 AsksAs (Ok reading) told status = (status ≡ 0) × (told ≡ reading)
 AsksAs (Err refusal) told status = status ≡ 11
 
--- rule: What C learns of a question to a caller is what the kernel's history and state say in one take, which enters
+-- rule: C's view of a question to a caller is what the kernel's history and state say in one take, which enters
 --   nothing; 11 comes exactly of a core that another has.
 --   clauses: evlsim_c_caller_ask
 -- A caller was there, and is: it took the kernel, which answered this, and gave it back, or found it taken.

@@ -1,4 +1,4 @@
--- What the slot of a machine's caller owns.
+-- The things that the slot of a machine's caller owns.
 use base.Fml.{Fml, ftrue}
 use base.Stored.{Coded}
 use denote.RawPtr.{Ptr}

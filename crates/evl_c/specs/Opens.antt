@@ -1,4 +1,4 @@
--- What a kernel is that C made.
+-- A kernel that C made.
 use Rattle.std.specs.Prelude.{◌≡◌, ℕ, Bool, ◌&&◌, List, []}
 use Rattle.evl_base.specs.declared.board.Board.{Board}
 use Rattle.evl_kernel.specs.histories.Histories.{opened_kernel}

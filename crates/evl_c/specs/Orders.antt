@@ -1,4 +1,4 @@
--- What C learns of the orders of a text's callers: what `lab orders` prints.
+-- C's view of the orders of a text's callers: what `lab orders` prints.
 use Rattle.std.specs.Prelude.{◌≡◌, ◌⊎◌, ◌+◌, ◌-◌, ◌^◌, min, nat_eq, ℕ, ℤ, pos, negsuc, Bool, true, false, MatchBool, if◌then◌else◌, List, [], ◌++◌, codes, decimal, length, position, slice_get, string_bytes, Option, Some, None, IsSomeAnd, option_and_then, unwrap_or}
 use Rattle.toml.specs.Parse.{parse_document}
 use Rattle.evl_kernel.specs.state.States.{Handler}

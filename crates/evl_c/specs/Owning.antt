@@ -1,4 +1,4 @@
--- What a slot owns.
+-- The things that a slot owns.
 use base.Fml.{Fml, ftrue}
 use base.Stored.{Coded}
 use denote.RawPtr.{Ptr}

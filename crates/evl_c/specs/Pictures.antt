@@ -1,4 +1,4 @@
--- What is drawn of a text: as `lab draw` says, over any callbacks.
+-- The picture of a text: as `lab draw` says, over any callbacks.
 use Rattle.std.specs.Prelude.{◌≡◌, ◌⊎◌, ◌<◌, ◌≤◌, ◌-◌, ℕ, List, [], ◌++◌, map, codes, Bool, true, false, if◌then◌else◌, Option, Some, None, Result, Ok, Err, IfSome}
 use Rattle.std.specs.List.{All}
 use Rattle.std.specs.Str.{is_utf8}

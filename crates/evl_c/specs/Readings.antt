@@ -1,4 +1,4 @@
--- What C learns of a kernel besides its calls.
+-- C's view of a kernel besides its calls.
 use Rattle.std.specs.Prelude.{ℕ, ℤ, pos, Bool, true, false, nat_le, nat_eq, ◌&&◌, length, Option, Some, None, option_map, slice_get, if◌then◌else◌}
 use Rattle.std.specs.Option.{option_map_or}
 use Rattle.evl_base.specs.declared.stage.Stage.{Stage}

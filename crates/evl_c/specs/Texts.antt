@@ -1,4 +1,4 @@
--- What C learns of a text.
+-- C's view of a text.
 use Rattle.std.specs.Prelude.{◌≡◌, ℕ, List, ◌∷◌, length, map, None, Ok, codes}
 use Rattle.std.specs.List.{join_by}
 use Rattle.evl_base.specs.Calls.{name_of, fields_of}
@@ -13,7 +13,7 @@ use Rattle.evl_c.specs.Windows.{window}
 abbrev pub TellsText : List ℕ → ℕ → List ℕ → List ℕ → ℕ → Type 0
 TellsText text start old new told = (new ≡ window text start old) × (told ≡ length text)
 
--- rule: What C learns of a play, a question, the trace and the scenario is what the kernel's history and state say; why
+-- rule: C's view of a play, a question, the trace and the scenario is what the kernel's history and state say; why
 --   there is none is exact. The scenario reads as the history; that each call gives the same text is proved of the
 --   handle (`scenario_text`), not of the export.
 --   clauses: evlsim_c_event; told; evlsim_c_ask; evlsim_c_trace; evlsim_c_scenario

@@ -1,4 +1,4 @@
--- What came of what is asked of all orders.
+-- The results for what is asked of all orders.
 use Rattle.std.specs.Prelude.{◌+◌, ℕ, Bool, true, false, not, ◌&&◌, ◌||◌, nat_lt, if◌then◌else◌, is_some, List, [], ◌∷◌, length, slice_get, Option, Some, None}
 use Rattle.std.specs.Option.{option_map_or}
 use Rattle.lab_orders.specs.declared.firsts.First.{First}
@@ -13,7 +13,7 @@ abbrev pub is_asked : Ask → Bool
 is_asked asks =
     (((asks.always_ends || asks.ends_waits) || nat_lt 0 (length asks.never.items)) || nat_lt 0 (length asks.watches.items)) || is_some asks.outcomes
 
--- What was found of a question about moments is against it: a moment as it looks for, but where it is asked that there is
+-- The answer found to a question about moments is against it: a moment as it looks for, but where it is asked that there is
 -- one; there, that there is none, if nothing was cut off.
 abbrev pub is_found_against : When → Bool → First → Bool
 is_found_against Never whole (After order) = true

@@ -1,4 +1,4 @@
--- What of a text is in a caller's buffer.
+-- The part of a text that is in a caller's buffer.
 use Rattle.std.specs.Prelude.{ℕ, List, ◌++◌, length, take, drop}
 
 -- the bytes of a text from a place on, as many as there is room for, and after them what was there before

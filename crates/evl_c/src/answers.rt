@@ -1,4 +1,4 @@
-//! What calls answered and played, for C.
+//! The answers of calls and plays, for C.
 ghost use Rattle.std.specs.Prelude.{◌≡◌};
 ghost use Rattle.evl_c.specs.Answers as answers;
 ghost use Rattle.evl_c.specs.Windows.{window};
@@ -6,7 +6,7 @@ ghost use Rattle.evl_c.specs.Windows.{window};
 use crate::windows::put_window;
 use evl_base::{Play, Refusal, Reply, Stage, ThreadId};
 
-/// What a call answered (embed/include/evlsim/abi.h: `evlsim_answer`).
+/// The answer of a call (embed/include/evlsim/abi.h: `evlsim_answer`).
 #[repr(C)]
 #[derive(Clone, Copy)]
 pub struct AnswerForm {
@@ -66,7 +66,7 @@ pub fn stage_number(stage: Stage) -> u8
     }
 }
 
-// What C learns of a reply, apart from its plays.
+// C's view of a reply, apart from its plays.
 fn reply_form(reply: &Reply) -> AnswerForm
     ensures { result ≡ answers.reply_form reply.now }
 {
@@ -113,7 +113,7 @@ fn count_of(reply: &Reply) -> i64
     }
 }
 
-// What C learns of an answer, apart from its plays.
+// C's view of an answer, apart from its plays.
 fn told(answer: &Result<Reply, Refusal>) -> AnswerForm
     ensures { result ≡ answers.outcome_form answer.now }
 {
@@ -132,7 +132,7 @@ fn told(answer: &Result<Reply, Refusal>) -> AnswerForm
     }
 }
 
-// What C learns of an answer, with where its plays are.
+// C's view of an answer, with where its plays are.
 fn answer_form(answer: &Result<Reply, Refusal>, first_play: usize, plays: usize) -> AnswerForm
     ensures { result ≡ answers.answer_form answer.now first_play plays }
 {
@@ -143,7 +143,7 @@ fn answer_form(answer: &Result<Reply, Refusal>, first_play: usize, plays: usize)
     }
 }
 
-/// What C learns where nothing was called, for this status.
+/// C's view where nothing was called, for this status.
 pub fn not_called(status: u32) -> AnswerForm
     ensures { result ≡ answers.not_called status }
 {
@@ -215,7 +215,7 @@ pub fn tell(
     }
 }
 
-// What C learns of a play of the clock, and of each other play in the fields that it doesn't use.
+// C's view of a play of the clock, and of each other play in the fields that it doesn't use.
 const CLOCK_PLAY: PlayForm = PlayForm {
     kind: 0,
     stage: 0,
@@ -225,7 +225,7 @@ const CLOCK_PLAY: PlayForm = PlayForm {
     missed: 0,
 };
 
-/// What C learns of a play.
+/// C's view of a play.
 pub fn play_form(play: &Play) -> PlayForm
     ensures { result ≡ answers.play_form play.now }
 {

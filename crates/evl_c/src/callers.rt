@@ -24,7 +24,7 @@ pub struct Story {
     pub status: u32,
 }
 
-// What C gets for a fault of a text. For want of memory there is nothing: that is this function's own error.
+// The report that C gets for a fault of a text. For want of memory there is nothing: that is this function's own error.
 fn refuse(alloc: Global, fault: Fault) -> Result<Story, AllocError>
     ensures { IfOk result (λ told. IsSomeAnd (fault_ended fault) (λ story. story_in told ≡ story)) }
 {
@@ -65,7 +65,7 @@ fn whole(made: Made) -> Result<Story, AllocError>
     })
 }
 
-// What C gets for steps that were made, or for the one that can't be.
+// The report that C gets for steps that were made, or for the one that can't be.
 fn tell_made(alloc: Global, made: Made) -> Result<Story, AllocError>
     ensures { IfOk result (λ told. story_in told ≡ ended made) }
 {

@@ -17,12 +17,12 @@ use lab_lines::{LinesFault, plain_text};
 use lab_warnings::warnings;
 use std::alloc::{AllocError, Global};
 
-// What is wanted of a text of lines.
+// The words for what is wanted of a text of lines.
 const NO_BOARD: &str = "a line with the board is wanted, as board threads=2 sems=[0]";
 
 const TOO_LONG: &str = "a scenario of at most 1048576 bytes is wanted";
 
-/// What a check reports (embed/include/evlsim/abi.h: `evlsim_checked`).
+/// The report of a check (embed/include/evlsim/abi.h: `evlsim_checked`).
 #[repr(C)]
 #[derive(Clone, Copy)]
 pub struct Checked {

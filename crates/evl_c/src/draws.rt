@@ -14,7 +14,7 @@ use crate::windows::put_window;
 use lab_drawing::Goes;
 use std::alloc::Global;
 
-/// What drawing reports (embed/include/evlsim/abi.h: `evlsim_drawn`).
+/// The report of drawing (embed/include/evlsim/abi.h: `evlsim_drawn`).
 #[repr(C)]
 #[derive(Clone, Copy)]
 pub struct Drawn {
@@ -28,7 +28,7 @@ pub struct Drawn {
     pub step: u32,
 }
 
-// What C gets where there is nothing to report.
+// The report that C gets where there is nothing to report.
 const NOTHING: Drawn = Drawn {
     length: 0,
     pages: 0,
@@ -68,7 +68,7 @@ fn status_of(why: Undrawn) -> u32
     }
 }
 
-// What else C learns of it.
+// The other results that C learns of it.
 fn drawn_of(why: Undrawn) -> Drawn
     ensures { result ≡ draws.drawn_of (failed why) }
 {

@@ -1,4 +1,4 @@
-//! What a text of C's is taken for: a text of lines for its scenario, any other text for itself.
+//! The text that a text of C's is taken for: its scenario for a text of lines, any other text itself.
 ghost use Rattle.std.specs.Prelude.{◌≡◌, IfErr, IfOk};
 ghost use Rattle.lab_lines.specs.Kinds.{IsOfCallers, IsPlain};
 ghost use Rattle.evl_c.specs.Given as given;
@@ -31,7 +31,7 @@ fn copied(alloc: Global, text: &[u8]) -> Result<Vec<u8>, Fault>
     }
 }
 
-// What a text is taken for.
+// The text that a text is taken for.
 fn plain_given(alloc: Global, given: Vec<u8>) -> Result<Vec<u8>, Fault>
     ensures plain { IfOk result (λ plain. IsPlain given.items plain.items) }
     ensures unread { IfErr result (IsUnreadAs given.items) }
@@ -42,7 +42,7 @@ fn plain_given(alloc: Global, given: Vec<u8>) -> Result<Vec<u8>, Fault>
     }
 }
 
-/// What a text is taken for; of a text of lines that can't be read the fault from which C learns why.
+/// The text that a text is taken for; of a text of lines that can't be read the fault from which C learns why.
 pub fn plain_of(alloc: Global, text: &[u8]) -> Result<Vec<u8>, Fault>
     ensures plain { IfOk result (λ plain. IsPlain text.now plain.items) }
     ensures unread { IfErr result (IsUnreadAs text.now) }

@@ -30,7 +30,7 @@ impl Drop for HostSlot {
     }
 }
 
-// What is there may go to another host thread, so its box may.
+// All that is there may go to another host thread, so its box may.
 unsafe impl Send for HostSlot {}
 
 impl HostSlot {

@@ -1,5 +1,5 @@
-//! The simulator as a library for C. What each export takes, answers and refuses is in embed/include/evlsim too. What
-//! names no source is this profile's own.
+//! The simulator as a library for C. Exports' arguments, answers and refusals are in embed/include/evlsim too. Rules
+//! that name no source are this profile's own.
 #![tactic(auto)]
 
 mod answers;

@@ -8,7 +8,7 @@ use lab_scenario_orders::{AskFault, AskKey, Callers, FactFault, Never, Part, nea
 use std::alloc::{AllocError, Global};
 use std::fmt;
 
-// What is said of a key that can't be asked.
+// The words for a key that can't be asked.
 fn key_words(key: AskKey) -> &'static str
     ensures { result.now ≡ orders.key_words key }
 {
@@ -47,7 +47,7 @@ fn never_words(alloc: Global, number: usize) -> Result<String, AllocError>
     )
 }
 
-// What a board lacks.
+// The part that a board lacks.
 fn part_words(part: Part) -> &'static str
     ensures { result.now ≡ orders.part_words part }
 {
@@ -152,7 +152,7 @@ pub fn ask_words(alloc: Global, fault: AskFault) -> Result<String, AllocError>
     }
 }
 
-/// That no step of its caller can have an answer, and what may be meant.
+/// Words for an answer that no step of its caller can have, and for what may be meant.
 pub fn impossible_words(
     alloc: Global,
     callers: &Callers,

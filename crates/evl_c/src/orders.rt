@@ -20,7 +20,7 @@ use lab_scenario_orders::{
 };
 use std::alloc::{AllocError, Global};
 
-/// What came of orders (embed/include/evlsim/abi.h: `evlsim_ordered`).
+/// The results of orders (embed/include/evlsim/abi.h: `evlsim_ordered`).
 #[repr(C)]
 #[derive(Clone, Copy)]
 pub struct Ordered {
@@ -46,7 +46,7 @@ pub struct Ordered {
     pub wanted: i32,
     /// 0: what is asked holds, or nothing is. 1: something is against it. 5: longer orders were cut off.
     pub verdict: u8,
-    /// What else is asked.
+    /// The other things asked.
     pub always_ends: bool,
     pub ends_waits: bool,
     pub as_picked: bool,
@@ -54,7 +54,7 @@ pub struct Ordered {
     pub is_whole: bool,
 }
 
-// What C learns where nothing is gone through.
+// C's view where nothing is gone through.
 const NOTHING: Ordered = Ordered {
     length: 0,
     total: 0,
@@ -81,8 +81,8 @@ pub struct Told {
     pub status: u32,
 }
 
-/// What is asked for: the callbacks, how many moments one number of steps may lead to, and an outcome's scenario, from 1,
-/// or the report.
+/// All that is asked for: the callbacks, how many moments one number of steps may lead to, and an outcome's scenario,
+/// from 1, or the report.
 #[derive(Clone, Copy, Drop)]
 pub struct Wanted<'a> {
     pub plans: &'a [Planned],
@@ -198,7 +198,7 @@ fn numbers_of(ask: &Ask, answered: &Answered, length: usize) -> Ordered
     }
 }
 
-// What C learns of outcomes, beside this text.
+// C's view of outcomes, beside this text.
 fn tell_numbers(ask: &Ask, answered: &Answered, text: String, status: u32) -> Told
     ensures { answer_in result ≡ record { text = string_bytes text; ordered = numbers_of ask.now answered.now.outcomes answered.now.against (length (string_bytes text)); status = status } }
 {
@@ -257,7 +257,7 @@ fn outcome_at(all: &[Tally], number: usize) -> Option<&Tally>
     all.get(number.saturating_sub(1))
 }
 
-// What is asked for of outcomes.
+// The part of outcomes that is asked for.
 fn tell_answered(
     alloc: Global,
     one: usize,
@@ -429,8 +429,8 @@ fn tell_over(
 /// report, or the scenario of the outcome with a number above 0, from the byte `start` on, into the buffer. It goes no
 /// further than where a number of steps leads to more than `most` moments, 100,000 where that is 0.
 ///
-/// 0: done. 4: no memory. 5: bad plan. 7: no such outcome. Of the text 1: bad text. 2: bad board. 3: bad step. 8: too many
-/// orders. 10: it can't be asked. Where `length` isn't 0, the buffer has words.
+/// 0: done. 4: no memory. 5: bad plan. 7: no such outcome. For the text 1: bad text. 2: bad board. 3: bad step. 8: too
+/// many orders. 10: it can't be asked. The buffer has words where `length` isn't 0.
 #[unsafe(no_mangle)]
 pub extern "C" fn evlsim_c_orders(
     alloc: Global,

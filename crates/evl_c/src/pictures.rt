@@ -24,7 +24,7 @@ pub enum Form {
     Events,
 }
 
-/// What is asked for: a page, from 1, of the picture in a form, over these callbacks.
+/// All that is asked for: a page, from 1, of the picture in a form, over these callbacks.
 #[derive(Clone, Copy, Drop)]
 pub struct Asked<'a> {
     pub plans: &'a [Planned],
@@ -52,7 +52,7 @@ pub enum Undrawn {
     Memory,
 }
 
-// What comes between the lines of callers and the report of their machine's end.
+// The text between the lines of callers and the report of their machine's end.
 const CLOSING: &str = "\nclose -> ";
 
 // The picture of a page of marks, of so many.

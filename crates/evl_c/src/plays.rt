@@ -16,7 +16,7 @@ use evl_plans::trace_plans;
 use evl_shell::Fault;
 use std::alloc::Global;
 
-/// What a play reports (embed/include/evlsim/abi.h: `evlsim_played`).
+/// The report of a play (embed/include/evlsim/abi.h: `evlsim_played`).
 #[repr(C)]
 #[derive(Clone, Copy)]
 pub struct Played {

@@ -1,4 +1,4 @@
-//! What C learns of a kernel besides its calls.
+//! C's view of a kernel besides its calls.
 ghost use Rattle.std.specs.Prelude.{◌≡◌, option_map};
 ghost use Rattle.evl_c.specs.Readings as readings;
 
@@ -14,13 +14,13 @@ use std::alloc::Global;
 #[repr(C)]
 #[derive(Clone, Copy)]
 pub struct QuestionForm {
-    /// What is asked: 0 to 14.
+    /// The kind of question: 0 to 14.
     pub kind: u8,
     /// The stage: 0 or 1.
     pub stage: u8,
     /// The way: 0 or 1.
     pub way: u8,
-    /// What is waited for: 0 to 4.
+    /// The kind of thing waited for: 0 to 4.
     pub on: u8,
     /// The thread, line, semaphore, flag group, cross-buffer or mutex.
     pub element: u16,
@@ -28,7 +28,7 @@ pub struct QuestionForm {
     pub place: usize,
 }
 
-/// What C learns (embed/include/evlsim/abi.h: `evlsim_reading`).
+/// C's view (embed/include/evlsim/abi.h: `evlsim_reading`).
 #[repr(C)]
 #[derive(Clone, Copy)]
 pub struct ReadingForm {
@@ -107,7 +107,7 @@ fn way_of(form: &QuestionForm) -> Way
     if form.way == 0 { Way::In } else { Way::Out }
 }
 
-// What is waited for.
+// The thing that is waited for.
 fn awaited_of(form: &QuestionForm) -> Awaited
     ensures { result ≡ readings.awaited_of form.now }
 {
@@ -157,7 +157,7 @@ fn stored(kernel: &KernelOf<Planned, Global>, xbuf: XbufId, way: Way) -> Reading
     }
 }
 
-// What C learns of the threads and the date.
+// C's view of the threads and the date.
 fn thread_reading(kernel: &KernelOf<Planned, Global>, form: &QuestionForm) -> ReadingForm
     ensures { result ≡ readings.thread_reading kernel.now form.now }
 {
@@ -174,7 +174,7 @@ fn thread_reading(kernel: &KernelOf<Planned, Global>, form: &QuestionForm) -> Re
     }
 }
 
-// What C learns of the elements and the lines.
+// C's view of the elements and the lines.
 fn element_reading(kernel: &KernelOf<Planned, Global>, form: &QuestionForm) -> ReadingForm
     ensures { result ≡ readings.element_reading kernel.now form.now }
 {
@@ -189,7 +189,7 @@ fn element_reading(kernel: &KernelOf<Planned, Global>, form: &QuestionForm) -> R
     }
 }
 
-/// What a kernel answers to a question.
+/// The answer of a kernel to a question.
 pub fn read(kernel: &KernelOf<Planned, Global>, form: &QuestionForm) -> ReadingForm
     ensures { result ≡ readings.reading_of kernel.now form.now }
 {
@@ -205,7 +205,7 @@ impl Question for QuestionForm {
 
     ghost told_of = { λ form kernel. readings.reading_of kernel form };
 
-    // What the kernel of a machine answers.
+    // The answer of a machine's kernel.
     fn ask(&self, kernel: &KernelOf<Planned, Global>) -> ReadingForm {
         read(kernel, self)
     }

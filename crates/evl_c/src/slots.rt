@@ -31,7 +31,7 @@ impl Drop for Slot {
     }
 }
 
-// What is there may go to another host thread, so its box may.
+// All that is there may go to another host thread, so its box may.
 unsafe impl Send for Slot {}
 
 impl Slot {

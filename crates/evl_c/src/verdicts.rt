@@ -1,4 +1,4 @@
-//! What came of what is asked of all orders.
+//! The results for what is asked of all orders.
 ghost use Rattle.std.specs.Prelude.{◌≡◌};
 ghost use Rattle.evl_c.specs.Verdicts as verdicts;
 

@@ -1,4 +1,4 @@
-//! What of a text goes into a caller's buffer.
+//! The part of a text that goes into a caller's buffer.
 ghost use Rattle.std.specs.Prelude.{◌≡◌};
 ghost use Rattle.evl_c.specs.Windows.{window};
 

@@ -1,4 +1,4 @@
--- What a run over a bank reported, a run over the same bank reports too.
+-- The report of a run over a bank is that of each run over the same bank.
 use Rattle.std.proofs.Common.{◌≡◌, ℕ, List, [], Some, Result, Ok, Err, OnOk, IfErr, ◌++◌, sym, ap, subst}
 use Rattle.evl_scenario.specs.declared.faults.Fault.{Fault}
 use Rattle.evl_scenario.specs.declared.faults.Fault.TheVariants.{Text, Board, Step, Memory, Write}

@@ -1,4 +1,4 @@
--- What callbacks that keep their plans declare.
+-- The declarations of callbacks that keep their plans.
 use Rattle.std.specs.Prelude.{ℕ, List, [], ◌∷◌, bit_or}
 use Rattle.evl_pipeline.specs.declared.action.Action.{Action}
 use Rattle.evl_pipeline.specs.Plans.{kind_of}

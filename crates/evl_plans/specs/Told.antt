@@ -1,4 +1,4 @@
--- What a callback that keeps its plan says.
+-- The words of a callback that keeps its plan.
 use Rattle.evl_kernel.specs.state.States.{Handler}
 use Rattle.evl_plans.specs.declared.planned.Planned.{Planned}
 

@@ -1,5 +1,5 @@
 //! Callbacks that keep their plans, banks of them that a text asks for, and what is played over them.
-//! What names no source is this profile's own.
+//! Rules that name no source are this profile's own.
 #![tactic(auto)]
 
 mod actions;

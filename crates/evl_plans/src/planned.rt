@@ -52,7 +52,7 @@ impl Planned {
         Planned { kinds, plan, shown }
     }
 
-    /// What the plan answers at a count, from 1.
+    /// The answer of the plan at a count, from 1.
     pub fn answer(&self, count: u64) -> Answer
         ensures { result ≡ answer_of self.now.plan count }
     {

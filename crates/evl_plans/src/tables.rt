@@ -1,4 +1,4 @@
-//! What is at the keys of a TOML table.
+//! The values at the keys of a TOML table.
 ghost use Rattle.std.specs.Prelude.{◌≡◌};
 ghost use Rattle.std.specs.BTreeMap.{keys};
 ghost use Rattle.toml.specs.Data.{get_member};

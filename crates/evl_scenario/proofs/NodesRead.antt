@@ -1,4 +1,4 @@
--- What the reader makes of the expressions of a scenario, one after the other.
+-- The reader's results for the expressions of a scenario, one after the other.
 use Rattle.std.proofs.Common.{◌≡◌, ℕ, List, [], ◌∷◌, ◌++◌, map, codes, Option, Some, None, option_map, option_and_then, unwrap_or, refl, sym, ◌∙◌}
 use Rattle.toml.specs.Data.{Data, table, array, Items, no_items, item, push_item, Members, no_members, member}
 use Rattle.toml.specs.Tables.{Nodes, no_nodes, node, value, open_table, open_array, header, Document, Expression, key_value, std_table, array_table, close, at_key, along_header, along_dots, define, replace}

@@ -1,4 +1,4 @@
--- What is written as a text is read back: numbers, and the words and numbers of policies, takes and kinds of mutexes.
+-- Texts are read back as what they were written from: numbers, and the words and numbers of policies, takes and kinds of mutexes.
 use Rattle.std.proofs.Common.{arith, ◌≡◌, ℕ, zero, suc, ◌+◌, ◌/◌, ◌%◌, inl, inr, slice_index, ◌<◌, ◌≤◌, ◌^◌, nat_le, nat_lt, lt-ltb, Bool, true, false, not, ◌&&◌, List, [], ◌∷◌, ◌++◌, length, drop, codes, decimal, Some, refl, sym, ap, ◌∙◌, append_assoc, length-append}
 use Rattle.std.proofs.lemmas.Bool.{and_parts, cases_lt, false_from_ne_true, false≢true}
 use Rattle.std.proofs.lemmas.Bool.Decides.{nat_tests}

@@ -1,4 +1,4 @@
--- What the clauses of the reader of the common shape cite: how the lines of a document go on after what was read.
+-- Notions that the clauses of the reader of the common shape cite: how the lines of a document go on after what was read.
 use Rattle.std.specs.Prelude.{◌≡◌, ℕ, ◌<◌, true, List, [], ◌∷◌, ◌++◌, length, codes, Option, Some, None, option_map, Ok}
 use Rattle.toml_parser.specs.Lexical.{skip_blank}
 use Rattle.toml.specs.Data.{Data, array, Items, no_items, item, Members, no_members, member}

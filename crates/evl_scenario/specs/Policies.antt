@@ -1,4 +1,4 @@
--- What text a policy has in a scenario: its word, and then its numbers, with one space between two of them.
+-- The text of a policy in a scenario: its word, and then its numbers, with one space between two of them.
 use Rattle.std.specs.Prelude.{ℕ, codes, ◌^◌, List, if◌then◌else◌, Option, None, option_map, option_and_then}
 use Rattle.std.specs.Str.{bytes_eq}
 use Rattle.toml.specs.Data.{Data, as_str}

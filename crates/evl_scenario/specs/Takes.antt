@@ -1,4 +1,4 @@
--- What text has in a scenario what is taken from a flag group: all bits, or a word and a mask with one space between them.
+-- The text in a scenario of what is taken from a flag group: all bits, or a word and a mask with one space between them.
 use Rattle.std.specs.Prelude.{ℕ, codes, ◌^◌, List, if◌then◌else◌, Option, Some, None, option_map, option_and_then}
 use Rattle.std.specs.Str.{bytes_eq}
 use Rattle.toml.specs.Data.{Data, as_str}

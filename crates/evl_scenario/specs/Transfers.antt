@@ -1,4 +1,4 @@
--- What texts a way through a cross-buffer and the bytes of a transfer have in a scenario.
+-- The texts of a way through a cross-buffer and of the bytes of a transfer in a scenario.
 use Rattle.std.specs.Prelude.{ℕ, codes, List, length, nat_lt, if◌then◌else◌, Option, Some, None, option_map, option_and_then}
 use Rattle.std.specs.Str.{bytes_eq}
 use Rattle.std.specs.Result.{result_ok}

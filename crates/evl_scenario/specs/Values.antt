@@ -1,4 +1,4 @@
--- What a TOML value means in a scenario.
+-- The meaning of a TOML value in a scenario.
 use Rattle.std.specs.Prelude.{ℕ, ◌==◌, nat_eq, codes, drop, ◌^◌, List, length, Bool, ◌&&◌, nat_lt, decimal, if◌then◌else◌, Option, Some, None, option_map, option_and_then, pos}
 use Rattle.std.specs.List.{starts_with, position_or_len, before_first, after_first}
 use Rattle.std.specs.Str.{bytes_eq}

@@ -1,4 +1,4 @@
-//! What is made of the list of the calls for steps: the word that a text is, its keys, and the call that a table
+//! The uses of the list of the calls for steps: the word that a text is, its keys, and the call that a table
 //! means.
 ghost use Rattle.std.specs.Prelude.{◌≡◌, ◌≤◌, map};
 ghost use Rattle.toml.specs.View.{table_view};

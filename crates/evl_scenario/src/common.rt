@@ -1,5 +1,5 @@
 //! Scenarios of the common shape, read a step at a time: bare keys with scalars and lists, `[board]`, and after it
-//! nothing but `[[step]]` tables. Of any other text nothing is said.
+//! nothing but `[[step]]` tables. Nothing is said of any other text.
 ghost use Rattle.std.specs.Prelude.{◌≡◌, ℕ, ◌+◌, ◌<◌, ◌≤◌, ◌==◌, ◌++◌, [], true, false, length, string_bytes, Some, IfSome};
 ghost use Rattle.toml_parser.specs.Lexical as spec;
 ghost use Rattle.toml_parser.specs.Strings.{starts_string};
@@ -64,7 +64,7 @@ fn read_atom(alloc: Global, s: &str) -> Option<(Value, &str)>
     }
 }
 
-// What follows an element of a list and its comma, or the closing bracket.
+// The part after an element of a list and its comma, or from the closing bracket on.
 fn after_item(s: &str) -> Option<&str>
     ensures value { IfSome result (λ rest. after_element 93 s.now ≡ Some rest.now) }
     ensures within { IfSome result (λ rest. length rest.now ≤ length s.now) }
@@ -172,7 +172,7 @@ fn read_pairs(alloc: Global, s: &str) -> Option<(Table, &str)>
     }
 }
 
-// What follows a header on a line of its own.
+// The part after a header on a line of its own.
 fn after_header<'a>(header: &str, s: &'a str) -> Option<&'a str>
     ensures front { IfSome result (λ rest. s.now ≡ header.now ++ rest.now) }
     ensures ends { IfSome result (λ rest. ends_line (spec.skip_ws rest.now) ≡ true) }

@@ -1,6 +1,6 @@
 //! Scenarios, read from text and written as text: a board, the limit of the history and the steps, with the faults of a
 //! text; and the lines of their traces.
-//! What names no source is this profile's own.
+//! Rules that name no source are this profile's own.
 #![tactic(auto)]
 
 mod boards;

@@ -109,7 +109,7 @@ impl fmt::Display for EntryNumber {
     }
 }
 
-/// What a call answered: a reply, or the name of a refusal.
+/// The answer of a call: a reply, or the name of a refusal.
 #[derive(Drop)]
 pub struct StepAnswer(pub Result<Reply, Refusal>);
 

@@ -7,7 +7,7 @@ use crate::value_texts::KindText;
 use evl_base::MutexKind;
 use std::alloc::{AllocError, Allocator};
 
-/// What can be in a list of a scenario.
+/// The things that can be in a list of a scenario.
 pub trait Listed: Copy {
     ghost use Rattle.toml.specs.Data.{Data};
     ghost use Rattle.std.specs.Prelude.{◌≡◌, ◌++◌, OnOk, string_bytes};

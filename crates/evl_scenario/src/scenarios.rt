@@ -19,7 +19,7 @@ use toml::{Table, Value};
 /// A longer text is no scenario.
 pub const MOST_BYTES: usize = 1_048_576;
 
-/// What a text asks to be played: a board, the limit of its history, and the steps in order.
+/// The play that a text asks for: a board, the limit of its history, and the steps in order.
 #[derive(Drop)]
 pub struct Scenario {
     board: Board,
@@ -120,7 +120,7 @@ fn read_steps(alloc: Global, values: &[Value]) -> Result<Vec<Step>, Fault>
     Ok(steps)
 }
 
-// What a document asks to be played.
+// The play that a document asks for.
 fn read_document(alloc: Global, table: &Table, given: Option<u32>) -> Result<Scenario, Fault>
     ensures ok { IfOk result (λ scenario. script_of given (table_view table.now) ≡ Ok scenario) }
     ensures err { IfErr result (λ e. (e ≡ Fault.Memory) ⊎ (script_of given (table_view table.now) ≡ Err e)) }
@@ -149,7 +149,7 @@ fn text_of(bytes: &[u8]) -> Option<&str>
     }
 }
 
-// What a text of the common shape asks to be played; none where it has another shape or can't be read.
+// The play that a text of the common shape asks for; none where it has another shape or can't be read.
 fn read_common(alloc: Global, text: &str, given: Option<u32>) -> Option<Scenario>
     ensures { IfSome result (λ scenario. document_script given (parse_document text.now) ≡ Ok scenario) }
 {
@@ -163,7 +163,7 @@ fn read_common(alloc: Global, text: &str, given: Option<u32>) -> Option<Scenario
     })
 }
 
-// What a text asks to be played, whatever its length.
+// The play that a text asks for, whatever its length.
 fn read_text(alloc: Global, text: &str, given: Option<u32>) -> Result<Scenario, Fault>
     ensures ok { IfOk result (λ scenario. document_script given (parse_document text.now) ≡ Ok scenario) }
     ensures err { IfErr result (λ e. (e ≡ Fault.Memory) ⊎ (document_script given (parse_document text.now) ≡ Err e)) }
@@ -188,7 +188,7 @@ fn read_text(alloc: Global, text: &str, given: Option<u32>) -> Result<Scenario, 
 //   clauses: read_scenario; read_board; read_step
 //   rows: whole_board; bad_boards; faults_in_order; colourful_step; too_many_threads; later_bad_steps;
 //   what_stands_below_the_board_is_told
-/// What a text asks to be played, under a limit that may be handed in. `Text` for a text of more than 1,048,576 bytes,
+/// The play that a text asks for, under a limit that may be handed in. `Text` for a text of more than 1,048,576 bytes,
 /// of other bytes than UTF-8, or of no document; `Board` and `Step` for what is in it; `Memory` where a growth was
 /// refused.
 pub fn read_scenario(alloc: Global, text: &[u8], given: Option<u32>) -> Result<Scenario, Fault>

@@ -1,4 +1,4 @@
-//! What is at the keys of a TOML table.
+//! The values at the keys of a TOML table.
 ghost use Rattle.std.specs.Prelude.{◌≡◌, option_map, option_and_then, map, string_bytes};
 ghost use Rattle.std.specs.List.{list_all, list_any};
 ghost use Rattle.std.specs.Str.{bytes_eq};
@@ -11,7 +11,7 @@ use crate::values::FromToml;
 use arrayvec::ArrayVec;
 use toml::{Table, Value};
 
-/// What is at a key.
+/// The value at a key.
 pub fn field<'a>(table: &'a Table, key: &str) -> Option<&'a Value>
     ensures { option_map (λ v. view v.now) result ≡ get_member key.now (table_view table.now) }
 {

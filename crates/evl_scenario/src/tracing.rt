@@ -8,7 +8,7 @@ use evl_base::{Board, Call, Entry, Play, Refusal, Reply, ThreadId};
 use std::alloc::{AllocError, Allocator};
 use std::fmt;
 
-// Who made a call, and the call.
+// The caller of a call, and the call.
 #[derive(Drop)]
 struct MadeCall<'a> {
     who: ThreadId,
@@ -28,7 +28,7 @@ impl<'a> fmt::Display for MadeCall<'a> {
     }
 }
 
-// What an entry says that its call answered.
+// The answer that an entry has for its call.
 #[derive(Drop)]
 struct Answered<'a>(&'a Result<Reply, Refusal>);
 

@@ -1,4 +1,4 @@
-//! What a step sends through a cross-buffer, and which way, read from the texts of a scenario.
+//! The bytes that a step sends through a cross-buffer, and which way, read from the texts of a scenario.
 ghost use Rattle.std.specs.Prelude.{◌≡◌};
 ghost use Rattle.evl_scenario.specs.Transfers.{bytes_from, bytes_of, way_from};
 

@@ -9,7 +9,7 @@ use toml::Value;
 
 /// A value that a TOML value may mean.
 pub trait FromToml: Sized {
-    /// What a TOML value means, if it does.
+    /// The meaning of a TOML value, if it has one.
     ghost gives: { Data → Option Self };
 
     /// The value, where the TOML value means one.
@@ -154,7 +154,7 @@ impl FromToml for (u16, u16) {
     }
 }
 
-// What follows this front part of a text.
+// The part after this front part of a text.
 fn text_after<'a>(front: &str, text: &'a str) -> Option<&'a str>
     ensures { option_map (λ rest. rest.now) result ≡ past_front front.now text.now }
 {

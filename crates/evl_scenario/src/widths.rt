@@ -1,4 +1,4 @@
-//! What is known of the numbers of a step by the types of its fields. Nothing is computed here.
+//! Facts about the numbers of a step by the types of its fields. Nothing is computed here.
 ghost use Rattle.std.specs.Prelude.{◌≡◌, ◌<◌, ◌^◌};
 ghost use Rattle.hex.specs.Hex.{IsBytes};
 ghost use Rattle.evl_base.specs.Fields.{all_told, seen};

@@ -1,4 +1,4 @@
--- What the program does with its words.
+-- The program's use of its words.
 use Rattle.std.proofs.Common.{◌≡◌, ◌≢◌, ◌⊎◌, ◌≤◌, inl, inr, ℕ, List, [], ◌∷◌, length, map, option_map, is_some, Bool, Option, Some, None, Result, Err, refl, sym, subst, arith}
 use Rattle.std.specs.Borrow.{Bor}
 use Rattle.clap.specs.Words.{IsAmong, Kinds, Text, fault_of}

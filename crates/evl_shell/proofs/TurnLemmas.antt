@@ -1,4 +1,4 @@
--- What a call of the kernel does is the turn of its step.
+-- A call of the kernel does just the turn of its step.
 use Rattle.std.proofs.Common.{◌≡◌, ℕ, ◌+◌, ◌==◌, Bool, true, false, List, [], ◌∷◌, length, length-append, append-nil, Some, None, Result, Ok, Err, IsTrue, IsFalse, if◌then◌else◌, refl, sym, ap, ◌∙◌, subst, arith, lt-ltb, nat_lt, ◌↔◌}
 use Rattle.std.proofs.lemmas.Bool.{ne_eqb, false_from_ne_true, ltb-true, eq-eqb}
 use Rattle.evl_base.specs.declared.call.Call.{Call}

@@ -1,4 +1,4 @@
--- What the words of the program ask for, as clap reads them: `[FILE] [--limit N]`.
+-- The play that the words of the program ask for, as clap reads them: `[FILE] [--limit N]`.
 use Rattle.std.specs.Prelude.{ℕ, List, codes, Option, Some, None, option_and_then, if◌then◌else◌, pos}
 use Rattle.std.specs.Str.{bytes_eq}
 use Rattle.std.specs.Str.Parse.{digits_value, without_leading_plus}

@@ -1,4 +1,4 @@
--- What was written where a run stopped.
+-- The text that was written where a run stopped.
 use Rattle.std.specs.Prelude.{◌≡◌, ℕ, List, [], ◌++◌, Bool, true, false, Option, Result, Ok, Err}
 use Rattle.std.specs.Io.KnownBytes.{Appends}
 use Rattle.evl_scenario.specs.declared.faults.Fault.{Fault}

@@ -1,4 +1,4 @@
--- What the scenario of a history does when it is played.
+-- The effect of the scenario of a history when it is played.
 use Rattle.std.specs.Prelude.{◌≡◌, ◌≤◌, ◌↔◌, ℕ, List, length, All, None, Ok}
 use Rattle.evl_base.specs.declared.board.Board.{Board}
 use Rattle.evl_pipeline.specs.Plans.{IsSound}

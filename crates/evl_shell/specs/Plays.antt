@@ -1,4 +1,4 @@
--- What the program reads, writes and answers.
+-- The input, output and answer of the program.
 use Rattle.std.specs.Prelude.{◌≡◌, ℕ, List, [], ◌++◌, decimal, codes, Bool, false, Option, Result, Ok, Err}
 use Rattle.evl_kernel.specs.state.States.{Handler}
 use Rattle.evl_scenario.specs.declared.faults.Fault.{Fault}

@@ -1,4 +1,4 @@
--- What is read of an input up to a bound.
+-- The part of an input that is read, up to a bound.
 use Rattle.std.specs.Prelude.{◌≡◌, ◌≤◌, ℕ, List, length, take, Option, IfSome}
 use Rattle.std.specs.Io.KnownBytes.{Consumes}
 

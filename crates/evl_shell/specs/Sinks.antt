@@ -1,4 +1,4 @@
--- What a sink was given, and what waits for it.
+-- The bytes that a sink was given, and those that wait for it.
 use Rattle.std.specs.Prelude.{◌≡◌, ℕ, List, [], ◌++◌, length, nat_eq, nat_lt, ◌&&◌, ◌||◌, Bool, true, false, if◌then◌else◌, Option}
 use Rattle.std.specs.Io.KnownBytes.{Appends}
 use Rattle.evl_scenario.specs.Lines.{AreLines}

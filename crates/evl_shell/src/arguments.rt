@@ -6,7 +6,7 @@ ghost use Rattle.evl_shell.specs.Arguments.{file_of, grammar, limit_of, file_nam
 use clap::{Arg, ArgAction, ArgMatches, Command, Error, value_parser};
 use std::alloc::{AllocError, Global};
 
-/// What the words ask for.
+/// The play that the words ask for.
 #[derive(Clone, Copy, PartialEq, Eq)]
 pub struct Asked<'a> {
     /// The file that is named; none where standard input is to be read.

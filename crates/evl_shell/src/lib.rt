@@ -1,5 +1,5 @@
 //! The shell: plays a scenario's text into a sink, line by line, and says why it stopped.
-//! What names no source is this profile's own.
+//! Rules that name no source are this profile's own.
 #![tactic(auto)]
 
 mod arguments;

@@ -27,7 +27,7 @@ const DONE: u8 = 0;
 // The status of words that are refused.
 const REFUSED: u8 = 3;
 
-// What is written where `clap` has no text.
+// The text where `clap` has none.
 const USAGE: &str = "Usage: evl [OPTIONS] [FILE]\n";
 
 // Opens a file to read it.
@@ -145,7 +145,7 @@ fn turn_away<S: Sink, T: Sink>(alloc: Global, error: &Error, out: &mut S, err: &
 /// Does what the words ask for, `[FILE] [--limit N]` after the program's name: plays the scenario in FILE, or without
 /// it or for `-` in the input, at most 1,048,577 bytes, into the sink over a bank of at most 64 callbacks. The status
 /// is 0 where that is done, and for `--help`; 1 the sink failed; 2 the scenario was refused, or couldn't be read; 3 the
-/// words were refused; 4 no memory. Where it isn't 0, `err` says why, in one line but for status 3.
+/// words were refused; 4 no memory. `err` says why where it isn't 0, in one line but for status 3.
 pub fn play_into<F: Files, R: Read, S: Sink, T: Sink>(
     rt: &F,
     alloc: Global,

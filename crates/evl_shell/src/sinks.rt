@@ -1,4 +1,4 @@
-//! Where a trace goes.
+//! The sinks that traces go to.
 ghost use Rattle.std.specs.Prelude.{◌≡◌, ◌≤◌, true, false, List, ℕ, Option, Bool, length, take, OnOk, OnErr};
 ghost use Rattle.std.specs.Io.KnownBytes.{Appends};
 ghost use Rattle.evl_shell.specs.Sinks.{TakesPrefix, failed_after};

@@ -7,7 +7,7 @@ use evl_scenario::{EntryNumber, PlayLine, Step, StepAnswer, StepLine, board_line
 use std::alloc::Global;
 use std::fmt::Display;
 
-/// What the call of a step was answered, and the number of its entry, where it made one.
+/// The answer to the call of a step, and the number of its entry, where it made one.
 #[derive(Drop)]
 pub struct Called {
     pub number: EntryNumber,

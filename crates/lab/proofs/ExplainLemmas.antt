@@ -1,4 +1,4 @@
--- What is said of files that are refused, after what a part says.
+-- The words for files that are refused, after what a part says.
 use Rattle.std.proofs.Common.{◌≡◌, ◌∙◌, ℕ, List, [], ◌∷◌, ◌++◌, append-nil, append_assoc, Bool, true, false, Option, Result, Ok, Err, IfOk, refl, sym, ap, ap₂, subst}
 use Rattle.std.specs.Prelude.{MatchBool}
 use Rattle.std.specs.Io.KnownBytes.{Appends}

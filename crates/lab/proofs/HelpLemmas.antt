@@ -1,4 +1,4 @@
--- What is printed about a word, whether it is a call's or not.
+-- The output about a word, whether it is a call's or not.
 use Rattle.std.proofs.Common.{◌≡◌, ℕ, List, Bool, true, false, refl}
 use Rattle.lab_live.specs.Helps.{call_help}
 use Rattle.lab_json.specs.Calls.{call_named}

@@ -1,4 +1,4 @@
--- What is said of files that a part has refused, after what the part says: the first fault of each, and the way to `lab check`.
+-- The words for files that a part has refused, after what the part says: the first fault of each, and the way to `lab check`.
 use Rattle.std.specs.Prelude.{◌≡◌, ◌⊎◌, ◌==◌, ℕ, Bool, true, false, MatchBool, List, [], ◌∷◌, ◌++◌, codes, Option, Some, None, Ok, Err}
 use Rattle.std.specs.Io.KnownBytes.{Appends}
 use Rattle.std.specs.Option.{option_map_or}

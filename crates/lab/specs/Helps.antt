@@ -1,4 +1,4 @@
--- What `lab help` says.
+-- The words of `lab help`.
 use Rattle.std.specs.Prelude.{◌≡◌, ℕ, List, ◌++◌, codes, map, Bool, true, false, Option, Some, None, is_some}
 use Rattle.evl_base.specs.Calls.{name_of, words}
 use Rattle.evl_scenario.specs.Steps.{word_of}

@@ -36,7 +36,7 @@ fn check_command<'a>(alloc: Global) -> Result<Command<'a>, AllocError>
     Ok(with_files)
 }
 
-// What is reported as JSON.
+// The word that asks for a report as JSON.
 fn json_word<'a>(alloc: Global) -> Result<Arg<'a>, AllocError>
     ensures { IfOk result (IsWord (mark_rule (codes "json"))) }
 {
@@ -59,7 +59,7 @@ fn states_word<'a>(alloc: Global) -> Result<Arg<'a>, AllocError>
         .conflicts_with("against")
 }
 
-// What is reported as JSON, of texts and of calls.
+// The word that asks for a report of texts, or of calls, as JSON.
 fn as_json_word<'a>(alloc: Global, help: &'a str) -> Arg<'a>
     ensures { IsWord (free_rule (codes "json")) result }
 {
@@ -277,7 +277,7 @@ fn answers_word<'a>(alloc: Global) -> Arg<'a>
         )
 }
 
-// What is reported of all orders as JSON.
+// The word that asks for a report of all orders as JSON.
 fn orders_json_word<'a>(alloc: Global) -> Arg<'a>
     ensures { IsWord (free_rule (codes "json")) result }
 {

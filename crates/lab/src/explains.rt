@@ -42,7 +42,7 @@ fn is_taken(takes: Takes, kind: TextKind) -> bool
     }
 }
 
-// What comes before the first end of a line, and what after it.
+// The parts before and after the first end of a line.
 fn around_feed(report: &str) -> Option<(&str, &str)>
     ensures { option_map (λ parts. (parts.0.now, parts.1.now)) result ≡ around 10 report.now }
 {

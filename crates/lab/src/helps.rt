@@ -50,7 +50,7 @@ fn call_words() -> &'static [&'static str]
     &STEP_WORDS
 }
 
-// What is said of the call that is meant by a word, or of the nearest, or nothing.
+// The words for the call that is meant by a word, or for the nearest, or nothing.
 fn meant_call(alloc: Global, word: &str) -> Result<String, AllocError>
     ensures { IfOk result (λ hint. string_bytes hint ≡ meant_or_near_text word.now (map name_of words)) }
 {

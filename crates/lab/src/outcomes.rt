@@ -13,7 +13,7 @@ use std::fmt::Display;
 use std::io::{self, Read, Write};
 use std::rt::Files;
 
-// What a part prints, kept to be read again, and whether memory for it ran out.
+// The output of a part, kept to be read again, and whether memory for it ran out.
 #[derive(Drop)]
 struct Kept {
     bytes: Vec<u8>,
@@ -100,7 +100,7 @@ fn draw_printed<R: Files + AllocGlobal, O: Stream, E: Stream>(
     draw(rt, drawing, bank, None, &mut scenario, out, err)
 }
 
-/// Draws the outcome that is asked for: the scenario that `orders` prints of it, over the same bank. What is reported of
+/// Draws the outcome that is asked for: the scenario that `orders` prints of it, over the same bank. The report of
 /// `[ask]` is before it. The status is that of the picture, or 2 where `orders` answers 2; then nothing is drawn.
 pub fn draw_outcome<R: Files + AllocGlobal, I: Read, O: Stream, E: Stream>(
     rt: &R,

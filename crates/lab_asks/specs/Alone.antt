@@ -1,4 +1,4 @@
--- What `lab orders --ask` says of what is asked alone.
+-- The report of `lab orders --ask` on what is asked alone.
 use Rattle.std.specs.Prelude.{◌≡◌, ◌⊎◌, ◌+◌, ◌-◌, ◌^◌, ◌==◌, ℕ, Bool, nat_lt, is_some, min, if◌then◌else◌, MatchBool, List, ◌++◌, codes, decimal, Option, Some, None}
 use Rattle.evl_kernel.specs.state.States.{Handler}
 use Rattle.lab_orders.specs.declared.levels.OrdersError.TheVariants.{Count}

@@ -1,4 +1,4 @@
--- What is said of what is asked.
+-- The words for what is asked.
 use Rattle.std.specs.Prelude.{ℕ, List, ◌++◌, codes, decimal, Option, Some, None, option_map}
 use Rattle.lab_kinds.specs.Asking.{ask_line, ask_words, impossible_words}
 use Rattle.lab_scenario_orders.specs.declared.asks.AskFault.{AskFault}

@@ -1,4 +1,4 @@
--- What `lab orders` says of one order alone.
+-- The report of `lab orders` on one order alone.
 use Rattle.std.specs.Prelude.{◌≡◌, ◌⊎◌, ℕ, List, ◌++◌, codes, decimal, map, Option, Some, None, IsSomeAnd, option_map, unwrap_or}
 use Rattle.evl_kernel.specs.state.States.{Handler}
 use Rattle.lab_scenario_orders.specs.Callers.{first_seen, machine}

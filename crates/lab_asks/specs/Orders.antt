@@ -1,4 +1,4 @@
--- What `lab orders` says of the orders of callers.
+-- The report of `lab orders` on the orders of callers.
 use Rattle.std.specs.Prelude.{◌≡◌, ◌⊎◌, ℕ, false, MatchBool, List, codes, Option, Some, None, IsSomeAnd, option_and_then, option_map}
 use Rattle.toml.specs.Parse.{parse_document}
 use Rattle.evl_kernel.specs.state.States.{Handler}

@@ -1,4 +1,4 @@
--- What `lab orders` says of the outcomes of all orders.
+-- The report of `lab orders` on the outcomes of all orders.
 use Rattle.std.specs.Prelude.{◌≡◌, ◌⊎◌, ◌-◌, ℕ, List, ◌++◌, codes, decimal, flat_map, length, position, slice_get, string_bytes, Option, Some, None, option_and_then}
 use Rattle.evl_kernel.specs.state.States.{Handler}
 use Rattle.lab_orders.specs.declared.firsts.First.{First}

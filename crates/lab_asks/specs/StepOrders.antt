@@ -1,4 +1,4 @@
--- What `lab orders` says of the orders of callers' atomic steps.
+-- The report of `lab orders` on the orders of callers' atomic steps.
 use Rattle.std.specs.Prelude.{◌≡◌, ◌⊎◌, ◌+◌, ◌-◌, ◌^◌, min, ℕ, Bool, ◌||◌, MatchBool, if◌then◌else◌, length, nat_lt, List, [], ◌∷◌, ◌++◌, codes, decimal, position, slice_get, string_bytes, Option, Some, None, IsSomeAnd, is_some, option_and_then, Result, Ok, Err}
 use Rattle.toml.specs.Parse.{parse_document}
 use Rattle.lab_orders.specs.declared.levels.OrdersError.TheVariants.{Count}

@@ -1,4 +1,4 @@
--- What came of what is asked of all orders.
+-- The results for what is asked of all orders.
 use Rattle.std.specs.Prelude.{◌+◌, ◌-◌, ◌^◌, ◌==◌, min, ℕ, if◌then◌else◌, is_some, List, ◌++◌, codes, length, decimal, Option, Some, None}
 use Rattle.lab_scenario_orders.specs.Verdicts.{asks_anything, is_count_against, state_against}
 use Rattle.lab_scenario_orders.specs.declared.asks.Ask.{Ask}

@@ -1,4 +1,4 @@
-//! What `lab orders` says of what is asked alone.
+//! The report of `lab orders` on what is asked alone.
 ghost use Rattle.std.specs.Prelude.{◌≡◌, IfErr, IfOk, OnOk, Some, false, map};
 ghost use Rattle.std.specs.Io.KnownBytes.{Appends};
 ghost use Rattle.evl_plans.specs.Told.{handler_of};

@@ -1,4 +1,4 @@
-//! What `lab orders --answers` says: which answers came at each step of each caller, and in how many orders.
+//! The report of `lab orders --answers`: which answers came at each step of each caller, and in how many orders.
 ghost use Rattle.std.specs.Prelude.{◌≡◌, ◌<◌, ◌++◌, IfErr, IfOk, OnOk, false, flat_map};
 ghost use Rattle.std.specs.Io.KnownBytes.{Appends};
 ghost use Rattle.lab_orders.specs.Tallies.{told_weight};

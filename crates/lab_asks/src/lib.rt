@@ -1,4 +1,4 @@
-//! What `lab orders` says of all orders of callers' calls, or of their atomic steps, and what came of what was asked.
+//! The report of `lab orders` on all orders of callers' calls, or of their atomic steps, and on what was asked.
 #![tactic(auto)]
 
 mod alone;

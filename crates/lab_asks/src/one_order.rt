@@ -1,4 +1,4 @@
-//! What `lab orders` says of one order alone.
+//! The report of `lab orders` on one order alone.
 ghost use Rattle.std.specs.Prelude.{◌≡◌, ◌<◌, All, IfErr, IfOk, IsSomeAnd, OnOk, false, length, map};
 ghost use Rattle.std.specs.Io.KnownBytes.{Appends};
 ghost use Rattle.evl_plans.specs.Told.{handler_of};

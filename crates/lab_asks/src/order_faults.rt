@@ -1,4 +1,4 @@
-//! What is wrong with a text whose orders are asked for.
+//! The faults of a text whose orders are asked for.
 ghost use Rattle.std.specs.Prelude.{◌≡◌, option_map, IfOk, OnOk, IsSomeAnd, IfErr, false};
 ghost use Rattle.std.specs.Io.KnownBytes.{Appends};
 ghost use Rattle.lab_scenario_orders.specs.Answers.{near_answer};

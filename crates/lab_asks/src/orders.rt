@@ -32,14 +32,14 @@ use std::alloc::{AllocError, Global};
 use std::io::{self, Read};
 use std::rt::Files;
 
-// What is printed of all orders.
+// The part of all orders that is printed.
 #[derive(Clone, Copy, PartialEq, Eq)]
 enum View {
     Report,
     Json,
     // The scenario of the outcome with this number, from 1.
     Outcome(u32),
-    // That of the first order that leads to a moment as the question with this number looks for, from 1.
+    // The scenario of the first order that leads to a moment as the question with this number looks for, from 1.
     State(u32),
     // Which answers came at each step.
     Answers,

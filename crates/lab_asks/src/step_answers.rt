@@ -1,4 +1,4 @@
-//! What `lab orders --answers` prints of orders of steps: which answers came to each call of each caller.
+//! The report of `lab orders --answers` on orders of steps: which answers came to each call of each caller.
 ghost use Rattle.std.specs.Prelude.{◌≡◌, ◌<◌, ◌++◌, IfOk, OnOk};
 ghost use Rattle.lab_orders.specs.Tallies.{told_weight};
 ghost use Rattle.lab_orders.specs.Weights.{count_limit};

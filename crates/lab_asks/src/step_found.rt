@@ -1,4 +1,4 @@
-//! What is printed of the orders of callers' atomic steps.
+//! The report on the orders of callers' atomic steps.
 ghost use Rattle.std.specs.Prelude.{◌≡◌, option_map, string_bytes, IfErr, IfOk, false};
 ghost use Rattle.lab_orders.specs.Tallies.{told_weight};
 ghost use Rattle.lab_streams.specs.Outputs.{Writes};
@@ -16,7 +16,7 @@ use lab_streams::Stream;
 use std::alloc::{AllocError, Global};
 use std::io;
 
-/// What is printed of the orders of steps.
+/// The part of the orders of steps that is printed.
 #[derive(Clone, Copy, PartialEq, Eq)]
 pub(crate) enum StepView {
     Report,

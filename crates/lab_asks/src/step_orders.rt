@@ -150,7 +150,7 @@ fn go_through<O: Stream, E: Stream>(
     }
 }
 
-// What is printed of the orders of steps, or why they can't be reported so.
+// The part of the orders of steps that is printed, or why they can't be reported so.
 fn told_for(shown: Shown<'_>) -> Result<StepView, &'static str>
     ensures view { IfOk result (λ view. told_for shown.entry ≡ Ok view) }
     ensures words { IfErr result (λ words. told_for shown.entry ≡ Err words.now) }

@@ -1,4 +1,4 @@
-//! What came of what is asked of all orders.
+//! The results for what is asked of all orders.
 ghost use Rattle.std.specs.Prelude.{◌≡◌, IfErr, IfOk, OnOk, Some, false};
 ghost use Rattle.std.specs.Io.KnownBytes.{Appends};
 ghost use Rattle.lab_streams.specs.Streams.{EndsEarly};
@@ -10,7 +10,7 @@ use lab_scenario_orders::{
 use lab_streams::{AGAINST, Stream, UNANSWERED};
 use std::{fmt, io};
 
-// What is said before the number of answers that may never be.
+// The words before the number of answers that may never be.
 fn ends_words(ask: &Ask) -> &'static str
     ensures { result.now ≡ ends_words ask.now }
 {
@@ -27,7 +27,7 @@ fn ends_words(ask: &Ask) -> &'static str
     }
 }
 
-// What is said after the number of questions about moments.
+// The words after the number of questions about moments.
 fn count_words(ask: &Ask) -> &'static str
     ensures { result.now ≡ count_words ask.now }
 {
@@ -56,7 +56,7 @@ impl fmt::Display for WatchCount {
     }
 }
 
-// What is said of the orders that were gone through.
+// The words for the orders that were gone through.
 fn picked_words(ask: &Ask) -> &'static str
     ensures { result.now ≡ picked_words ask.now }
 {

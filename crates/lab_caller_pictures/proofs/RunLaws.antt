@@ -1,4 +1,4 @@
--- What is drawn of a text of callers, or why there is nothing, by what was kept of its run.
+-- The picture of a text of callers, or why there is none, by what was kept of its run.
 use Rattle.std.proofs.Common.{◌≡◌, ℕ, List, Result, Ok, Err, IfOk, IfErr, string_bytes, refl, sym, subst}
 use Rattle.std.specs.Prelude.{Option, None}
 use Rattle.evl_base.specs.declared.board.Board.{Board}

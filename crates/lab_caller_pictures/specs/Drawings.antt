@@ -1,4 +1,4 @@
--- What is drawn of marks, by what they come from.
+-- The drawing of marks, by what they come from.
 use Rattle.std.specs.Prelude.{string_bytes, ◌≡◌, ℕ, List, [], length, map, nat_le, if◌then◌else◌, Option, Some, None}
 use Rattle.evl_kernel.specs.state.States.{Handler}
 use Rattle.evl_plans.specs.Told.{handler_of}

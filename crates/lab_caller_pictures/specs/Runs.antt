@@ -1,4 +1,4 @@
--- What is drawn of a text of callers: the lines that its run prints, and the scenario of the calls that were entered.
+-- The drawing of a text of callers: the lines that its run prints, and the scenario of the calls that were entered.
 use Rattle.std.specs.Prelude.{◌≡◌, ◌≢◌, ℕ, ⊤, false, List, length, map, string_bytes, Option, Some, None, Ok}
 use Rattle.evl_base.specs.declared.board.Board.{Board}
 use Rattle.evl_kernel.specs.state.KernelViews.{KernelView}

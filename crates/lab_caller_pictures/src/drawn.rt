@@ -1,4 +1,4 @@
-//! What is drawn of marks, with the lanes' states after each entry as far as the marks' source gives them.
+//! The drawing of marks, with the lanes' states after each entry as far as the marks' source gives them.
 ghost use Rattle.std.specs.Prelude.{◌≡◌, IfOk, map, string_bytes};
 ghost use Rattle.evl_plans.specs.Told.{handler_of};
 ghost use Rattle.lab_caller_pictures.specs.Drawings as drawings;
@@ -14,7 +14,7 @@ use lab_drawing::{
 use lab_moments::moments_of;
 use std::alloc::{AllocError, Global};
 
-/// What marks come from: a trace alone, a scenario that was played over these callbacks, or the lines of callers, alone
+/// The source of marks: a trace alone, a scenario that was played over these callbacks, or the lines of callers, alone
 /// or with the calls that were entered then.
 #[derive(Clone, Copy)]
 pub enum Source<'a> {
@@ -71,7 +71,7 @@ fn known_moments(
     }
 }
 
-// What a picture shows of lanes' states, by the moments of its page.
+// The lanes' states that a picture shows, by the moments of its page.
 fn shows_for(source: Source<'_>, moments: &[Moment]) -> Shows
     ensures { result ≡ drawings.shows_for (origin_of source.entry) moments.now }
 {
@@ -97,7 +97,7 @@ fn goes_for(asked: Option<Goes>, count: usize) -> Goes
     }
 }
 
-/// What is drawn of a page, from 0, of marks from this source: the lanes' states after each entry, what is shown of
+/// The drawing of a page, from 0, of marks from this source: the lanes' states after each entry, what is shown of
 /// them, and which way the marks go; at most 60 go down if none is asked for. `AllocError` where memory couldn't grow.
 pub fn drawn_of<'a, 'b>(
     alloc: Global,

@@ -30,7 +30,7 @@ fn threads_in(alloc: Global, lanes: &[Lane]) -> Result<Vec<Lane>, AllocError>
     Ok(threads)
 }
 
-// What is shown once so many calls were entered.
+// The moment that is shown once so many calls were entered.
 fn shown_after(shown: &[Moment], entered: usize) -> Option<&Moment>
     ensures { option_map (λ moment. moment_shown moment.now) result ≡ shown_after (map moment_shown shown.now) entered }
 {

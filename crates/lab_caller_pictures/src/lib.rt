@@ -1,5 +1,5 @@
-//! What is drawn of marks, by what they come from; and texts of callers, played to be drawn.
-//! What names no source is this profile's own.
+//! The drawing of marks, by what they come from; and texts of callers, played to be drawn.
+//! Rules that name no source are this profile's own.
 #![tactic(auto)]
 
 mod drawn;

@@ -1,4 +1,4 @@
-//! What is drawn of a text of callers, once it is played.
+//! The drawing of a text of callers, once it is played.
 ghost use Rattle.std.specs.Prelude.{◌≡◌, IfErr, IfOk, map, string_bytes};
 ghost use Rattle.evl_plans.specs.Told.{handler_of};
 ghost use Rattle.lab_caller_pictures.specs.Runs.{AllMade, EndsFor, IsKnown, IsRunBy, IsRunOf, IsWhyBy, IsWhyOf};
@@ -40,7 +40,7 @@ pub enum Unplayed {
     Memory,
 }
 
-// What is known of the calls that a kernel entered, where one is left.
+// The facts about the calls that a kernel entered, where one is left.
 fn known_of(
     alloc: Global,
     board: &Board,
@@ -66,7 +66,7 @@ fn known_of(
     }
 }
 
-// What is drawn of what was kept of callers over this board, under this limit.
+// The drawing of what was kept of callers over this board, under this limit.
 fn run_of(
     alloc: Global,
     board: &Board,
@@ -96,7 +96,7 @@ fn run_of(
     }
 }
 
-// What is drawn of what a text asks for, over copies of these callbacks.
+// The drawing of what a text asks for, over copies of these callbacks.
 fn play_asked(alloc: Global, bank: &[Planned], asked: CallersText) -> Result<CallersRun, Unplayed>
     ensures run { IfOk result (IsRunBy (map handler_of bank.now) asked) }
     ensures why { IfErr result (IsWhyBy (map handler_of bank.now) asked) }

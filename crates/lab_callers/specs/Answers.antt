@@ -136,7 +136,8 @@ module _ {C : Type 0} where
   --   also: Holdings.Holdings
   --   clauses: play_callers
   --   rows: name_is_held
-  -- What a step does to the callers of a machine with this limit and to what names hold, what is reported of it, and what it shows: the answer of the call that its word names, as the machine is
+  -- A step's effect on the callers of a machine with this limit and on what names hold, what is reported of it, and what it shows:
+  -- the answer of the call that its word names, as the machine is
   abbrev pub Makes : ℕ → Act → CrewState C → Holdings → ThreadId → List ℕ → Shows → CrewState C → Holdings → Type 0
   Makes limit (act.Call asked) old had who told shown new has = (has ≡ had) × CallsSo limit asked old who.0 told shown new
   Makes limit (act.TryLockStax stax name) old had who told shown new has = EntersStax stax name old had who told shown new has

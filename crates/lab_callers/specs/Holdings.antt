@@ -1,4 +1,4 @@
--- What names hold, who waits for which mutex, and what becomes of both.
+-- The passes that names hold, who waits for which mutex, and what becomes of both.
 use Rattle.std.specs.Prelude.{◌==◌, ◌||◌, ◌++◌, ℕ, Bool, List, [], ◌∷◌, String, Option, Some, None, Result, Ok, Err, find, option_map, position}
 use Rattle.std.specs.List.{remove}
 use Rattle.std.specs.declared.alloc.Global.{Global}

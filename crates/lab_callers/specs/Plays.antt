@@ -1,4 +1,4 @@
--- What is reported of the steps of a text of callers, one after another.
+-- The reports of the steps of a text of callers, one after another.
 use Rattle.std.specs.Prelude.{◌≡◌, ◌+◌, ℕ, ⊤, List, [], ◌∷◌, ◌++◌, codes, length, Option, Some, None, is_some, Result, Ok, Err, string_bytes}
 use Rattle.evl_base.specs.declared.refusal.Refusal.{Refusal}
 use Rattle.lab_callers.specs.Answers.{Makes}
@@ -141,7 +141,8 @@ abbrev pub EndsSo : {C : Type 0} → MachineState C → Run C → List CallersSt
 EndsSo machine start steps before (ending.Fault number fault) lines closing entered left = StopsAt machine.first.limit start steps before lines number fault × (closing ≡ []) × (left ≡ None)
 EndsSo machine start steps before closes lines closing entered left = (callers : List (CallerState _)) × MakesEach machine.first.limit start steps before lines callers entered × ClosesSo machine callers closes closing left
 
--- What is reported of a text of callers: the line of its board, and of a machine that is made over it what its new callers do, step by step; how many calls of the kernel were entered after each step, and the kernel that a closed machine leaves
+-- The report of a text of callers: the line of its board, and of a machine that is made over it what its new callers do, step by
+-- step; how many calls of the kernel were entered after each step, and the kernel that a closed machine leaves
 pub record IsKept {C : Type 0} (declared : C → ℕ) (plan : C → Plan) (text : CallersText) (bank : List C) (told : Played) (entered : List ℕ) (left : Option (KernelView C)) : Type 0 where
   pub machine : MachineState C
   pub opened : IsOpened declared plan text.board bank text.limit machine.first

@@ -1,4 +1,4 @@
--- What has been reported so far, and what of the callers is kept beside their machine.
+-- The report so far, and what of the callers is kept beside their machine.
 use Rattle.std.specs.Prelude.{ℕ, List}
 use Rattle.lab_callers.specs.Holdings.{Holdings}
 

@@ -1,4 +1,4 @@
--- What is in a line after the answer of a step.
+-- The part of a line after the answer of a step.
 use Rattle.std.specs.Prelude.{ℕ, Bool, List, [], ◌++◌, codes, count_by, decimal, nat_eq, nat_lt, Option, Some, None, option_map, if◌then◌else◌}
 use Rattle.evl_base.specs.Refusal.{name_of}
 use Rattle.evl_base.specs.declared.numbers.MutexId.{MutexId}
@@ -59,7 +59,8 @@ abbrev pub thread_asked : Holdings → Shows → Option ThreadId
 thread_asked had (shows.Stax stax) = option_map (λ seat. record { 0 = seat }) (stax_holder had stax.0)
 thread_asked had other = None
 
--- What comes after an answer: how the core, the mutex's word or the stax is, which is counted from the passes that names hold. Of a stax that the board hasn't there is nothing
+-- The text after an answer: how the core, the mutex's word or the stax is, which is counted from the passes that names hold. A stax
+-- that the board hasn't shows nothing
 abbrev pub shown_text : ℕ → Holdings → Option ℕ → View → Shows → List ℕ
 shown_text staxes had holder view shows.Nothing = []
 shown_text staxes had holder view (shows.Stax stax) = if nat_lt stax.0 staxes then stax_text stax.0 view.stage (count_by (is_of_stax stax.0) had.staxes) else []

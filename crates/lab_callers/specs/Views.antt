@@ -1,4 +1,4 @@
--- What is seen after a step, by a caller that has the kernel.
+-- The view after a step, by a caller that has the kernel.
 use Rattle.std.specs.Prelude.{◌≡◌, ℕ, ⊤, List, drop, length, nat_lt, Option, None, Some, is_some, MatchBool, MatchOption}
 use Rattle.std.specs.Option.{option_map_or}
 use Rattle.evl_base.specs.declared.stage.Stage.TheVariants.{Inband}

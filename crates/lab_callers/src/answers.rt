@@ -1,4 +1,4 @@
-//! What a step is answered, as text, and what it went to.
+//! The answer to a step, as text, and what it went to.
 ghost use Rattle.std.specs.Prelude.{◌≡◌, ◌≢◌, Err, IfErr, IfOk, OnOk, false, string_bytes, true};
 ghost use Rattle.evl_base.specs.Refusal.{name_of};
 ghost use Rattle.evl_base.specs.Reply.{outcome_text};
@@ -46,7 +46,7 @@ impl From<AllocError> for Stop {
     }
 }
 
-/// What is reported of a step.
+/// The report of a step.
 #[derive(Drop)]
 pub struct Told {
     pub answer: String,
@@ -342,7 +342,7 @@ fn begin<C: Handler>(
     Ok(tell_begun(alloc, passes, who, name, mutex, answer)?)
 }
 
-// What a caller's wait is shown by.
+// The part that shows a caller's wait.
 fn awaited(passes: &Passes, who: ThreadId) -> Shows
     ensures { result ≡ word_shown (awaited_mutex passes.now who) }
 {

@@ -20,7 +20,7 @@ use evl_words::{MutexPass, StaxPass};
 use std::alloc::{AllocError, Global};
 use std::marker::Model;
 
-/// The callers of a machine. Who has the core is apart from the others, which keep their order.
+/// The callers of a machine. The one that has the core is apart from the others, which keep their order.
 #[derive(Drop)]
 pub struct Crew<'a, C: Handler> {
     machine: &'a MachineOf<C, Global>,
@@ -40,7 +40,7 @@ impl<'a, C: Handler> Model for Crew<'a, C> {
     ghost view = { λ c. record { machine = c.machine.now; callers = c.callers.items; held = c.held; holder = c.holder } };
 }
 
-/// What a call of a caller answers, or why it can't be made.
+/// The answer to a call of a caller, or why the call can't be made.
 pub type Made<T> = Result<T, StepFault>;
 
 impl<'a, C: Handler> Crew<'a, C> {
@@ -59,7 +59,7 @@ impl<'a, C: Handler> Crew<'a, C> {
         }
     }
 
-    /// The callers that haven't the core. Where one has it, it is gone with it.
+    /// The callers that haven't the core. The caller that has it, if any, is gone with it.
     pub fn into_callers(self) -> Vec<CallerOf<C, Global>>
         ensures machine { All (λ c. c.machine ≡ self.entry.machine) result.items }
         ensures callers { result.items ≡ self.entry.callers }
@@ -287,7 +287,7 @@ impl<'a, C: Handler> Crew<'a, C> {
         }
     }
 
-    // What a caller sees that takes the core for it, where nobody has it.
+    // The view of a caller that takes the core for it, where nobody has it.
     fn look_by(
         &mut self,
         alloc: Global,
@@ -318,7 +318,7 @@ impl<'a, C: Handler> Crew<'a, C> {
         }
     }
 
-    // What the caller sees that has the core.
+    // The view of the caller that has the core.
     fn look_held(&mut self, alloc: Global, question: Question) -> Result<View, AllocError>
         ensures machine { self.new.machine ≡ self.old.machine }
         ensures looked { IfOk result (λ view. LooksHeld self.old question view self.new) }
@@ -329,7 +329,7 @@ impl<'a, C: Handler> Crew<'a, C> {
         }
     }
 
-    /// What is seen after a step, by who has the core, or by the caller of the step.
+    /// The view after a step, by who has the core, or by the caller of the step.
     pub fn look(
         &mut self,
         alloc: Global,

@@ -16,17 +16,17 @@ use evl_scenario::write_history;
 use lab_callers_text::{CallersStep, CallersText};
 use std::alloc::{AllocError, Global};
 
-/// What is reported of the steps, and what is left of their machine.
+/// The report of the steps, and what is left of their machine.
 #[derive(Drop)]
 pub struct Kept<C: Handler> {
     pub told: Played,
-    /// Where all steps were made, how many calls of the kernel were entered after each.
+    /// The count of the kernel's calls entered after each step, where all were made.
     pub entered: Vec<usize>,
     /// The kernel, where the machine is closed.
     pub kernel: Option<KernelOf<C, Global>>,
 }
 
-// What is reported of a closed machine's kernel.
+// The report of a closed machine's kernel.
 fn closing_of<C: Handler>(alloc: Global, kernel: &KernelOf<C, Global>) -> Result<String, AllocError>
     ensures { IfOk result (λ text. string_bytes text ≡ closed_text kernel.now.history) }
 {
@@ -38,7 +38,7 @@ fn closing_of<C: Handler>(alloc: Global, kernel: &KernelOf<C, Global>) -> Result
     Ok(text)
 }
 
-// What is reported of a machine that isn't closed.
+// The report of a machine that isn't closed.
 fn refused_closing(alloc: Global, refusal: Refusal) -> Result<String, AllocError>
     ensures { IfOk result (λ text. string_bytes text ≡ open_text refusal) }
 {
@@ -68,7 +68,7 @@ fn unplayed<C: Handler>(
 // How steps end, what is reported of their machine then, and the kernel, where it is closed.
 type Closing<C> = (Ending, String, Option<KernelOf<C, Global>>);
 
-// What is reported of a closed machine's kernel, which stays.
+// The report of a closed machine's kernel, which stays.
 fn told_closed<C: Handler>(
     alloc: Global,
     kernel: KernelOf<C, Global>,
@@ -84,7 +84,7 @@ fn told_closed<C: Handler>(
     }
 }
 
-// What is reported of a machine that isn't closed, which goes with its callers.
+// The report of a machine that isn't closed, which goes with its callers.
 fn told_open<C: Handler>(
     alloc: Global,
     refusal: Refusal,
@@ -118,7 +118,7 @@ fn closing<C: Handler>(
     }
 }
 
-// What is reported in the end, once the machine is closed, if it can be.
+// The report in the end, once the machine is closed, if it can be.
 fn closed<C: Handler>(
     report: Report,
     machine: MachineOf<C, Global>,
@@ -150,7 +150,7 @@ fn closed<C: Handler>(
     }
 }
 
-// What is reported of steps that end before the last one.
+// The report of steps that end before the last one.
 fn stopped<C: Handler>(report: Report, number: usize, stop: Stop) -> Result<Kept<C>, Refusal>
     ensures lines { IfOk result (λ kept. string_bytes kept.told.lines ≡ report.text) }
     ensures ending { IfOk result (λ kept. IsStopped number stop kept.told) }
@@ -177,7 +177,7 @@ fn stopped<C: Handler>(report: Report, number: usize, stop: Stop) -> Result<Kept
     }
 }
 
-// What is reported of all steps, over a machine.
+// The report of all steps, over a machine.
 fn told_over<C: Handler>(
     report: Report,
     machine: MachineOf<C, Global>,
@@ -231,7 +231,7 @@ pub fn play_kept<C: Handler>(
     }
 }
 
-// What is reported, where nothing else is kept.
+// The report, where nothing else is kept.
 fn told_alone<C: Handler>(kept: Kept<C>) -> Played
     ensures { result ≡ kept.told }
 {
@@ -240,7 +240,7 @@ fn told_alone<C: Handler>(kept: Kept<C>) -> Played
     told
 }
 
-/// What `play_kept` says of a text of callers. `Range` exactly where the board, the bank or the limit is outside its
+/// The words of `play_kept` on a text of callers. `Range` exactly where the board, the bank or the limit is outside its
 /// limits, `NoMemory` where a growth was refused.
 pub fn play_callers<C: Handler>(
     alloc: Global,

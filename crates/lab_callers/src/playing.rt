@@ -35,17 +35,17 @@ pub enum Ending {
     Fault(usize, StepFault),
 }
 
-/// What is reported of the steps.
+/// The report of the steps.
 #[derive(Drop)]
 pub struct Played {
     /// The board, and a line for each step that was made, with its plays below it.
     pub lines: String,
-    /// Where all steps were made, what closing the machine was answered, and the lines of the kernel's history.
+    /// The answer to closing the machine, where all steps were made, and the lines of the kernel's history.
     pub closing: String,
     pub ending: Ending,
 }
 
-/// What callers have and what was reported, beside their machine, and how many calls were entered after each step.
+/// The holdings of callers and the report, beside their machine, and how many calls were entered after each step.
 #[derive(Drop)]
 pub struct Report {
     pub alloc: Global,
@@ -75,7 +75,7 @@ fn holding(passes: &Passes, stax: StaxId) -> Option<ThreadId>
     }
 }
 
-// What is asked after a step that shows this.
+// The question after a step that shows this.
 fn question(report: &Report, shows: Shows) -> Question
     ensures plays { result.plays ≡ report.now.plays }
     ensures mutex { result.mutex ≡ mutex_asked shows }
@@ -222,7 +222,7 @@ fn play_steps<C: Handler>(
 }
 
 impl Report {
-    /// What is reported before the first step.
+    /// The report before the first step.
     pub fn new(alloc: Global, board: &Board, limit: u32) -> Result<Report, AllocError>
         ensures line { IfOk result (λ report. report.text ≡ board_line_text (board_line_of board.now limit)) }
         ensures none { IfOk result (λ report. (report.plays ≡ 0) × (report.holdings ≡ nothing_held) × (report.entered ≡ [])) }

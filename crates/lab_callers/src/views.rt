@@ -1,4 +1,4 @@
-//! What is looked at after a step, by the caller that has the kernel.
+//! The view after a step, by the caller that has the kernel.
 ghost use Rattle.std.specs.Prelude.{◌≡◌, None, IfOk, MatchOption, drop};
 ghost use Rattle.std.specs.Option.{option_map_or};
 ghost use Rattle.lab_callers.specs.Views.{Sees, SeesWord};
@@ -9,7 +9,7 @@ use evl_machine::{HeldOf, InWord};
 use evl_pipeline::Handler;
 use std::alloc::{AllocError, Allocator, Global};
 
-/// What a step's line shows beside the answer.
+/// The things that a step's line shows beside the answer.
 #[derive(Clone, Copy, PartialEq, Eq)]
 pub enum Shows {
     Nothing,
@@ -18,7 +18,7 @@ pub enum Shows {
     Core,
 }
 
-/// What is asked: a mutex's word, a thread's stage, and the plays after so many.
+/// The question: a mutex's word, a thread's stage, and the plays after so many.
 #[derive(Clone, Copy)]
 pub struct Question {
     pub mutex: Option<MutexId>,
@@ -26,7 +26,7 @@ pub struct Question {
     pub plays: usize,
 }
 
-/// What is seen: the word, the stage, those plays, how many there are in all, and how many calls were entered.
+/// The view: the word, the stage, those plays, how many there are in all, and how many calls were entered.
 #[derive(Drop)]
 pub struct View {
     pub word: Option<InWord>,
@@ -46,7 +46,7 @@ fn plays_behind(alloc: Global, plays: &[Play], count: usize) -> Result<Vec<Play>
     Vec::from_slice(alloc, &plays[count..])
 }
 
-// What is in a mutex's word.
+// The content of a mutex's word.
 fn word_of<C: Handler, A: Allocator>(
     held: &mut HeldOf<'_, C, A>,
     mutex: Option<MutexId>,
@@ -70,7 +70,7 @@ fn stage_of<C: Handler, A: Allocator>(held: &HeldOf<'_, C, A>, thread: Option<Th
     }
 }
 
-/// What a caller sees that has the kernel.
+/// The view of a caller that has the kernel.
 pub fn look<C: Handler, A: Allocator>(
     alloc: Global,
     held: &mut HeldOf<'_, C, A>,

@@ -1,4 +1,4 @@
--- What the items of a list stand for, one after the other.
+-- The meanings of the items of a list, one after the other.
 use Rattle.std.proofs.Common.{◌≡◌, List, [], ◌∷◌, ◌++◌, Option, Some, None, option_map, option_and_then, ap, sym, ◌∙◌, append_assoc}
 use Rattle.std.proofs.lemmas.Option.{same_Some, none-some}
 use Rattle.toml.specs.Data.{Data, Items, item}

@@ -1,4 +1,4 @@
--- What is in a line of what a caller does.
+-- The text of a line of what a caller does.
 use Rattle.std.specs.Prelude.{ℕ, List, ◌++◌, codes, decimal, Option, Some, None, string_bytes}
 use Rattle.evl_base.specs.Call.{call_text}
 use Rattle.lab_callers_text.specs.declared.acts.Act.{Act}

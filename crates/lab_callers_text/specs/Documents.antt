@@ -1,4 +1,4 @@
--- What a document of callers says, and the document of a scenario that is read for it.
+-- A document of callers, and the document of a scenario that is read for it.
 use Rattle.std.specs.Prelude.{ℕ, List, [], ◌∷◌, codes, ◌^◌, Bool, true, ◌&&◌, is_some, if◌then◌else◌, Option, Some, None, option_map, option_and_then, pos, string_bytes}
 use Rattle.std.specs.Option.{option_map_or, unwrap_or}
 use Rattle.toml.specs.Data.{Data, string, integer, array, table, Items, no_items, item, Members, no_members, get_member, as_array, as_table}

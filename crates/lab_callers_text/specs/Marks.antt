@@ -1,4 +1,4 @@
--- What a step does that was put as the step of a scenario.
+-- The act of a step that was put as the step of a scenario.
 use Rattle.std.specs.Prelude.{Option, Some, None, String}
 use Rattle.std.specs.declared.alloc.Global.{Global}
 use Rattle.evl_base.specs.declared.call.Call.{Call}

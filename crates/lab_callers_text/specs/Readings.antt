@@ -1,4 +1,4 @@
--- What a text of callers says, once its steps are those of a scenario.
+-- The meaning of a text of callers, once its steps are those of a scenario.
 use Rattle.std.specs.Prelude.{◌≡◌, ◌≤◌, ◌⊎◌, ℕ, List, [], ◌∷◌, length, map, nat_lt, false, ◌&&◌, if◌then◌else◌, Option, Some, None, option_map, Ok, Err}
 use Rattle.std.specs.List.{list_all}
 use Rattle.std.specs.Str.{is_utf8}
@@ -84,8 +84,8 @@ IsAgainst given text limits steps e =
     IsUnfit given text limits (length (put_list steps)) e
     ⊎ ((e ≡ fault.Text) × (all_put steps ≡ false))
 
--- What a document has of a scenario is refused: a date in it is none; or else the text that is read for it, which has just the keys and
--- values that are read for it where these have no more than 80 levels.
+-- A document's part of a scenario is refused: a date in it is none; or else the text that is read for it, which has just the keys
+-- and values that are read for it where these have no more than 80 levels.
 abbrev pub IsRefusedFor : Option ℕ → Members → List ℕ → Items → Fault → Type 0
 IsRefusedFor given plain limits steps e =
     ((e ≡ fault.Text) × (members_have_valid_dates plain ≡ false))

@@ -1,11 +1,11 @@
-//! What the steps of a text of callers do.
+//! The acts of the steps of a text of callers.
 ghost use Rattle.std.specs.Prelude.{◌≡◌, ◌++◌, OnOk, codes, decimal, string_bytes};
 ghost use Rattle.lab_callers_text.specs.Acts.{act_text, as_text, spent_text, until_text};
 
 use evl_base::{Call, MutexId, StaxId, ThreadId};
 use std::alloc::AllocError;
 
-/// What a step does. A name is that of a pass.
+/// A step's act. A name is that of a pass.
 #[derive(Drop)]
 pub enum Act {
     /// A call of the kernel.
@@ -21,7 +21,7 @@ pub enum Act {
     Give,
 }
 
-/// What is done, and by which caller.
+/// An act, and which caller does it.
 #[derive(Drop)]
 pub struct CallersStep {
     pub who: ThreadId,

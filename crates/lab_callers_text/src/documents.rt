@@ -13,7 +13,7 @@ use evl_scenario::Fault;
 use std::alloc::{AllocError, Global};
 use toml::{Table, Value};
 
-/// What steps say beside the calls of a scenario.
+/// The parts of steps beside the calls of a scenario.
 #[derive(Drop)]
 pub struct Marks {
     /// A mark for each step.
@@ -92,7 +92,7 @@ fn take_steps(alloc: Global, document: &mut Table) -> Option<Vec<Value>>
     }
 }
 
-// Puts a step as that of a scenario after others, and its mark after theirs. Where it can't be put so, an empty table,
+// Puts a step as that of a scenario after others, and its mark after theirs. If it can't be put so, an empty table,
 // which the reader of scenarios refuses, and no mark.
 fn put_step(
     alloc: Global,

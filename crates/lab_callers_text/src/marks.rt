@@ -196,7 +196,7 @@ pub fn mark_step(alloc: Global, value: &mut Value) -> Result<Option<Mark>, MarkF
     }
 }
 
-// What a step does that spends or gives a pass of this name, or none.
+// The act of a step that spends or gives a pass of this name, or none.
 fn plain_act(word: OwnWord, name: String) -> Act
     ensures { result ≡ plain_act word name }
 {
@@ -210,7 +210,7 @@ fn plain_act(word: OwnWord, name: String) -> Act
     }
 }
 
-// What a step does that has a name.
+// The act of a step that has a name.
 fn named_act(word: OwnWord, name: String, call: Call) -> Act
     ensures { result ≡ named_act word name call }
 {
@@ -222,7 +222,7 @@ fn named_act(word: OwnWord, name: String, call: Call) -> Act
     }
 }
 
-/// What a step does that was put as a call with this mark.
+/// The act of a step that was put as a call with this mark.
 pub fn act_of(mark: Option<Mark>, call: Call) -> Act
     ensures { result ≡ act_of mark call }
 {

@@ -21,7 +21,7 @@ use toml::Table;
 // A longer text is none.
 const MOST_BYTES: usize = 1_048_576;
 
-/// What a text of callers asks for: a board, the limit of its history, and the steps in order.
+/// The play that a text of callers asks for: a board, the limit of its history, and the steps in order.
 #[derive(Drop)]
 pub struct CallersText {
     pub board: Board,
@@ -91,7 +91,7 @@ fn with_staxes(board: Board, staxes: ArrayVec<u16, 16>) -> Board
     board
 }
 
-// What the text of a scenario asks for, with these staxes and marks.
+// The play that the text of a scenario asks for, with these staxes and marks.
 fn read_marked(
     alloc: Global,
     text: &str,
@@ -121,8 +121,9 @@ fn read_marked(
     }
 }
 
-/// What a text of callers asks for, under a limit that may be handed in. Faults are those of the scenario that it is but for staxes and
-/// callers' words; `Board` also for staxes out of their range, and `Step` for a step of a caller that misses a key.
+/// The play that a text of callers asks for, under a limit that may be handed in. Faults are those of the scenario that
+/// it is but for staxes and callers' words; `Board` also for staxes out of their range, and `Step` for a step of a
+/// caller that misses a key.
 pub fn read_callers(alloc: Global, bytes: &[u8], limit: Option<u32>) -> Result<CallersText, Fault>
     ensures fits { IfOk result (λ t. board_fits t.board ≡ true) }
     ensures opens { IfOk result (IsRead limit bytes.now) }

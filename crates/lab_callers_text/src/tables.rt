@@ -7,7 +7,7 @@ ghost use Rattle.lab_callers_text.specs.Tables.{with_value, without};
 use std::alloc::{AllocError, Global};
 use toml::{Table, Value};
 
-/// What is at a key.
+/// The value at a key.
 pub fn field<'a>(table: &'a Table, key: &str) -> Option<&'a Value>
     ensures { option_map (λ value. view value.now) result ≡ get_member key.now (table_view table.now) }
 {

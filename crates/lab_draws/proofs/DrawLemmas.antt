@@ -1,4 +1,4 @@
--- What is drawn of a text, by what each call of the body draws.
+-- The drawing of a text, by what each call of the body draws.
 use Rattle.std.proofs.Common.{◌≡◌, ◌∙◌, ◌⊎◌, inl, inr, ℕ, ◌-◌, ◌++◌, List, Bool, true, false, codes, Option, Result, Ok, Err, IfOk, OnOk, decimal, map, refl, sym, ap, append_assoc, string_bytes, subst}
 use Rattle.std.specs.Prelude.{IsSomeAnd, None, Some, is_some}
 use Rattle.std.specs.List.{All}

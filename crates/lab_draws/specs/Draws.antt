@@ -1,4 +1,4 @@
--- What `lab draw` draws of a text.
+-- The drawing of a text by `lab draw`.
 use Rattle.std.specs.Prelude.{string_bytes, ◌≡◌, ◌⊎◌, ◌<◌, ◌≤◌, ◌-◌, nat_lt, ℕ, List, [], ◌++◌, map, take, length, codes, decimal, Bool, true, false, MatchBool, ◌==◌, if◌then◌else◌, Option, Some, None, unwrap_or, IsSomeAnd, Result, Ok, Err}
 use Rattle.std.specs.List.{All}
 use Rattle.std.specs.Option.{option_map_or}

@@ -27,13 +27,13 @@ use std::alloc::{AllocError, Global};
 use std::io::{self, Read};
 use std::rt::Files;
 
-// What is between the lines of callers and what is printed of their machine's end.
+// The text between the lines of callers and what is printed of their machine's end.
 const CLOSING: &str = "\nclose -> ";
 
-// What is before the word that a line of callers shows.
+// The text before the word that a line of callers shows.
 const BAR: &str = " | ";
 
-/// What is asked for, and the callbacks that a scenario is played over.
+/// All that is asked for, and the callbacks that a scenario is played over.
 #[derive(Clone, Copy, Drop)]
 pub(crate) struct View<'a> {
     pub(crate) drawing: Drawing,

@@ -1,4 +1,4 @@
-//! What `lab draw` draws.
+//! The drawings of `lab draw`.
 #![tactic(auto)]
 
 mod callers_texts;

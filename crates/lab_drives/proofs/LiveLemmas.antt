@@ -1,4 +1,4 @@
--- What a driven machine answers, line by line and part by part of the input.
+-- The answers of a driven machine, line by line and part by part of the input.
 use Rattle.std.proofs.Common.{◌≡◌, ◌∙◌, ◌⊎◌, inl, inr, ℕ, ◌≤◌, List, [], ◌∷◌, ◌++◌, append-nil, append_assoc, length, Bool, true, false, Option, Some, None, Result, Ok, Err, IfOk, OnOk, option_map, refl, sym, ap, subst}
 use Rattle.std.specs.Prelude.{IsSomeAnd, codes, is_ok}
 use Rattle.std.specs.Io.KnownBytes.{Appends}

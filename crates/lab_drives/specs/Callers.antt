@@ -1,4 +1,4 @@
--- What `lab callers` says of a text of callers.
+-- The report of `lab callers` on a text of callers.
 use Rattle.std.specs.Prelude.{◌≡◌, ◌⊎◌, ℕ, List, ◌++◌, codes, decimal, false, length, map, string_bytes, Option, IsSomeAnd, unwrap_or}
 use Rattle.evl_kernel.specs.state.Openings.{can_open}
 use Rattle.evl_kernel.specs.state.States.{Handler}

@@ -1,4 +1,4 @@
--- What `lab live` answers to the lines of its input.
+-- The answers of `lab live` to the lines of its input.
 use Rattle.std.specs.Prelude.{◌≡◌, ◌≤◌, ◌⊎◌, ℕ, List, [], ◌∷◌, ◌++◌, codes, length, true, Option, Some, None, IsSomeAnd, is_some, option_map, Ok, Err}
 use Rattle.std.specs.List.{All}
 use Rattle.evl_kernel.specs.state.States.{Handler}

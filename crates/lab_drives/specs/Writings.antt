@@ -1,4 +1,4 @@
--- What a line of `lab live` is answered.
+-- The answer to a line of `lab live`.
 use Rattle.std.specs.Prelude.{◌≡◌, ◌⊎◌, ℕ, List, [], ◌∷◌, ◌++◌, codes, decimal, nat_lt, true, false, if◌then◌else◌, Option, Some, None}
 use Rattle.evl_kernel.specs.state.States.{Handler}
 use Rattle.evl_scenario.specs.Lines.{line_feed}
@@ -16,7 +16,7 @@ use Rattle.lab_live.specs.Wholes.{whole_text}
 
 -- ---- lines that write no file
 
--- What a line is answered, by what is there but for blanks at its end: the machine stays, or has one entry more, of which
+-- The answer to a line, by what is there but for blanks at its end: the machine stays, or has one entry more, of which
 -- these are the lines, or its last call was taken back; a line that may ask for a call does what it asks for, and `undo` takes the
 -- last call back; and of nothing, of a comment, of the scenario so far, of how the machine is and of help just that is reported.
 pub record AnswersOther (line : List ℕ) (old new : Driven) (answer : List ℕ) : Type 0 where

@@ -1,4 +1,4 @@
-//! What a driven machine answers to `lab live`'s lines, and what callers' calls answer in `lab callers`.
+//! The answers of a driven machine to `lab live`'s lines, and those of callers' calls in `lab callers`.
 #![tactic(auto)]
 
 mod callers;

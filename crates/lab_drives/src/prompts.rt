@@ -4,7 +4,7 @@ ghost use Rattle.std.specs.Prelude.{◌≡◌};
 use lab_streams::Source;
 use std::io::{self, Read, Write};
 
-// What is reported before the first line.
+// The text before the first line.
 const HELP: &str = "? helps, undo takes the last call back, Ctrl-D ends\n";
 
 /// An input, and the terminal on which it is prompted for, if that is asked.

@@ -1,4 +1,4 @@
--- What is printed of the steps of a scenario, one after another.
+-- The output of the steps of a scenario, one after another.
 use Rattle.std.proofs.Common.{◌≡◌, ◌≢◌, ◌↔◌, ◌∙◌, ◌++◌, ℕ, true, false, Bool, List, [], ◌∷◌, length, map, append-nil, append_assoc, Result, Err, IsTrue, IsFalse, if◌then◌else◌, refl, sym, ap, arith}
 use Rattle.std.proofs.lemmas.List.{length-map}
 use Rattle.evl_base.specs.declared.board.Board.{Board}

@@ -1,4 +1,4 @@
--- What is found in texts, as lines of JSON.
+-- Notices of what is found in texts, as lines of JSON.
 use Rattle.std.specs.Prelude.{ℕ, List, ◌++◌, codes, Option, Some, None}
 use Rattle.evl_scenario.specs.declared.faults.Fault.{Fault}
 use Rattle.evl_scenario.specs.declared.faults.Fault.TheVariants.{Step}
@@ -40,7 +40,7 @@ where_json said = named_json (codes "line") said.line ++ (named_json (codes "byt
 abbrev pub says_json : List ℕ → List ℕ
 says_json says = name_json (codes "says") ++ (json_text says ++ codes "}\n")
 
--- rule: What is found in a file is a line: its kind, line, byte and step, each a number or null, and what is said.
+-- rule: A thing found in a file is a line: its kind, line, byte and step, each a number or null, and what is said.
 --   Faults are reported so in order; warnings, and what is judged of a step, by their lines without a file's name.
 --   also: Warned.{in_the_end, judged_said}
 --   clauses: write_notice; write_faults; write_warnings; write_judged

@@ -1,4 +1,4 @@
--- What a machine has by numbers, as JSON: threads, elements, timers, and lines that are pending.
+-- The parts of a machine by numbers, as JSON: threads, elements, timers, and lines that are pending.
 use Rattle.std.specs.Prelude.{ℕ, ℤ, zero, suc, Bool, true, List, [], ◌∷◌, ◌++◌, length, codes, decimal, filter, is_some, map, slice_get, if◌then◌else◌, Option, Some, None, option_map}
 use Rattle.std.specs.Fmt.{signed_decimal}
 use Rattle.evl_base.specs.Policy.{policy_text}

@@ -1,5 +1,5 @@
 //! JSON for programs that ask the lab: the list of the calls, and what is found in texts.
-//! What names no source is this profile's own.
+//! Rules that name no source are this profile's own.
 #![tactic(auto)]
 
 mod calls;

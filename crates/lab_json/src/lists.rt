@@ -81,7 +81,7 @@ pub(crate) fn numbers_there<C>(
     Ok(all)
 }
 
-// Who waits for an element, the first one first.
+// The threads that wait for an element, the first one first.
 fn queue_of<C>(
     alloc: Global,
     kernel: &KernelOf<C, Global>,

@@ -1,4 +1,4 @@
-//! What is found in a text, as a line of JSON: its kind, its place, the step that it is of, and what is said of it.
+//! The notice of what is found in a text, as a line of JSON: its kind, place and step, and what is said of it.
 ghost use Rattle.std.specs.Prelude.{◌≡◌, ◌++◌, OnOk, flat_map, map, string_bytes};
 ghost use Rattle.lab_faults.specs.Told.{fault_told};
 ghost use Rattle.lab_json.specs.Notices as told;
@@ -22,7 +22,7 @@ pub enum Noticed {
     Unread,
 }
 
-/// What is found in a text. Lines and bytes in them are counted from 1, as are steps; each may be unknown.
+/// A thing found in a text. Lines and bytes in them are counted from 1, as are steps; each may be unknown.
 #[derive(Clone, Copy)]
 pub struct Notice<'a> {
     pub kind: Noticed,

@@ -81,8 +81,8 @@ fn play(
 }
 
 /// Lines of JSON for how the machine of a scenario's text is before its first step and after each, played over copies
-/// of these callbacks, under a limit that may be handed in. Of a text that is no scenario, and over more than 64
-/// callbacks, nothing is written. `AllocError` where memory couldn't grow.
+/// of these callbacks, under a limit that may be handed in. Nothing is written of a text that is no scenario, or over
+/// more than 64 callbacks. `AllocError` where memory couldn't grow.
 pub fn write_states(
     alloc: Global,
     file: &str,

@@ -10,7 +10,7 @@ use evl_scenario::number_of_text;
 use lab_traces::{before, behind};
 use std::alloc::{AllocError, Global};
 
-// What comes before the first space, and what after it.
+// The parts before and after the first space.
 fn around_blank(text: &str) -> Option<(&str, &str)>
     ensures { option_map (λ parts. (parts.0.now, parts.1.now)) result ≡ around_space text.now }
 {
@@ -140,7 +140,7 @@ fn judged_kind(is_fault: bool) -> Noticed
     }
 }
 
-// What is judged of a step, at a line.
+// The judgement of a step, at a line.
 fn judged_at(is_fault: bool, line: Option<u64>, says: &str) -> Notice<'_>
     ensures { notice_said result ≡ judged_at is_fault line says.now }
 {
@@ -153,7 +153,7 @@ fn judged_at(is_fault: bool, line: Option<u64>, says: &str) -> Notice<'_>
     }
 }
 
-// What is judged of a step, by its line without the name of its file.
+// The judgement of a step, by its line without the name of its file.
 fn judged(is_fault: bool, line: &str) -> Notice<'_>
     ensures { notice_said result ≡ judged_said is_fault line.now }
 {

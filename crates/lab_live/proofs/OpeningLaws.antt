@@ -1,4 +1,4 @@
--- What is known of a machine that has made the steps that it was opened with.
+-- Facts about a machine that has made the steps that it was opened with.
 use Rattle.std.proofs.Common.{arith, ◌≡◌, ◌≤◌, ◌↔◌, ◌∙◌, ◌&&◌, ℕ, zero, suc, Bool, true, false, nat_le, List, [], ◌∷◌, length, Result, Ok, Err, refl, sym, ap, subst}
 use Rattle.std.proofs.lemmas.Bool.{leb-true}
 use Rattle.evl_base.specs.Board.{board_fits}

@@ -1,4 +1,4 @@
--- What is printed of the newest entry of a history.
+-- The output of the newest entry of a history.
 use Rattle.std.proofs.Common.{◌≡◌, ◌∙◌, ℕ, ◌-◌, List, [], ◌∷◌, ◌++◌, length, drop, Some, sym, ap, arith}
 use Rattle.std.specs.List.{slice_get}
 use Rattle.std.proofs.Math.Seq.{get_or-append_seam, drop-append_seam}

@@ -1,4 +1,4 @@
--- What a line is answered.
+-- The answer to a line.
 use Rattle.std.specs.Prelude.{◌≡◌, ◌≢◌, ◌⊎◌, ◌==◌, ◌||◌, ℕ, Bool, false, List, [], ◌∷◌, ◌++◌, codes, decimal, drop, length, take, if◌then◌else◌, Option, Some, None}
 use Rattle.std.specs.Str.{bytes_eq, is_utf8}
 use Rattle.evl_base.specs.Call.{call_text}

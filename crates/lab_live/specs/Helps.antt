@@ -1,4 +1,4 @@
--- What the calls look like, and what their keys take.
+-- The form of the calls, and what their keys take.
 use Rattle.std.specs.Prelude.{ℕ, ◌||◌, List, [], ◌++◌, codes, flat_map, is_some, map, if◌then◌else◌, Option, Some, None}
 use Rattle.std.specs.Str.{bytes_eq}
 use Rattle.evl_base.specs.Calls.{fields_of, name_of, words}

@@ -1,4 +1,4 @@
--- What a driven machine is, what it was opened with, and what it says of a call.
+-- A driven machine, what it was opened with, and what it says of a call.
 use Rattle.std.specs.Prelude.{◌≡◌, ◌⊎◌, ◌≤◌, ◌-◌, ℕ, List, [], ◌∷◌, ◌++◌, length, map, take, None, Err}
 use Rattle.evl_base.specs.declared.board.Board.{Board}
 use Rattle.evl_base.specs.declared.entry.Entry.{Entry}
@@ -92,7 +92,7 @@ pub record TellsEntry (old new : History) (step : Step) (before after : List ℕ
   pub counted : entry.plays ≡ length plays
   pub told : after ≡ before ++ entry_lines (length new.entries) entry plays
 
--- What was written after the text before are the lines by which the trace of all that was asked grew.
+-- The text written after the text before is the lines by which the trace of all that was asked grew.
 pub record TellsTrace (old new : Driven) (before after : List ℕ) : Type 0 where
   pub lines : List ℕ
   pub told : after ≡ before ++ lines

@@ -1,4 +1,4 @@
--- What a driven machine says of its state.
+-- The words of a driven machine about its state.
 use Rattle.std.specs.Prelude.{ℕ, zero, suc, ◌==◌, Bool, true, false, ◌&&◌, List, [], ◌∷◌, ◌++◌, length, reverse, filter, find, flat_map, codes, decimal, if◌then◌else◌, Option, Some, None, Result, Ok}
 use Rattle.std.specs.List.{join_by}
 use Rattle.std.specs.Option.{option_map_or}

@@ -1,4 +1,4 @@
-//! What a line is answered.
+//! The answer to a line.
 ghost use Rattle.std.specs.Prelude.{◌≡◌, ◌<◌, ◌+◌, ◌-◌, ◌++◌, ◌∷◌, [], List, ℕ, codes, false, length, option_map, slice_get, string_bytes, true, IfErr, OnOk, if◌then◌else◌};
 ghost use Rattle.std.specs.Option.{option_map_or};
 ghost use Rattle.std.specs.Str.{is_utf8};

@@ -1,4 +1,4 @@
-//! What the calls look like.
+//! The form of the calls.
 ghost use Rattle.std.specs.Prelude.{◌≡◌, ◌++◌, None, codes, flat_map, is_some, map, option_map, string_bytes, IfOk, OnOk};
 ghost use Rattle.evl_base.specs.Calls.{name_of, words};
 ghost use Rattle.evl_scenario.specs.Steps.{word_of};
@@ -31,7 +31,7 @@ fn sample(key: &str) -> &'static str
     }
 }
 
-/// What is reported beside the forms.
+/// The report beside the forms.
 pub const NOTES: &str = "? WORD tells what a call's keys take
 ps tells threads, who waits for what, owners, pending lines and timers; ps all ranks, counts, bits, bytes and the date too
 scenario, or save, prints the calls so far as a scenario
@@ -117,7 +117,7 @@ pub fn write_help(told: &mut String) -> Result<(), AllocError>
     told.push_str(NOTES)
 }
 
-// What value is wanted at a key.
+// The value that is wanted at a key.
 #[tactic(auto, unfolding(crate::specs::Helps::takes_text))]
 fn wanted(key: &str) -> &'static str
     ensures { result.now ≡ takes_text key.now }

@@ -1,4 +1,4 @@
-//! What a machine is doing: its threads, who waits for what, owners, pending lines and timers.
+//! The state of a machine: its threads, who waits for what, owners, pending lines and timers.
 ghost use Rattle.std.specs.Prelude.{◌≡◌, ◌++◌, IfOk, OnOk, Some, flat_map, option_map, string_bytes};
 ghost use Rattle.evl_clock.specs.Limits.{timer_count};
 ghost use Rattle.lab_live.specs.States as states;

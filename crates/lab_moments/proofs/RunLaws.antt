@@ -1,4 +1,4 @@
--- What the steps of a scenario show, one after another.
+-- The moments that the steps of a scenario show, one after another.
 use Rattle.std.proofs.Common.{◌≡◌, ◌≢◌, ◌↔◌, ◌∙◌, ◌++◌, ℕ, true, false, Bool, List, [], ◌∷◌, length, map, append-nil, append_assoc, Result, Ok, Err, IfOk, IsTrue, IsFalse, if◌then◌else◌, refl, sym, ap, arith}
 use Rattle.std.proofs.lemmas.List.{length-map, map-append}
 use Rattle.evl_base.specs.declared.board.Board.{Board}

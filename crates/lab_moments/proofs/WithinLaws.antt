@@ -1,4 +1,4 @@
--- What is installed is on lines for which calls asked, and what is pending has a callback: each call and each play keeps that.
+-- Callbacks are installed on lines for which calls asked, and what is pending has one: each call and each play keeps that.
 use Rattle.std.proofs.Common.{◌≡◌, ◌≢◌, ◌≤◌, ◌<◌, ℕ, ◌+◌, ◌==◌, min, nat_lt, ◌⊎◌, inl, inr, Bool, true, false, not, List, [], ◌∷◌, Option, Some, None, Result, Ok, Err, is_some, unwrap_or, slice_get, if◌then◌else◌, refl, sym, ap, ◌∙◌, subst, arith}
 use Rattle.std.specs.Option.{option_map_or}
 use Rattle.std.proofs.lemmas.Bool.{false≢true}

@@ -1,4 +1,4 @@
--- What a picture shows of a run: the moment after each step.
+-- The part of a run that a picture shows: the moment after each step.
 use Rattle.std.specs.Prelude.{ℕ, List, [], ◌∷◌, length, filter_map, if◌then◌else◌, Result, Ok, Err}
 use Rattle.lab_drawing.specs.declared.lanes.Lane.{Lane}
 use Rattle.lab_drawing.specs.declared.moments.Moment.{Moment}

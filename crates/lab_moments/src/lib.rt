@@ -1,5 +1,5 @@
 //! The state of a machine after each call of a scenario.
-//! What names no source is this profile's own.
+//! Rules that name no source are this profile's own.
 #![tactic(auto)]
 
 mod handed;

@@ -86,8 +86,8 @@ fn play(
 }
 
 /// The lanes' states after each step of a scenario's text, played over copies of these callbacks: a moment for each
-/// step, that of the kernel after the steps so far. Of a text that is no scenario, and over more than 64 callbacks,
-/// there is no moment. `AllocError` where memory couldn't grow.
+/// step, that of the kernel after the steps so far. There is no moment of a text that is no scenario, or over
+/// more than 64 callbacks. `AllocError` where memory couldn't grow.
 pub fn moments_of(
     alloc: Global,
     bank: &[Planned],

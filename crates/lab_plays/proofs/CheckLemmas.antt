@@ -1,4 +1,4 @@
--- What is printed of scenarios that are checked, one after the other.
+-- The output for scenarios that are checked, one after the other.
 use Rattle.std.proofs.Common.{◌≡◌, ◌≤◌, ◌∙◌, length, ℕ, List, [], ◌∷◌, ◌++◌, append-nil, Bool, true, false, Option, Some, None, Result, Ok, Err, IfOk, OnOk, map, refl, sym, ap, ap₂, subst, string_bytes, arith, max}
 use Rattle.std.specs.Prelude.{IsSomeAnd, codes}
 use Rattle.std.specs.List.{All, concat}

@@ -1,4 +1,4 @@
--- What is said of a text as it was given, where it expects its steps to be answered so.
+-- The words for a text as it was given, where it expects its steps to be answered so.
 use Rattle.std.proofs.Common.{ℕ, List, Option, Result, Ok, Err, IfOk, inl, inr}
 use Rattle.evl_kernel.specs.state.States.{Handler}
 use Rattle.lab_lines.specs.Kinds.{IsPlain, IsUnread}

@@ -1,4 +1,4 @@
--- What is written of texts that are checked, one after the other.
+-- The lines written of texts that are checked, one after the other.
 use Rattle.std.proofs.Common.{arith, ◌≡◌, ◌≢◌, ◌≤◌, ◌∙◌, ℕ, zero, suc, ◌==◌, List, [], ◌∷◌, ◌++◌, append-nil, Bool, true, false, flat_map, length, map, max, codes, Option, Some, None, Result, Ok, Err, IfOk, OnOk, refl, sym, ap, ap₂, subst, string_bytes}
 use Rattle.std.specs.Prelude.{IsSomeAnd, if◌then◌else◌, is_ok, option_map, unwrap_or}
 use Rattle.std.specs.List.{All, concat}

@@ -1,4 +1,4 @@
--- What is reported of a scenario, and of several one after the other.
+-- The report of a scenario, and of several one after the other.
 use Rattle.std.proofs.Common.{arith, Bor, length, ◌==◌, ◌≢◌, ◌≡◌, ◌∙◌, ◌⊎◌, inl, inr, ℕ, List, [], ◌∷◌, ◌++◌, append-nil, Bool, true, false, max, if◌then◌else◌, Option, Some, None, Result, Ok, Err, IfOk, OnOk, IfSome, map, find, codes, decimal, refl, sym, ap, ap₂, subst, string_bytes}
 use Rattle.std.specs.Prelude.{IsSomeAnd}
 use Rattle.std.specs.List.{All, concat}

@@ -1,4 +1,4 @@
--- What `lab check` says of texts, by their kinds.
+-- The report of `lab check` on texts, by their kinds.
 use Rattle.std.specs.Prelude.{◌≡◌, ◌≤◌, ◌⊎◌, ℕ, List, [], ◌++◌, max, string_bytes, length, map, Bool, true, false, Option, None, IsSomeAnd, Ok, Err}
 use Rattle.std.specs.List.{All, concat, list_any}
 use Rattle.std.specs.Io.KnownBytes.{Appends}

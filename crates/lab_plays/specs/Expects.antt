@@ -1,4 +1,4 @@
--- What is reported of a text that expects its steps to be answered so.
+-- The report of a text that expects its steps to be answered so.
 use Rattle.std.specs.Prelude.{◌≡◌, ◌⊎◌, ℕ, Bool, List, [], ◌∷◌, ◌++◌, codes, decimal, map, string_bytes, if◌then◌else◌, Option, Some, None, Result, Ok, Err}
 use Rattle.std.specs.Str.Lines.{lines}
 use Rattle.evl_kernel.specs.state.States.{Handler}

@@ -1,4 +1,4 @@
--- Where a folder has the traces of texts.
+-- A folder's places for the traces of texts.
 use Rattle.std.specs.Prelude.{ℕ, ◌==◌, Bool, not, ◌||◌, List, [], ◌++◌, codes, length, drop, map, nat_eq, nat_lt, if◌then◌else◌, unwrap_or}
 use Rattle.std.specs.Bool.{beq}
 use Rattle.std.specs.List.{concat, filter, slice_split, starts_with}

@@ -1,4 +1,4 @@
--- What `lab check --json` prints of texts, by their kinds.
+-- The output of `lab check --json` for texts, by their kinds.
 use Rattle.std.specs.Prelude.{◌≡◌, ◌≤◌, ◌⊎◌, ℕ, ◌==◌, Bool, true, List, [], ◌++◌, codes, flat_map, length, map, max, string_bytes, if◌then◌else◌, Option, Some, None, IsSomeAnd, Ok, Err}
 use Rattle.std.specs.List.{All, concat}
 use Rattle.std.specs.Str.Lines.{lines}

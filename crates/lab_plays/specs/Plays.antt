@@ -1,4 +1,4 @@
--- What `lab play` says of scenarios.
+-- The report of `lab play` on scenarios.
 use Rattle.std.specs.Prelude.{◌≡◌, ◌≤◌, ◌⊎◌, ◌-◌, ◌^◌, max, ℕ, List, [], ◌∷◌, ◌++◌, length, map, take, find, codes, decimal, string_bytes, Bool, true, false, MatchBool, if◌then◌else◌, Option, Some, None, option_map, unwrap_or, IfSome, IsSomeAnd, Result, Ok, Err}
 use Rattle.std.specs.List.{All, concat}
 use Rattle.std.specs.Str.{bytes_eq}
@@ -171,7 +171,7 @@ pub record PlaysEach (Is : Played → Type 0) (names : List (List ℕ)) (known o
 --   folder's trace the first line that differs. Standard error has a line for each file (of another kind of text for
 --   which part it is, as `live`, `draw`, `convert`, `orders` and `callers` say too), then of one that expects answers
 --   the step that `first_unexpected` finds, with its line. The answer is the worst of the files': 1 of a trace that
---   differs from one that was kept; 2 of one that is refused, cannot be read, or whose trace is missing. Where a folder
+--   differs from one that was kept; 2 of one that is refused, cannot be read, or whose trace is missing. The place where a folder
 --   has a file's trace is a function of their paths. The first `-` is the whole input; a file's text is some text.
 --   also: Plays.{PlaysEach, TellsPlayed, Compares}; Folders.trace_path; Expects.JudgesText; Banks.Refuses
 --   clauses: judge; play_files; play_each; play_text; compare; trace_path; tell_fault

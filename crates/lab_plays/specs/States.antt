@@ -1,4 +1,4 @@
--- What `lab play --states` prints of scenarios.
+-- The output of `lab play --states` for scenarios.
 use Rattle.std.specs.Prelude.{◌≡◌, ◌≤◌, ◌⊎◌, ℕ, List, length, Option, IsSomeAnd, Result, Ok, Err}
 use Rattle.evl_kernel.specs.state.States.{Handler}
 use Rattle.evl_scenario.specs.Scenarios.{Script, scenario_of}

@@ -1,4 +1,4 @@
-//! What a text expects its steps to be answered, and whether they are.
+//! The answers that a text expects for its steps, and whether they come.
 ghost use Rattle.std.specs.Prelude.{◌≡◌, ◌≤◌, IfErr, IfOk, OnOk, false, length, map, max, string_bytes};
 ghost use Rattle.std.specs.Io.KnownBytes.{Appends};
 ghost use Rattle.evl_plans.specs.Told.{handler_of};
@@ -19,7 +19,7 @@ use lab_streams::{AGAINST, AT_FAULT, Stream, text_in, worse};
 use std::alloc::{AllocError, Global};
 use std::io;
 
-/// What is reported of a text that expects answers, and its status: nothing with 0, that a step is answered otherwise with
+/// The report of a text that expects answers, and its status: nothing with 0, that a step is answered otherwise with
 /// 1, or a fault with 2.
 #[derive(Drop)]
 pub struct Judged {
@@ -27,7 +27,7 @@ pub struct Judged {
     pub status: u8,
 }
 
-// That nothing is reported.
+// The verdict that reports nothing.
 fn nothing(alloc: Global) -> Judged
     ensures { IsNothing result }
 {
@@ -37,7 +37,7 @@ fn nothing(alloc: Global) -> Judged
     }
 }
 
-// That this is reported of a line.
+// The verdict that reports this of a line.
 fn said(
     alloc: Global,
     name: &str,
@@ -127,7 +127,7 @@ fn judge_scenario(
     }
 }
 
-// That a text of another kind expects nothing.
+// The verdict that a text of another kind expects nothing.
 fn judge_other(alloc: Global, name: &str, first: &Expected) -> Result<Judged, AllocError>
     ensures { IfOk result (IsSaid name.now first.now.line (other_words first.now) 2) }
 {
@@ -202,7 +202,7 @@ fn judge_all(
     }
 }
 
-// That an `expect` has no answer.
+// The verdict that an `expect` has no answer.
 fn no_answer(alloc: Global, name: &str, line: usize, step: usize) -> Result<Judged, AllocError>
     ensures { IfOk result (IsSaid name.now line (no_answer_words step) 2) }
 {

@@ -1,4 +1,4 @@
-//! Where a folder has the traces of texts.
+//! A folder's places for the traces of texts.
 ghost use Rattle.std.specs.Prelude.{◌≡◌, ◌≤◌, ◌==◌, ◌++◌, IfOk, OnOk, if◌then◌else◌, length, map, nat_lt, string_bytes};
 ghost use Rattle.std.specs.Bool.{beq};
 ghost use Rattle.std.specs.List.{concat, filter, slice_split};

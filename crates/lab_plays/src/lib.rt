@@ -1,5 +1,5 @@
-//! What `lab play` and `lab check` say of scenarios: traces, also beside those that were kept, faults, and whether steps are
-//! answered as a text expects.
+//! The reports of `lab play` and `lab check` on scenarios: traces, also beside those that were kept, faults, and
+//! whether steps are answered as a text expects.
 #![tactic(auto)]
 
 mod checks;

@@ -21,7 +21,7 @@ use std::alloc::{AllocError, Global};
 use std::io;
 use std::rt::Files;
 
-// What `lab check` says without `--json`, in the same words: NoteLemmas has that they are.
+// The words of `lab check` without `--json`: NoteLemmas has that they are the same.
 const NO_BOARD: &str = "a line with the board is wanted, as board threads=2 sems=[0]";
 
 const LONG_SCENARIO: &str = "a scenario of at most 1048576 bytes is wanted";

@@ -1,4 +1,4 @@
--- Where two lists of lines differ, one line after the other.
+-- The place where two lists of lines differ, one line after the other.
 use Rattle.std.proofs.Common.{arith, ◌≡◌, ℕ, ◌+◌, ◌-◌, ◌<◌, ◌≤◌, false, List, [], ◌∷◌, ◌++◌, append-nil, append_assoc, None, drop, take, length, map, option_map, slice_get, zero, suc, refl, ap, ap₂, sym, ◌∙◌}
 use Rattle.std.proofs.Math.Seq.{take-nil}
 use Rattle.std.proofs.lemmas.List.{drop_all, length-append, length-map, map-append}

@@ -1,4 +1,4 @@
--- What is written of a trace, part by part.
+-- The text written of a trace, part by part.
 use Rattle.std.proofs.Common.{◌≡◌, ℕ, Bool, Bor, true, List, ◌∷◌, ◌++◌, append_assoc, codes, decimal, map, Option, Some, None, is_some, option_map, refl, ap, ap₂, sym, ◌∙◌}
 use Rattle.std.specs.Prelude.{unwrap_or}
 use Rattle.lab_traces.specs.Parts.{before_end}

@@ -1,4 +1,4 @@
--- Where two traces differ.
+-- The place where two traces differ.
 use Rattle.std.specs.Prelude.{◌≡◌, ℕ, ◌+◌, ◌-◌, ◌==◌, Bool, true, false, ◌&&◌, ◌||◌, List, [], ◌∷◌, ◌++◌, if◌then◌else◌, Option, Some, None, length, option_map, take}
 use Rattle.std.specs.Str.{bytes_eq}
 use Rattle.lab_traces.specs.Lines.{Said, entry, line_read}

@@ -20,7 +20,7 @@ fn value_before_key(text: &str) -> Option<&str>
     Some(value)
 }
 
-// What comes after this front part and a space.
+// The part after this front part and a space.
 fn behind<'a>(front: &str, text: &'a str) -> Option<&'a str>
     ensures { (rest : List ℕ) → text.now ≡ front.now ++ 32 ∷ rest → option_map (λ r. r.now) result ≡ Some rest }
 {
@@ -75,10 +75,10 @@ pub fn call_parts<'a>(
     ensures word { IfOk result (λ parts. parts.0.now ≡ call_word call.now) }
     ensures pairs { IfOk result (λ parts. map (λ p. (p.0.now, p.1.now)) parts.1.items ≡ call_pairs call.now) }
 
-    // Of whatever word and pairs the text is joined, these are reported, the first eight pairs at least.
+    // The parts are these, whatever word and pairs the text is joined of, the first eight pairs at least.
     ensures joined { (word : List ℕ) (pairs : List Pair) → IsJoined call.now word pairs → IfOk result (λ parts. (parts.0.now ≡ word) × (map (λ p. (p.0.now, p.1.now)) parts.1.items ≡ take 8 pairs)) }
 
-    // Of each call of the kernel these are its name and its keys with their values.
+    // The parts of each call of the kernel are its name and its keys with their values.
     ensures called { (c : Call) → CallFits c → call.now ≡ call_text c → IfOk result (λ parts. (parts.0.now ≡ word_of c) × (map (λ p. (p.0.now, p.1.now)) parts.1.items ≡ map keyed_pair (told_in c))) }
 {
     match call.split_once(' ') {

@@ -1,4 +1,4 @@
-//! Where two traces differ.
+//! The place where two traces differ.
 ghost use Rattle.std.specs.Prelude.{◌≡◌, ◌<◌, ◌≤◌, ◌+◌, ◌-◌, ◌^◌, IfOk, List, OnOk, length, map, option_map, slice_get, take};
 ghost use Rattle.std.specs.Str.Lines.{lines};
 ghost use Rattle.lab_traces.specs.Lines.{line_read};
@@ -8,7 +8,7 @@ ghost use Rattle.lab_reports.specs.Differences.{Apart, Notes, differing, told_ap
 use lab_traces::{Says, read_line};
 use std::alloc::{AllocError, Global};
 
-/// Where two traces differ: the line, from 1, and what is there in each; none after the last line.
+/// The place where two traces differ: the line, from 1, and what is there in each; none after the last line.
 #[derive(Clone, Copy, PartialEq, Eq)]
 pub struct Difference<'a> {
     pub line: usize,
@@ -67,7 +67,7 @@ fn most_lines(old: &[&str], new: &[&str]) -> usize
     }
 }
 
-// What is reported of two lists of lines at an index.
+// The difference reported of two lists of lines at an index.
 fn told<'a>(old: &[&'a str], new: &[&'a str], index: usize) -> Difference<'a>
     requires { index < 2 ^ 64 - 1 }
     ensures { told_apart result ≡ (index + 1, slice_get (map (λ line. line.now) old.now) index, slice_get (map (λ line. line.now) new.now) index) }

@@ -1,4 +1,4 @@
-//! What is reported of scenarios that were played: their traces as lines of JSON and as trace events, and the
+//! The reports of scenarios that were played: their traces as lines of JSON and as trace events, and the
 //! differences of two traces; and the program's callbacks as plans.
 #![tactic(auto)]
 

@@ -55,7 +55,7 @@ pub fn put_value(alloc: Global, json: &mut String, key: &str, value: &str) -> Re
     put_text(alloc, json, value)
 }
 
-// What comes before the first space, and what after it.
+// The parts before and after the first space.
 fn around_blank(text: &str) -> Option<(&str, &str)>
     ensures { option_map (λ parts. (parts.0.now, parts.1.now)) result ≡ around_space text.now }
 {

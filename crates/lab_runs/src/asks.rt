@@ -1,4 +1,4 @@
-//! What is asked of a run, and whether it is so, in words.
+//! The questions about a run, and whether they are so, in words.
 use crate::reports::name_of;
 use crate::texts::Text;
 use crate::times::put_time;

@@ -7,14 +7,14 @@ use lab_schedules::{Bound, Schedule, Uncovered, bound_of, uncovered_in};
 use lab_tasks::Task;
 use std::alloc::{AllocError, Global};
 
-/// What a set runs over: the mutexes of its board, and whether it has a setup.
+/// The ground that a set runs over: the mutexes of its board, and whether it has a setup.
 #[derive(Clone, Copy)]
 pub struct Ground<'a> {
     pub kinds: &'a [MutexKind],
     pub is_set_up: bool,
 }
 
-/// What the analysis of response times says of a set: a bound for each task, or why it doesn't cover the set.
+/// The analysis of a set's response times: a bound for each task, or why it doesn't cover the set.
 #[derive(Drop)]
 pub enum Analysis {
     Bounds(Vec<Bound>),

@@ -6,7 +6,7 @@ use lab_schedules::{Event, Job, Schedule, Stretch, What};
 use lab_tasks::Act;
 use std::alloc::{AllocError, Global};
 
-// Where time begins, and how wide it is; how high a row is, and where the first one begins.
+// The place where time begins, and how wide it is; how high a row is, and where the first one begins.
 const LEFT: u64 = 120;
 
 const WIDE: u64 = 1_120;

@@ -29,7 +29,7 @@ fn put_numbered(text: &mut Text, word: &str, number: usize) {
     text.put_number(number as u64);
 }
 
-// What is wrong there.
+// The words for the fault there.
 fn words_of(kind: FaultKind) -> &'static str {
     match kind {
         FaultKind::NotToml(_) => "the text is no TOML in UTF-8 of at most 1048576 bytes",
@@ -52,7 +52,7 @@ fn words_of(kind: FaultKind) -> &'static str {
     }
 }
 
-// What a key of a task set can have.
+// The values that a key of a task set can have.
 fn wanted_of(key: &str) -> &'static str {
     match key {
         "policy" => "\"fifo P\", \"rr P SLICE\", \"quota GROUP P\" or \"weak P\"",
@@ -83,7 +83,7 @@ fn known_in(place: FaultPlace) -> &'static str {
     }
 }
 
-// What is wanted in its place.
+// The words for what is wanted in its place.
 fn wanted(fault: TasksFault) -> &'static str {
     match fault.kind {
         FaultKind::Value | FaultKind::Missing => wanted_of(fault.key),
@@ -108,7 +108,7 @@ fn put_wanted(line: &mut Text, wanted: &str) {
     }
 }
 
-/// What is said of a text that is refused: its name, the line of the fault where it is known, and what is wrong.
+/// The words for a text that is refused: its name, the line of the fault where it is known, and what is wrong.
 pub fn fault_line(
     alloc: Global,
     name: &str,

@@ -257,7 +257,7 @@ fn put_event(text: &mut Text, schedule: &Schedule, event: &Event) {
     text.put_char('\n');
 }
 
-/// What happens in jobs, a line each: the date in nanoseconds, the task, the number of the job, and what it does.
+/// The events in jobs, a line each: the date in nanoseconds, the task, the number of the job, and what it does.
 pub fn trace_of(alloc: Global, schedule: &Schedule) -> Result<String, AllocError> {
     let mut text = Text::new(alloc);
     for event in &schedule.events {

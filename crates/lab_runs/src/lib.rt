@@ -1,5 +1,5 @@
-//! What `lab run` prints of a task set: its jobs, its tasks, the processor's load, or the schedule in another form.
-//! What names no source is this profile's own.
+//! The output of `lab run` for a task set: its jobs, its tasks, the processor's load, or the schedule in another form.
+//! Rules that name no source are this profile's own.
 #![tactic(auto)]
 
 mod asks;

@@ -1,6 +1,6 @@
-//! What a part answers, and what it is asked for.
+//! The answer of a part, and what it is asked for.
 
-/// What a part prints, what it says on standard error, and its status.
+/// A part's output, its words on standard error, and its status.
 #[derive(Drop)]
 pub struct Output {
     pub printed: String,
@@ -8,7 +8,7 @@ pub struct Output {
     pub status: u8,
 }
 
-/// What is printed of a schedule.
+/// The part of a schedule that is printed.
 #[derive(Clone, Copy, PartialEq, Eq)]
 pub enum View {
     /// A line for each job and each task, and the load.
@@ -19,7 +19,7 @@ pub enum View {
     Json,
     /// The jobs as comma-separated values.
     Csv,
-    /// What happens in jobs, and when they compute, each with its date.
+    /// The events in jobs, and when jobs compute, each with its date.
     Trace,
     /// The scenario that `evl` plays to the same history.
     Scenario,

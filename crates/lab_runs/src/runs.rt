@@ -30,7 +30,7 @@ pub fn status_of(end: End) -> u8
     }
 }
 
-// What came of each job, where something of them is printed or asked.
+// The result of each job, where something of them is printed or asked.
 fn jobs_for(alloc: Global, schedule: &Schedule, view: View) -> Result<Vec<Job>, AllocError>
     ensures { IfOk result (λ jobs. AreEnough schedule.now jobs.items) }
 {
@@ -51,7 +51,7 @@ fn status_with(schedule: &Schedule, jobs: &[Job]) -> u8
     status
 }
 
-// What is said of a run that did not go to its end, or of which something asked isn't so, which a report prints itself.
+// The words for a run that did not go to its end, or of which something asked isn't so, which a report prints itself.
 fn said_of(
     alloc: Global,
     name: &str,
@@ -88,7 +88,7 @@ fn put_numbered(said: &mut Text, word: &str, number: usize) {
     said.put(": ");
 }
 
-/// What a set is played over: its board, the limit of the history, and whether it has a setup.
+/// The ground that a set is played over: its board, the limit of the history, and whether it has a setup.
 #[derive(Clone, Copy)]
 struct Over<'a> {
     board: &'a Board,
@@ -161,7 +161,7 @@ fn output_of(
     })
 }
 
-// What is printed of a task set that is run over these callbacks.
+// The output for a task set that is run over these callbacks.
 fn run_set(
     alloc: Global,
     name: &str,
@@ -185,7 +185,7 @@ fn run_set(
     output
 }
 
-// What is said of a text that is no task set.
+// The words for a text that is no task set.
 fn refused(
     alloc: Global,
     name: &str,
@@ -206,7 +206,7 @@ fn refused(
     })
 }
 
-/// What `lab run` prints of a text of tasks, over these callbacks. The status is 0 where the run goes to its end, 1 where
+/// `lab run`'s output for a text of tasks, over these callbacks. The status is 0 where the run goes to its end, 1 where
 /// something asked of it isn't so then, 5 where it is cut off, 2 where the text, its setup or a task is refused; `said`
 /// says which and why. `AllocError` where memory couldn't grow.
 pub fn run_tasks(

@@ -1,7 +1,7 @@
-//! What a task's jobs have come to.
+//! The summary of a task's jobs.
 use lab_schedules::{Job, Stretch};
 
-/// What a task's jobs have come to. Times are in nanoseconds.
+/// The summary of a task's jobs. Times are in nanoseconds.
 #[derive(Clone, Copy, PartialEq, Eq)]
 pub struct Summary {
     /// How many jobs were released.
@@ -77,7 +77,7 @@ fn computed_by(runs: &[Stretch], task: usize) -> u64 {
     sum
 }
 
-/// What the jobs of a task, counted from 0, have come to.
+/// The summary of the jobs of a task, counted from 0.
 pub fn summary_of(jobs: &[Job], runs: &[Stretch], task: usize) -> Summary {
     let mut all = NONE;
     for job in jobs {

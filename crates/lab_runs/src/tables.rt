@@ -3,7 +3,7 @@ use crate::texts::Text;
 use crate::times::{put_share, put_time};
 use std::alloc::Global;
 
-/// Cells in rows, and how wide each column is. Where memory is refused for a cell, the table's text is cut.
+/// Cells in rows, and how wide each column is. The table's text is cut where memory is refused for a cell.
 #[derive(Drop)]
 pub struct Table {
     alloc: Global,

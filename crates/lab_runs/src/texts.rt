@@ -1,7 +1,7 @@
 //! A text that is written piece by piece, and is whole or refused at its end.
 use std::alloc::{AllocError, Global};
 
-/// A text that is being written. Where memory is refused it remembers that, so that only its end has to ask.
+/// A text that is being written. It remembers if memory is refused, so that only its end has to ask.
 #[derive(Drop)]
 pub struct Text {
     written: String,

@@ -1,4 +1,4 @@
--- What a play leaves at its end is a schedule of its task set.
+-- The end of a play leaves a schedule of its task set.
 use Rattle.std.proofs.Common.{◌≡◌, ◌≢◌, ◌∙◌, List, length, sym, ap}
 use Rattle.evl_kernel.specs.state.States.{Handler}
 use Rattle.evl_shell.specs.Runs.{Moment}

@@ -1,4 +1,4 @@
--- What a task does that has the processor, where that takes no time.
+-- The acts of a task that has the processor, where they take no time.
 use Rattle.std.specs.Prelude.{ℕ, ◌+◌, ◌-◌, ◌^◌, ◌==◌, min, nat_le, nat_lt, Bool, true, false, Option, Some, None, option_map, slice_get, if◌then◌else◌}
 use Rattle.std.specs.Option.{option_map_or}
 use Rattle.evl_base.specs.declared.call.Call.{Call}

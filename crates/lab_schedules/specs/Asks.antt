@@ -1,4 +1,4 @@
--- What is asked of a run, and whether it is so of its jobs.
+-- The questions about a run, and whether they are so of its jobs.
 use Rattle.std.specs.Prelude.{ℕ, ◌-◌, ◌==◌, ◌&&◌, nat_lt, Bool, not, List, unwrap_or, if◌then◌else◌}
 use Rattle.std.specs.List.{find}
 use Rattle.std.specs.Option.{is_none}
@@ -10,7 +10,7 @@ use Rattle.lab_schedules.specs.declared.jobs.Job.{Job}
 abbrev pub lasts : Job → ℕ → ℕ
 lasts job end = unwrap_or job.finish end - job.release
 
--- rule: What is asked is so if no job is against it: a late one where deadlines are to be met, one of the task that
+-- rule: An ask is kept if no job is against it: a late one where deadlines are to be met, one of the task that
 --   takes longer, or is held up for longer, from its release to its end, or to the end of the run. If a deadline is to
 --   be missed, some job is late.
 --   also: Asks.holds

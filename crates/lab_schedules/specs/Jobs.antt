@@ -1,4 +1,4 @@
--- What came of each job: by what happened in it, and by who computed when.
+-- The result of each job: by what happened in it, and by who computed when.
 use Rattle.std.specs.Prelude.{ℕ, ◌+◌, ◌-◌, ◌^◌, ◌==◌, ◌&&◌, min, max, nat_le, nat_lt, Bool, true, false, not, List, [], ◌∷◌, ◌++◌, filter, Option, Some, None, option_and_then, option_map, slice_get, unwrap_or, if◌then◌else◌}
 use Rattle.std.specs.Option.{option_map_or}
 use Rattle.std.specs.List.{find, list_any}

@@ -1,4 +1,4 @@
--- What holds of every play.
+-- Laws of every play.
 use Rattle.std.specs.Prelude.{ℕ, ◌≡◌, ◌+◌, ◌-◌, ◌==◌, ◌&&◌, Bool, true, false, List, [], ◌∷◌, Option, Some, None, slice_get, if◌then◌else◌}
 use Rattle.lab_tasks.specs.declared.sets.Rules.{Rules}
 use Rattle.lab_schedules.specs.declared.places.Place.{Place}
@@ -34,7 +34,7 @@ abbrev pub given : List Stretch → ℕ → ℕ → ℕ
 given [] task job = 0
 given (s ∷ runs) task job = share task job s + given runs task job
 
--- What passes while a task computes is given to its job, and to no other.
+-- The time that passes while a task computes is given to its job, and to no other.
 pub record ComputingIsCounted (p : Played) (task : ℕ) (place : Place) (rest from acts : ℕ) : Type 0 where
   pub own : given (computed p task place rest from acts).runs task place.job ≡ given p.runs task place.job + (now p - from)
   pub others : (other job : ℕ) → (task == other && place.job == job) ≡ false → given (computed p task place rest from acts).runs other job ≡ given p.runs other job

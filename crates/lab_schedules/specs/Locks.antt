@@ -1,4 +1,4 @@
--- Mutexes, as tasks lock and unlock them. Where nobody waits and there is no ceiling no call is made: a word is enough.
+-- Mutexes, as tasks lock and unlock them. No call is made where nobody waits and there is no ceiling: a word is enough.
 use Rattle.std.specs.Prelude.{ℕ, ◌+◌, ◌-◌, ◌^◌, ◌==◌, ◌||◌, min, nat_lt, Bool, true, false, not, Option, Some, None, Result, Ok, Err, length, slice_get, slice_set, if◌then◌else◌}
 use Rattle.std.specs.Option.{option_map_or}
 use Rattle.evl_base.specs.declared.call.Call.{Call}

@@ -93,7 +93,7 @@ pub record Ends (p : Played) (all : Rules) (s : Schedule) : Type 0 where
 abbrev pub Finishes : List Step → Rules → ℕ → Played → Schedule → Type 0
 Finishes setup rules limit p s = (q : Played) × PlaysTo setup rules limit p s.end q × Ends q rules s
 
--- rule: What a whole play answers is what the definition computes of setup, tasks and callbacks, unless it ends since
+-- rule: The answer of a whole play is what the definition computes of setup, tasks and callbacks, unless it ends since
 --   the history is full, as it then is.
 --   also: Openings.played
 --   clauses: play_tasks

@@ -1,4 +1,4 @@
--- Where a task is in what it does.
+-- The place of a task in what it does.
 use Rattle.std.specs.Prelude.{ℕ, ◌+◌, ◌-◌, ◌^◌, min, Bool, true, false, Option, Some, None}
 use Rattle.lab_schedules.specs.declared.places.Phase.{Phase}
 use Rattle.lab_schedules.specs.declared.places.Phase.TheVariants.{Between, Due, At, Runs, Sleeps, Waits, Over}

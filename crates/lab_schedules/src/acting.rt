@@ -1,4 +1,4 @@
-//! What a task does that has the processor, where it takes no time.
+//! The acts of a task that has the processor, where they take no time.
 
 ghost use Rattle.std.specs.Prelude.{◌≡◌, IfOk, OnOk};
 ghost use Rattle.lab_schedules.specs.Acts.{act_at, await_date, await_job, did, do_act, end_call, end_run, end_wait, get_until, finish_job, leave, rest_until, run, sleep, start, tried_to, wake};
@@ -134,7 +134,7 @@ impl Play {
         Ok(())
     }
 
-    // What a task slept or waited for is over.
+    // The sleep or wait of a task is over.
     #[tactic(auto, unfolding(crate::specs::Acts::wake))]
     fn wake(&mut self, task: usize, place: Place) -> Result<(), Halt>
         ensures { OnOk result (self.new ≡ wake self.old task place) }
@@ -143,7 +143,7 @@ impl Play {
         self.did(task, place)
     }
 
-    // What a task waited for in a call is over: the call is done, or refused.
+    // The wait of a task in a call is over: the call is done, or refused.
     #[tactic(auto, unfolding(crate::specs::Acts::end_call))]
     fn end_call(&mut self, task: usize, place: Place) -> Result<(), Halt>
         ensures { OnOk result (self.new ≡ end_call self.old task place) }

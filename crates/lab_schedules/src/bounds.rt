@@ -92,7 +92,7 @@ fn blocking(kinds: &[MutexKind], tasks: &[Task], rank: u16) -> u64
     sum
 }
 
-// What a task asks of the processor.
+// The load that a task asks of the processor.
 fn load_of(is: &Task) -> Load
     ensures { result ≡ load_of is.now }
 {
@@ -102,7 +102,7 @@ fn load_of(is: &Task) -> Load
     }
 }
 
-// What the tasks of a rank and of higher ones ask, but for the task at a place.
+// The loads of the tasks of a rank and of higher ones, but for the task at a place.
 fn loads_of(alloc: Global, tasks: &[Task], place: usize, rank: u16) -> Result<Vec<Load>, AllocError>
     ensures { IfOk result (λ loads. loads.items ≡ loads_in place rank 0 tasks.now) }
 {

@@ -101,7 +101,7 @@ impl Play {
         }
     }
 
-    /// Makes a call. What it answers. `Full` exactly at the limit of the history.
+    /// Makes a call. The result is its answer. `Full` exactly at the limit of the history.
     pub fn call(&mut self, who: ThreadId, call: Call) -> Result<Result<Reply, Refusal>, Halt>
         ensures answer { IfOk result (λ given. given ≡ answer self.old who call) }
         ensures after { OnOk result (self.new ≡ called self.old who call) }
@@ -117,7 +117,7 @@ impl Play {
         Ok(answer)
     }
 
-    /// Where a task is.
+    /// A task's place.
     pub fn place(&self, task: usize) -> Place
         ensures { result ≡ place_at self.now task }
     {

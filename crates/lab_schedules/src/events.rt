@@ -1,4 +1,4 @@
-//! What happens in jobs, and when they compute.
+//! The events in jobs, and when jobs compute.
 
 use evl_base::Refusal;
 

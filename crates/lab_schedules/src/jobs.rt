@@ -1,4 +1,4 @@
-//! What came of each job, by what happened in it and when its task computed.
+//! The result of each job, by what happened in it and when its task computed.
 ghost use Rattle.std.specs.Prelude.{◌≡◌, ◌++◌, ◌-◌, IfOk, None, OnOk, false, filter, option_map};
 ghost use Rattle.std.specs.List.{find};
 ghost use Rattle.lab_schedules.specs.Jobs.{blocked_in, computes, deadline_of, finish_of, finishes, is_asleep, is_finish, is_gap, is_late, is_lower, is_next_there, is_start, job_of, jobs_in, jobs_of, leaves, leaves_at, of_job, of_task, overlap, past_of, preemptions, rank_at, rank_of, released, rests, runs_for, runs_lower, share, sleeps, start_of, starts};
@@ -435,7 +435,7 @@ fn past_of(
     })
 }
 
-/// What came of each job that has started, and of each task's next one that was released before the end, in a run with
+/// The result of each job that has started, and of each task's next one that was released before the end, in a run with
 /// these events and times of computing that ended at a date: by tasks, and by their numbers.
 pub fn jobs_of(
     alloc: Global,

@@ -1,4 +1,4 @@
-//! What holds of every play, each law as the contract of a function.
+//! Laws of every play, each as the contract of a function.
 ghost use Rattle.std.specs.Prelude.{ℕ};
 ghost use Rattle.lab_tasks.specs.declared.sets.Rules.{Rules};
 ghost use Rattle.lab_schedules.specs.declared.places.Place.{Place};
@@ -15,7 +15,7 @@ pub fn time_waits()
     ensures { (rules : Rules) (p : Played) → TimeWaits rules p }
 {}
 
-/// What passes while a task computes is given to its job, and to no other.
+/// The time that passes while a task computes is given to its job, and to no other.
 pub fn computing_is_counted()
     ensures { (p : Played) (task : ℕ) (place : Place) (rest from acts : ℕ) → ComputingIsCounted p task place rest from acts }
 {}

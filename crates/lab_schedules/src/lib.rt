@@ -1,5 +1,5 @@
 //! Task sets, played over a kernel: who computes when, and what comes of each job.
-//! What names no source is this profile's own.
+//! Rules that name no source are this profile's own.
 #![tactic(auto)]
 
 mod acting;

@@ -7,7 +7,7 @@ use crate::bounds::Bound;
 // How often the sum is made at most: a text of tasks with far shorter periods than others.
 const MOST_STEPS: u32 = 1_000_000;
 
-/// What a task asks of the processor: so many nanoseconds in each period of so many.
+/// The load that a task asks of the processor: so many nanoseconds in each period of so many.
 #[derive(Clone, Copy, PartialEq, Eq)]
 pub struct Load {
     pub computes: u64,

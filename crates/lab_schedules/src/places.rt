@@ -1,8 +1,8 @@
-//! Where a task is in what it does.
+//! The place of a task in what it does.
 ghost use Rattle.std.specs.Prelude.{◌≡◌};
 ghost use Rattle.lab_schedules.specs.Places.{at, at_first, behind_job, further, is_over, rest_of, wakes_of};
 
-/// What a task is at.
+/// The phase that a task is at.
 #[derive(Clone, Copy, PartialEq, Eq)]
 pub enum Phase {
     /// Its next job has no date yet.
@@ -21,7 +21,7 @@ pub enum Phase {
     Over,
 }
 
-/// Where a task is.
+/// A task's place.
 #[derive(Clone, Copy, PartialEq, Eq)]
 pub struct Place {
     /// The number of its job, from 0, or of the next one.

@@ -1,4 +1,4 @@
-//! What comes of a task set.
+//! The schedule that comes of a task set.
 ghost use Rattle.std.specs.Prelude.{◌≡◌, IfOk};
 ghost use Rattle.lab_schedules.specs.Jobs.{jobs_of};
 
@@ -24,8 +24,8 @@ pub enum End {
     Attach(usize),
 }
 
-/// What comes of a task set: the kernel with its history, what happened in each job, when each computed, and why the run
-/// ends.
+/// The schedule of a task set: the kernel with its history, what happened in each job, when each computed, and why the
+/// run ends.
 #[derive(Drop)]
 pub struct Schedule {
     /// The tasks and interrupts that were played.
@@ -45,7 +45,7 @@ impl Schedule {
         kernel.leave();
     }
 
-    /// What came of each job that has started, and of each task's next one that was released before the end: by tasks,
+    /// The result of each job that has started, and of each task's next one that was released before the end: by tasks,
     /// and by their numbers.
     pub fn jobs(&self, alloc: Global) -> Result<Vec<Job>, AllocError>
         ensures { IfOk result (λ jobs. jobs.items ≡ jobs_of self.now.rules.tasks.items self.now.events.items self.now.runs.items self.now.date 0 self.now.rules.tasks.items) }

@@ -5,7 +5,7 @@ ghost use Rattle.lab_schedules.specs.Words.{free, handed, has_ceiling, nested, n
 use evl_base::{MutexKind, ThreadId};
 use std::alloc::{AllocError, Global};
 
-/// Who has a mutex, and how often it locked it.
+/// The owner of a mutex, and how often it locked it.
 #[derive(Clone, Copy, PartialEq, Eq)]
 pub struct Owner {
     pub thread: ThreadId,

@@ -1,4 +1,4 @@
--- What holds of each element of a list by its place, with one more after them; and the rest of a list.
+-- Laws of each element of a list by its place, with one more after them; and the rest of a list.
 use Rattle.std.proofs.Common.{◌≡◌, ℕ, zero, suc, ◌-◌, List, [], ◌∷◌, ◌++◌, length, take, drop, refl, sym, subst, ap, ◌∙◌, arith}
 use Rattle.std.specs.Prelude.{Some, slice_get}
 use Rattle.std.proofs.lemmas.Option.{same_Some}

@@ -1,4 +1,4 @@
--- What calls on words can be answered, as it is written.
+-- The answers that calls on words can have, as they are written.
 use Rattle.std.specs.Prelude.{ℕ, ◌+◌, Bool, false, not, ◌&&◌, ◌||◌, List, [], ◌∷◌, codes, find, Option, string_bytes}
 use Rattle.std.specs.List.{list_any}
 use Rattle.std.specs.Str.{bytes_eq}

@@ -1,4 +1,4 @@
--- What a text asks of the orders of steps.
+-- The questions of a text about the orders of steps.
 use Rattle.std.specs.Prelude.{ℕ, ◌≡◌, ◌⊎◌, Bool, true, false, List, [], ◌∷◌, IsSomeAnd, map, option_and_then}
 use Rattle.std.specs.Str.{is_utf8}
 use Rattle.toml.specs.Parse.{parse_document}
@@ -37,9 +37,9 @@ IsWhyJoined plain e =
 abbrev pub IsUnaskedFor : List ℕ → AskFault → Type 0
 IsUnaskedFor text e = (e ≡ fault.Memory) ⊎ (((e ≡ fault.Table) × (is_utf8 text ≡ false)) ⊎ IsWhyJoined (unasked_part text) e)
 
--- rule: What is asked is what the tables say; questions about moments are those of their lines, and name what the board
+-- rule: The questions are what the tables say; questions about moments are those of their lines, and name what the board
 --   has; a line that sets no list of texts, or a text of which a part between ` and `s is no fact, is reported, with
---   its number and a word that may be meant. What is asked beside is refused only for what is wrong with it. The first
+--   its number and a word that may be meant. Any other question is refused only for what is wrong with it. The first
 --   answer of `never` that no call of its caller can have is reported.
 --   also: Asks.IsUnaskedFor; Questions.{AreAsked, are_there, IsUnasked}; Near.near_word; Answers.{answers_of,
 --   first_impossible}

@@ -1,4 +1,4 @@
--- What a text of steps has beside a text of callers: calls that take the core by a turn of its own, and a wrong step.
+-- The extras of steps' texts beside texts of callers: calls that take the core by a turn of its own, and a wrong step.
 use Rattle.std.specs.Prelude.{ℕ, ◌+◌, ◌-◌, ◌==◌, Bool, true, false, ◌&&◌, ◌||◌, not, List, [], ◌∷◌, ◌++◌, Option, Some, None, codes, if◌then◌else◌, is_none, is_some, length, slice_index_or, slice_set}
 use Rattle.std.specs.List.{list_any}
 use Rattle.std.specs.Option.{option_map_or, option_or}

@@ -1,4 +1,4 @@
-//! What calls on words can be answered, as it is written.
+//! The answers that calls on words can have, as they are written.
 ghost use Rattle.std.specs.Prelude.{◌≡◌, IfOk, is_some, map, not, option_map, string_bytes};
 ghost use Rattle.std.specs.List.{list_any};
 ghost use Rattle.std.specs.Str.{bytes_eq};
@@ -11,7 +11,7 @@ use lab_scenario_orders::{Ask, Never};
 use lab_step_orders::{Crew, CrewCaller, WordCall};
 use std::alloc::{AllocError, Global};
 
-// What a call can be answered.
+// The answers that a call can have.
 fn answers_of(call: WordCall) -> &'static [&'static str]
     ensures { map (λ word. word.now) result.now ≡ answers.answers_of call }
 {
@@ -55,7 +55,7 @@ fn answers_of(call: WordCall) -> &'static [&'static str]
     }
 }
 
-// What numbers may follow.
+// The front parts after which a number follows.
 fn fronts_of(call: WordCall) -> &'static [&'static str]
     ensures { map (λ word. word.now) result.now ≡ answers.fronts_of call }
 {
@@ -66,7 +66,7 @@ fn fronts_of(call: WordCall) -> &'static [&'static str]
     }
 }
 
-// What else where callers make a wrong step, so that a word names another owner than the kernel's record.
+// The further answers where callers make a wrong step, so that a word names another owner than the kernel's record.
 fn wrong_answers(call: WordCall) -> &'static [&'static str]
     ensures { map (λ word. word.now) result.now ≡ answers.wrong_answers call }
 {
@@ -76,7 +76,7 @@ fn wrong_answers(call: WordCall) -> &'static [&'static str]
     }
 }
 
-// What comes after the first text in the second, if that begins with it.
+// The part after the first text in the second, if that begins with it.
 fn behind<'a>(front: &[u8], text: &'a [u8]) -> Option<&'a [u8]>
     ensures { option_map (λ rest. rest.now) result ≡ text_behind front.now text.now }
 {

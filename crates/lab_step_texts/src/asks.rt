@@ -1,4 +1,4 @@
-//! What is asked of the orders of steps.
+//! The questions about the orders of steps.
 ghost use Rattle.std.specs.Prelude.{◌≡◌, ◌⊎◌, IfErr, IfOk, IsSomeAnd, map, option_and_then, string_bytes};
 ghost use Rattle.toml.specs.Parse.{parse_document};
 ghost use Rattle.lab_scenario_orders.specs.AskFaults.{IsWhyOf};
@@ -45,7 +45,7 @@ fn named(alloc: Global, crew: &Crew) -> Result<Callers, AskFault> {
     }
 }
 
-// What the table `[ask]` asks of these callers.
+// The questions of the table `[ask]` about these callers.
 fn ask_of(alloc: Global, callers: &Callers, bytes: &[u8]) -> Result<Ask, AskFault>
     ensures asks { IfOk result (λ ask. IsSomeAnd (option_and_then ask_table (parse_document (ask_part bytes.now))) (λ table. Asks table ask)) }
     ensures placed { IfErr result (IsPlaced bytes.now) }
@@ -79,7 +79,7 @@ fn are_none(watches: &[Watch]) -> bool
     matches!(watches, [])
 }
 
-// What is asked, with these questions.
+// The same questions with these about moments.
 fn with_states(ask: Ask, watches: Vec<Watch>) -> Ask
     ensures never { result.never ≡ ask.never }
     ensures always_ends { result.always_ends ≡ ask.always_ends }
@@ -133,7 +133,7 @@ fn unasked_of(alloc: Global, text: &str) -> Result<String, AllocError>
     unasked_in(alloc, all.as_slice())
 }
 
-/// What the table `[ask]` of a text asks: nothing where there is none. Each answer of `never` is one of a thread that has
+/// The questions of a text's table `[ask]`: nothing without one. Each answer of `never` is one of a thread that has
 /// calls. Its questions about moments are the crew's.
 pub fn read_step_ask(alloc: Global, crew: &Crew, bytes: &[u8]) -> Result<Ask, AskFault>
     ensures asks { IfOk result (IsAskOf bytes.now crew.now) }

@@ -18,7 +18,7 @@ pub struct CallerCall {
     pub call: WordCall,
 }
 
-// What a name means.
+// The lock that a name means.
 #[derive(Clone, Copy, PartialEq, Eq)]
 pub(crate) enum Lock {
     Stax(StaxId),

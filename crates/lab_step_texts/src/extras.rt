@@ -1,4 +1,4 @@
-//! What a text of steps has beside a text of callers: calls that take the core by a turn of its own, and a wrong step.
+//! The extras of steps' texts beside texts of callers: calls that take the core by a turn of its own, and a wrong step.
 ghost use Rattle.std.specs.Prelude.{◌≡◌, ◌++◌, ◌-◌, [], None, IfOk, codes, OnOk, false, length, map, slice_set, string_bytes};
 ghost use Rattle.std.specs.Option.{option_map_or};
 ghost use Rattle.std.specs.Str.Lines.{lines};

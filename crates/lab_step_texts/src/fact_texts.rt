@@ -9,7 +9,7 @@ use evl_scenario::number_of_text;
 use lab_scenario_orders::past;
 use lab_step_orders::{StepClaim, StepFact};
 
-// What comes before the first blank, and what after it.
+// The parts before and after the first blank.
 fn around_blank(text: &str) -> Option<(&str, &str)>
     ensures { option_map (λ parts. (parts.0.now, parts.1.now)) result ≡ around_space text.now }
 {

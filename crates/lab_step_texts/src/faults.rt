@@ -21,7 +21,7 @@ pub enum StepFault {
 }
 
 impl StepFault {
-    /// What is said of it.
+    /// The words for it.
     pub fn words(self) -> &'static str
         ensures { result.now ≡ step_words self }
     {
@@ -59,7 +59,7 @@ fn when_key(when: When) -> &'static str
     }
 }
 
-// That a text isn't facts, and what may be meant.
+// Words for a text that isn't facts, and for what may be meant.
 fn unread_text(
     alloc: Global,
     number: usize,
@@ -83,7 +83,7 @@ fn unread_text(
 }
 
 impl Unread {
-    /// What is said of it. `AllocError` where memory couldn't grow.
+    /// The words for it. `AllocError` where memory couldn't grow.
     pub fn words(self, alloc: Global) -> Result<String, AllocError>
         ensures { IfOk result (λ words. string_bytes words ≡ unread_words self) }
     {

@@ -88,7 +88,7 @@ fn put_doing(alloc: Global, text: &mut String, crew: &Crew, turn: Turn) -> Resul
     }
 }
 
-// What is said of a turn that answers no call.
+// The words for a turn that answers no call.
 fn open_text(change: CoreChange) -> &'static str
     ensures { result.now ≡ open_text change }
 {

@@ -71,8 +71,8 @@ fn first_for(
     Ok(None)
 }
 
-/// What may be meant in a text that isn't facts: a word of facts at most two edits away from one of its words, which is
-/// none. `AllocError` where memory couldn't grow.
+/// The word that may be meant in a text that isn't facts: one of facts at most two edits away from one of its words,
+/// which is none. `AllocError` where memory couldn't grow.
 pub(crate) fn near_word(alloc: Global, text: &str) -> Result<Option<&'static str>, AllocError>
     ensures { IfOk result (λ found. option_map (λ word. word.now) found ≡ near_word text.now) }
 {

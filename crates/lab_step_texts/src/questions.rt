@@ -28,7 +28,7 @@ pub(crate) enum NotAsked {
     Memory,
 }
 
-// What comes before the first `=`, and what after it.
+// The parts before and after the first `=`.
 fn around_equals(text: &str) -> Option<(&str, &str)>
     ensures { option_map (λ parts. (parts.0.now, parts.1.now)) result ≡ keys.around_equals text.now }
 {
@@ -77,7 +77,7 @@ fn value_set(line: &str) -> Option<&str>
     }
 }
 
-// What is before and after a text in another one.
+// The parts before and after a text in another one.
 fn around<'a>(text: &'a str, between: &str) -> Option<(&'a str, &'a str)>
     requires { 0 < length between.now }
     ensures written { IfSome result (λ parts. text.now ≡ parts.0.now ++ (between.now ++ parts.1.now)) }
@@ -90,7 +90,7 @@ fn around<'a>(text: &'a str, between: &str) -> Option<(&'a str, &'a str)>
     }
 }
 
-// What follows this front part of a text.
+// The part after this front part of a text.
 fn behind<'a>(text: &'a str, front: &str) -> Option<&'a str>
     ensures { MatchOption result ((rest : List ℕ) → text.now ≡ front.now ++ rest → ⊥) (λ rest. text.now ≡ front.now ++ rest.now) }
 {
@@ -100,7 +100,7 @@ fn behind<'a>(text: &'a str, front: &str) -> Option<&'a str>
     }
 }
 
-// What comes before this end of a text.
+// The part before this end of a text.
 fn before<'a>(text: &'a str, end: &str) -> Option<&'a str>
     ensures { MatchOption result ((front : List ℕ) → text.now ≡ front ++ end.now → ⊥) (λ front. text.now ≡ front.now ++ end.now) }
 {
@@ -110,7 +110,7 @@ fn before<'a>(text: &'a str, end: &str) -> Option<&'a str>
     }
 }
 
-// What is within the brackets of a list and its first and last quotes.
+// The part within the brackets of a list and its first and last quotes.
 fn listed(value: &str) -> Option<&str>
     ensures listed { IfSome result (λ texts. IsListed value.now texts.now) }
     ensures none { IfNone result ((texts : List ℕ) → IsListed value.now texts → ⊥) }
@@ -143,7 +143,7 @@ fn pieces<'a>(alloc: Global, text: &'a str, between: &str) -> Result<Vec<&'a str
     Ok(texts)
 }
 
-// What each of these texts claims; none where one isn't a fact.
+// The claims of these texts; none where one isn't a fact.
 fn claims_of(alloc: Global, texts: &[&str]) -> Result<Option<Vec<StepClaim>>, AllocError>
     ensures each { IfOk result (λ all. IfSome all (λ claims. map claim_in (map (λ one. one.now) texts.now) ≡ map (λ claim. Some claim) claims.items)) }
     ensures strange { IfOk result (λ all. IfNone all (has_strange (map (λ one. one.now) texts.now) ≡ true)) }
@@ -158,7 +158,7 @@ fn claims_of(alloc: Global, texts: &[&str]) -> Result<Option<Vec<StepClaim>>, Al
     Ok(Some(claims))
 }
 
-// What a text claims; none where it isn't facts with `and` between them.
+// The claims of a text; none where it isn't facts with `and` between them.
 fn claims_in(alloc: Global, text: &str) -> Result<Option<Vec<StepClaim>>, AllocError>
     ensures claims { IfOk result (λ all. IfSome all (λ claims. Claims text.now claims.items)) }
     ensures none { IfOk result (λ all. IfNone all (IsNoFacts text.now)) }

@@ -41,7 +41,7 @@ pub fn asks_steps(alloc: Global, bytes: &[u8]) -> Result<bool, AllocError>
     is_of_callers(alloc, split.scenario.as_str().as_bytes())
 }
 
-// What a text asks of moments, on this board.
+// The questions of a text about moments, on this board.
 fn questions_of(alloc: Global, board: &Board, text: &str) -> Result<Vec<StepWatch>, StepsFault>
     ensures asked { IfOk result (λ all. AreAsked false (lines text.now) all.items) }
     ensures there { IfOk result (λ all. are_there board.now all.items ≡ true) }

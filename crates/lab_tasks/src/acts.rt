@@ -1,4 +1,4 @@
-//! What a task does, one after the other.
+//! The acts of a task, one after the other.
 
 use crate::durations::duration_of;
 use crate::faults::{FaultKind, FaultPlace, TasksFault, fault};
@@ -8,7 +8,7 @@ use evl_scenario::{Step, number_of_text, read_step_table};
 use std::alloc::{AllocError, Global};
 use toml::{Table, Value};
 
-/// What a task does.
+/// A task's act.
 #[derive(Drop)]
 pub enum Act {
     /// Computes for so long, in nanoseconds.
@@ -27,7 +27,7 @@ pub enum Act {
     Call(Call),
 }
 
-/// What the acts of a text are read by: the names of the tasks, and the cross-buffer by which tasks wait for dates.
+/// The names by which a text's acts are read: the tasks' names, and the cross-buffer by which tasks wait for dates.
 #[derive(Clone, Copy)]
 pub struct Names<'a> {
     pub alloc: Global,

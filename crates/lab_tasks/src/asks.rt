@@ -1,4 +1,4 @@
-//! What a text asks of its run.
+//! The questions of a text about its run.
 
 use crate::acts::Names;
 use crate::durations::duration_of;
@@ -8,7 +8,7 @@ use crate::tasks::values_at;
 use evl_scenario::{field, has_only_keys};
 use toml::{Table, Value};
 
-/// What is asked of a run. Tasks are counted from 0, times are in nanoseconds.
+/// A question about a run. Tasks are counted from 0, times are in nanoseconds.
 #[derive(Clone, Copy, PartialEq, Eq)]
 pub enum Ask {
     /// Whether no job is late.
@@ -43,7 +43,7 @@ fn read_bounds(
     Ok(bounds)
 }
 
-// What a table asks.
+// The questions of a table.
 fn read_table(names: Names, table: &Table) -> Result<Vec<Ask>, TasksFault> {
     if !has_only_keys(table, &["meets_deadlines", "response", "blocked"]) {
         return Err(fault(FaultPlace::Ask, "", FaultKind::UnknownKey));
@@ -63,7 +63,7 @@ fn read_table(names: Names, table: &Table) -> Result<Vec<Ask>, TasksFault> {
     Ok(asks)
 }
 
-/// What a text asks of its run, by the table at its key `ask`: nothing without it. `UnknownKey` where it has another key;
+/// A text's questions about its run, by the table at `ask`: none without it. `UnknownKey` where it has another key;
 /// `Value` where it is no table, a truth value is another value, or a bound isn't as `high <= 8ms` with a task's name.
 pub fn read_asks(names: Names, value: Option<&Value>) -> Result<Vec<Ask>, TasksFault> {
     match value {

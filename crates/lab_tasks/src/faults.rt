@@ -1,8 +1,8 @@
-//! What is at fault in a text of tasks, and where.
+//! The faults of a text of tasks, and where they are.
 
 use std::alloc::{AllocError, AllocFailed};
 
-/// Where a text is at fault. Numbers begin with 1.
+/// The place of a text's fault. Numbers begin with 1.
 #[derive(Clone, Copy, PartialEq, Eq)]
 pub enum FaultPlace {
     /// The text as a whole.
@@ -18,11 +18,11 @@ pub enum FaultPlace {
     Act(usize, usize),
     /// This interrupt.
     Interrupt(usize),
-    /// What is asked of the run.
+    /// The questions about the run.
     Ask,
 }
 
-/// What is at fault there.
+/// The kind of the fault there.
 #[derive(Clone, Copy, PartialEq, Eq)]
 pub enum FaultKind {
     /// It isn't UTF-8, is no TOML document, or has more than 1,048,576 bytes; the line where TOML ends, from 1.

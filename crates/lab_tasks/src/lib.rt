@@ -1,5 +1,5 @@
 //! Task sets, read from text: threads that compute for stated times over a board, with interrupts at stated dates.
-//! What names no source is this profile's own.
+//! Rules that name no source are this profile's own.
 #![tactic(auto)]
 
 mod acts;

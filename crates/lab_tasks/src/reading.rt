@@ -230,7 +230,7 @@ fn read_set(
     }
 }
 
-// What a document says, whose setup is this.
+// The task set of a document whose setup is this.
 fn read_document(
     alloc: Global,
     table: &Table,

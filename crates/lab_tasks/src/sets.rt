@@ -32,7 +32,7 @@ pub struct Interrupt {
     pub line: LineNo,
 }
 
-/// What is done when, over a board.
+/// The acts over a board, and when they are done.
 #[derive(Drop)]
 pub struct Rules {
     /// The end of the run, if it has one.
@@ -41,7 +41,7 @@ pub struct Rules {
     pub tasks: Vec<Task>,
     /// By their dates, and at one date in the text's order.
     pub interrupts: Vec<Interrupt>,
-    /// What is asked of the run.
+    /// The questions about the run.
     pub asks: Vec<Ask>,
 }
 
@@ -51,7 +51,7 @@ pub struct Rules {
 pub struct TaskSet {
     pub board: Board,
     pub limit: u32,
-    /// What is done before the tasks attach.
+    /// The steps that are done before the tasks attach.
     pub setup: Vec<Step>,
     pub rules: Rules,
 }

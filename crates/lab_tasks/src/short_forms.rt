@@ -4,7 +4,7 @@ use crate::names::{names_thread, thread_named};
 use std::alloc::{AllocError, Global};
 use toml::{Table, Value};
 
-// What a text means at a key: a thread by its task's name, a truth value, no bytes, or the text.
+// The meaning of a text at a key: a thread by its task's name, a truth value, no bytes, or the text.
 fn value_of(alloc: Global, names: &[String], key: &str, text: &str) -> Result<Value, AllocError> {
     if names_thread(key) {
         if let Some(thread) = thread_named(names, text) {

@@ -98,7 +98,7 @@ fn policy_of(table: &Table, place: FaultPlace, is_ranked: bool) -> Result<Policy
     }
 }
 
-// What the task does in each job.
+// The acts of the task in each job.
 fn does_of(names: Names, table: &Table, number: usize) -> Result<Vec<Act>, TasksFault> {
     let place = FaultPlace::Task(number);
     if field(table, "does").is_none() {

@@ -1,4 +1,4 @@
--- What is put together is taken apart again, and what is taken apart was put together so.
+-- Parts put together are taken apart again, and parts taken apart were put together so.
 use Rattle.std.proofs.Common.{arith, ◌≡◌, ℕ, suc, ◌+◌, ◌-◌, ◌==◌, ◌<◌, nat_eq, nat_lt, lt-ltb, Bool, true, false, not, List, [], ◌∷◌, ◌++◌, length, take, drop, get_or, if◌then◌else◌, Some, None, Option, refl, ◌∙◌, ap, length-append}
 use Rattle.std.proofs.lemmas.Bool.{and_parts, ltb-true, eqb-true, eq-eqb}
 use Rattle.std.proofs.lemmas.List.Folds.{list_all-append}

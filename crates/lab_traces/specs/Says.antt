@@ -1,4 +1,4 @@
--- What is known of the lines that were read.
+-- Facts about the lines that were read.
 use Rattle.std.specs.Prelude.{◌≡◌, ◌≢◌, ◌⊎◌, ℕ, ◌+◌, true, List, [], ◌∷◌, ◌++◌, length, Option, Some, None, is_some}
 use Rattle.std.specs.List.{All}
 use Rattle.evl_scenario.specs.Lines.{line_feed}

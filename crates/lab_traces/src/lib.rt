@@ -1,5 +1,5 @@
 //! The lines of a trace, read: each text that a trace has is read back as what it was written from, and what a text is
-//! read as has just that text. What names no source is this profile's own.
+//! read as has just that text. Rules that name no source are this profile's own.
 #![tactic(auto)]
 
 mod answers;

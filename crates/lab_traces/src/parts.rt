@@ -5,7 +5,7 @@ ghost use Rattle.lab_traces.specs.Parts.{around, before_end, Lacks};
 
 use evl_scenario::number_of_text;
 
-/// What comes before the first space, and what after it.
+/// The parts before and after the first space.
 pub fn around_blank(text: &str) -> Option<(&str, &str)>
     ensures { option_map (λ parts. (parts.0.now, parts.1.now)) result ≡ around_space text.now }
 {
@@ -15,7 +15,7 @@ pub fn around_blank(text: &str) -> Option<(&str, &str)>
     }
 }
 
-/// What comes before the first `>`, and what after it.
+/// The parts before and after the first `>`.
 pub fn around_point(text: &str) -> Option<(&str, &str)>
     ensures { option_map (λ parts. (parts.0.now, parts.1.now)) result ≡ around 62 text.now }
 {
@@ -36,7 +36,7 @@ pub fn around_line_feed(text: &str) -> Option<(&str, &str)>
     }
 }
 
-/// What follows this front part of a text.
+/// The part after this front part of a text.
 pub fn behind<'a>(front: &str, text: &'a str) -> Option<&'a str>
     ensures { option_map (λ rest. rest.now) result ≡ past_front front.now text.now }
 {
@@ -46,7 +46,7 @@ pub fn behind<'a>(front: &str, text: &'a str) -> Option<&'a str>
     }
 }
 
-/// What comes before this end of a text.
+/// The part before this end of a text.
 pub fn before<'a>(end: &str, text: &'a str) -> Option<&'a str>
     ensures { option_map (λ front. front.now) result ≡ before_end end.now text.now }
 {

@@ -22,7 +22,7 @@ use evl_base::Play;
 use evl_scenario::BoardLine;
 use std::alloc::Global;
 
-/// What a line of a trace says.
+/// The words of a line of a trace.
 #[derive(Clone, Copy, PartialEq, Eq)]
 pub enum Says<'a> {
     /// The board and the limit.
@@ -49,7 +49,7 @@ pub enum Misread {
     Line(usize),
 }
 
-// What a line says that doesn't begin with two spaces.
+// The words of a line that doesn't begin with two spaces.
 fn read_unspaced(text: &str) -> Option<Says<'_>>
     ensures { option_map says_of result ≡ unspaced_read text.now }
 {
@@ -60,7 +60,7 @@ fn read_unspaced(text: &str) -> Option<Says<'_>>
     }
 }
 
-// What a line says, by the parts that it is read in.
+// The words of a line, by the parts that it is read in.
 fn read_parts(text: &str) -> Option<Says<'_>>
     ensures { option_map says_of result ≡ line_read text.now }
 {
@@ -70,7 +70,7 @@ fn read_parts(text: &str) -> Option<Says<'_>>
     }
 }
 
-/// What a line says, without its line feed; none where it is no line of a trace. Reading is inverse to writing:
+/// The words of a line, without its line feed; none where it is no line of a trace. Reading is inverse to writing:
 /// whatever a line says, its text is read as that, and what a text is read as has just that text.
 pub fn read_line(text: &str) -> Option<Says<'_>>
     ensures read { option_map says_of result ≡ line_read text.now }
@@ -78,7 +78,7 @@ pub fn read_line(text: &str) -> Option<Says<'_>>
     // The text of whatever a line can say is read as that.
     ensures back { (said : Said) → SaidFits said → text.now ≡ said_text said → option_map says_of result ≡ Some said }
 
-    // What was read has just this text.
+    // The words read have just this text.
     ensures whole { IfSome result (λ says. text.now ≡ said_text (says_of says)) }
 
     // The line of a step and of what its call answered, for every call, is read as its parts.
@@ -116,7 +116,7 @@ pub fn read_lines(alloc: Global, text: &str) -> Result<Vec<TraceLine<'_>>, Misre
     // Each is one line of a trace: no line feed is in it.
     ensures apart { IfOk result (λ lines. All (λ line. IsLine (text_of line)) lines.items) }
 
-    // What is at the line that is named is no line of a trace, and each before it is one.
+    // The line that is named is no line of a trace, and each before it is one.
     ensures refused { IfErr result (λ e. (e ≡ Misread.Memory) ⊎ ((n : ℕ) × (e ≡ Misread.Line n) × IsMisread text.now n)) }
 {
     let mut lines = Vec::new(alloc);

@@ -1,4 +1,4 @@
--- What the steps of a scenario leave, one after the other.
+-- The effects of the steps of a scenario, one after the other.
 use Rattle.std.proofs.Common.{inl, inr, ◌≡◌, ◌≢◌, ◌⊎◌, ◌↔◌, ◌∙◌, ◌++◌, ◌+◌, ℕ, true, false, Bool, List, [], ◌∷◌, length, length-append, drop, flat_map, map, append-nil, append_assoc, Result, Ok, Err, IsTrue, IsFalse, OnOk, if◌then◌else◌, refl, sym, ap, arith}
 use Rattle.std.proofs.Math.Seq.{drop-append_seam}
 use Rattle.std.proofs.lemmas.List.{length-map}
@@ -69,7 +69,7 @@ makes old new step (Err NoMemory) adds keeps full bound memory = cc
 makes old new step (Err HistoryFull) adds keeps full bound memory = away old new step (full.0 refl) (keeps refl) bound
 makes old new step (Err refusal) adds keeps full bound memory = enters old new step (Err refusal) (λ e. absurd (let h = full.1 e in cc)) (adds refl) bound
 
--- What is said of a step, in three parts: of the step, of its callback, and of the entries since it was made.
+-- The words for a step, in three parts: of the step, of its callback, and of the entries since it was made.
 pub stepped : {C : Type 0} (old new : KernelView C) (step : Step) → Makes old new step → (name : List ℕ) (counts : Counts) (bank : List Handler) (number before start : ℕ)
     (text first second all : List ℕ) → before ≡ spurious_so_far old.history.state step.call → start ≡ length old.history.entries
     → first ≡ text ++ odd_lines name number old.history.state step

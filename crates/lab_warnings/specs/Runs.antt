@@ -1,4 +1,4 @@
--- What a run of a scenario's steps leaves.
+-- The effect of a run of a scenario's steps.
 use Rattle.std.specs.Prelude.{◌≡◌, ℕ, List, [], ◌∷◌, ◌++◌}
 use Rattle.std.specs.Option.{option_map_or}
 use Rattle.evl_base.specs.declared.entry.Entry.{Entry}

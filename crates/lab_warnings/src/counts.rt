@@ -1,4 +1,4 @@
-//! What a board has, and what a refused call names of it.
+//! The counts of a board, and those that a refused call names.
 ghost use Rattle.std.specs.Prelude.{◌≡◌, ◌++◌, nat_le, codes, string_bytes, OnOk};
 ghost use Rattle.lab_warnings.specs.Warnings as lines;
 

@@ -1,4 +1,4 @@
-//! What a scenario may have been meant not to do: the warnings of a dry run.
+//! The things that a scenario may have been meant not to do: the warnings of a dry run.
 #![tactic(auto)]
 
 mod actions;

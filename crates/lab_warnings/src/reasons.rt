@@ -55,7 +55,7 @@ fn other_than(who: u16, thread: u16) -> Option<u16>
     if thread == who { None } else { Some(thread) }
 }
 
-// Who is picked while an out-of-band thread makes this step, where that is somebody else.
+// The thread picked while an out-of-band thread makes this step, where that is somebody else.
 fn picked_instead(kernel: &PlannedKernel, step: &Step) -> Option<u16>
     ensures { result ≡ reasons.picked_instead kernel.now.history.state step.now }
 {

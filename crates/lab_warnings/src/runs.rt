@@ -66,7 +66,7 @@ fn end_of(fault: Fault) -> Result<(), AllocError>
     }
 }
 
-// Plays a text over these callbacks, and warns of what is seen. Of a text that is no scenario nothing is reported.
+// Plays a text over these callbacks, and warns of what is seen. Nothing is reported of a text that is no scenario.
 fn run(
     alloc: Global,
     told: &mut String,
@@ -90,8 +90,8 @@ fn run(
 
 /// Writes a line for each warning of a dry run after what was written, and answers whether there is one: of each step in
 /// order why it is odd, what its callback names that the board lacks, and that it is refused or spurious; then a full
-/// history, unfinished waits, and events that are pending in the end. Of no scenario, and over more than 64 callbacks,
-/// nothing is reported. `AllocError` where memory couldn't grow; then nothing is reported either.
+/// history, unfinished waits, and events that are pending in the end. Nothing is reported without a scenario, or over
+/// more than 64 callbacks. `AllocError` where memory couldn't grow; then nothing is reported either.
 pub fn warnings(
     alloc: Global,
     name: &str,

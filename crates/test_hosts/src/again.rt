@@ -19,7 +19,7 @@ impl<'a> BankUser for Player<'a> {
 
     type Output = bool;
 
-    // What it answers is looked at by the test alone: that the two are the same is promised by `run_hosts`.
+    // The test alone looks at its answer: that the two are the same is promised by `run_hosts`.
     ghost makes = { λ player bank output. ⊤ };
 
     fn take<R: Threads + Wait + Sync>(self, rt: &R, bank: Vec<Callback>) -> bool {

@@ -1,4 +1,4 @@
-//! What the words of the program ask for.
+//! The run that the words of the program ask for.
 use crate::runs::Order;
 use crate::texts::LIMIT;
 use evl_base::MAX_THREADS;

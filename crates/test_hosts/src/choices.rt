@@ -25,7 +25,7 @@ const TICK: u32 = 2000;
 /// How far deadlines lie ahead at most, in nanoseconds.
 pub const AHEAD: u32 = 5000;
 
-// What comes of one of so many equal chances.
+// The result of one of so many equal chances.
 macro_rules! by_chance {
     ($dice:ident of $most:literal: $($chance:pat => $it:expr;)*) => {
         match $dice.below($most) { $($chance => $it),* }
@@ -215,7 +215,7 @@ fn cross_buffer_call(dice: &mut Dice, alloc: Global) -> Call {
     ]
 }
 
-// What no caller may ask for by a call of its own.
+// The calls that no caller may ask for by a call of its own.
 fn mutex_call(dice: &mut Dice, date: u64) -> Call {
     by_chance![dice of 3:
         0 => Call::Claim { mutex: mutex(dice), owner: thread(dice), until: Some(until(dice, date)) };

@@ -1,4 +1,4 @@
-//! What is reported of each call at a mutex or a stax, so that the calls of each can be put into one order afterwards.
+//! The reports of calls at mutexes and staxes, so that the calls of each can be put into one order afterwards.
 use evl_base::{Refusal, Stage};
 use evl_machine::{Begun, Ended};
 use evl_words::{MutexPass, StaxPass};

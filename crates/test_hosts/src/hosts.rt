@@ -12,7 +12,7 @@ use std::sync::Wait;
 use std::thread;
 use std::thread::Threads;
 
-/// What goes to a host thread, works there on what all threads share, and comes back.
+/// A worker that goes to a host thread, works there on what all threads share, and comes back.
 pub trait Worker<M>: Drop {
     /// It belongs to what is shared.
     ghost fits: { Self → M → Type 0 };

@@ -1,6 +1,6 @@
 //! Runs host threads on one machine: with calls of all kinds by chance, whose history is made a scenario and its trace;
 //! or the callers of a text, again and again, with what each was answered.
-//! What names no source is this profile's own.
+//! Rules that name no source are this profile's own.
 #![tactic(auto)]
 
 mod again;

@@ -1,4 +1,4 @@
-//! What a host thread that makes the calls of a text has beside its caller.
+//! The things of a host thread that makes the calls of a text, beside its caller.
 use crate::dice::Dice;
 use evl_base::{Call, MutexId, Refusal, Spares, StaxId};
 use evl_scenario::Step;
@@ -55,7 +55,7 @@ fn calls_of(alloc: Global, crew: &Crew, number: u16) -> Result<Vec<WordCall>, Al
 }
 
 impl Own {
-    /// What the caller with this number begins with.
+    /// The things that the caller with this number begins with.
     pub fn new(alloc: Global, crew: &Crew, number: u16, seed: u64) -> Result<Own, AllocError> {
         Ok(Own {
             alloc,
@@ -97,7 +97,7 @@ impl Own {
         None
     }
 
-    /// Keeps a pass. Where there is no memory for it, what it is for stays held.
+    /// Keeps a pass. The thing that it is for stays held where there is no memory for it.
     pub fn keep_stax(&mut self, pass: StaxPass) {
         let _ = self.staxes.push(pass);
     }
@@ -106,7 +106,7 @@ impl Own {
         let _ = self.mutexes.push(pass);
     }
 
-    /// What it is answered that has no pass of a mutex to spend.
+    /// The answer to a caller that has no pass of a mutex to spend.
     pub fn no_pass(&self) -> Answer {
         Answer::Refused(if self.is_waiting {
             Refusal::Busy
@@ -115,7 +115,7 @@ impl Own {
         })
     }
 
-    /// Notes an answer. Where there is no memory for that it is left out.
+    /// Notes an answer. It is left out where there is no memory for it.
     pub fn note(&mut self, answer: Answer) {
         let _ = self.answers.push(answer);
     }

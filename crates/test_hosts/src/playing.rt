@@ -64,7 +64,7 @@ impl<'m, C: Handler, A: Allocator> Model for Playing<'m, C, A> {
     ghost invariant = { λ p. (p.caller.machine ≡ p.machine.now) × AnswersByPlan C.declared C.plan p.machine.now.first.callbacks };
 }
 
-// What a call of the kernel alone is answered.
+// The answer of a call of the kernel alone.
 fn answer_of(reply: Reply) -> Answer {
     match reply {
         Reply::Done => Answer::Done,

@@ -74,7 +74,7 @@ fn players_of<C: Handler>(
     Ok(players)
 }
 
-// What each player was answered.
+// The answers to each player.
 fn answers_of<C: Handler>(
     alloc: Global,
     players: Vec<Player<C, Global>>,
@@ -175,7 +175,7 @@ fn race_of<R: Threads + Wait + Sync>(
     race_over(rt, alloc, crew, seed, bank)
 }
 
-/// What each caller of a text was answered in one run of them on host threads, those without calls nothing.
+/// The answers to each caller of a text in one run of them on host threads, those without calls nothing.
 pub fn race<R: Threads + Wait + Sync>(
     rt: &R,
     alloc: Global,

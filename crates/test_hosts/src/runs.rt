@@ -26,7 +26,7 @@ use std::alloc::{AllocError, Allocator, Global};
 use std::sync::Wait;
 use std::thread::Threads;
 
-/// What is run: from which seed, by how many host threads, how many choices each makes in a round, how many entries the
+/// A run: from which seed, by how many host threads, how many choices each makes in a round, how many entries the
 /// history has at most, and in how many rounds, between which each caller goes with its passes to another host thread.
 /// One host thread more helps them.
 #[derive(Clone, Copy)]
@@ -54,7 +54,7 @@ impl Order {
         }
     }
 
-    // What the host thread of a caller is for, the first ones choosing and the last one helping.
+    // The duty of the host thread of a caller, the first ones choosing and the last one helping.
     fn duty(self, place: u16) -> Duty {
         if place < self.threads {
             Duty::Chooses(self.choices)

@@ -34,7 +34,7 @@ impl<'m, C: Handler, A: Allocator> Model for Session<'m, C, A> {
     ghost invariant = { λ s. (s.caller.machine ≡ s.machine.now) × AnswersByPlan C.declared C.plan s.machine.now.first.callbacks };
 }
 
-/// What a host thread is for.
+/// The duty of a host thread.
 #[derive(Clone, Copy)]
 pub enum Duty {
     /// It makes so many choices.
@@ -69,7 +69,7 @@ fn pauses(watch: &Watch) {
 }
 
 impl<C: Handler, A: Allocator> Session<'_, C, A> {
-    // What doesn't keep the core: a call, a wait, a mutex or a stax.
+    // One act that doesn't keep the core: a call, a wait, a mutex or a stax.
     fn acts<R: Wait>(&mut self, rt: &R)
         ensures { self.new ≡ self.old }
     {
@@ -85,7 +85,7 @@ impl<C: Handler, A: Allocator> Session<'_, C, A> {
         }
     }
 
-    // What is begun is finished, and what is held is given back.
+    // All that is begun is finished, and all that is held is given back.
     fn lets_go<R: Wait>(&mut self, rt: &R)
         ensures { self.new ≡ self.old }
     {

@@ -1,4 +1,4 @@
-//! What is printed of runs.
+//! The output of runs.
 use crate::events::Event;
 use crate::races;
 use crate::texts::{Failure, Texts};
@@ -51,7 +51,7 @@ pub fn excuse(rt: &HostRuntime, failure: Failure) -> io::Result<ExitCode> {
     Ok(ExitCode::FAILURE)
 }
 
-/// What is reported of a run: its texts, or whether its scenario plays again as it was.
+/// The report of a run: its texts, or whether its scenario plays again as it was.
 pub enum Told {
     Texts,
     Again(bool),
@@ -82,7 +82,7 @@ fn tell_caller(rt: &HostRuntime, number: usize, answers: &[Answer]) -> io::Resul
     println!(rt; "")
 }
 
-/// What came of a run: a line for each caller, and one after them.
+/// The result of a run: a line for each caller, and one after them.
 pub fn tell_answers(rt: &HostRuntime, told: &[Vec<Answer>]) -> io::Result<()> {
     for (number, answers) in told.iter().enumerate() {
         tell_caller(rt, number, answers.as_slice())?;
@@ -99,7 +99,7 @@ pub fn excuse_race(rt: &HostRuntime, failure: races::Failure) -> io::Result<Exit
     Ok(ExitCode::FAILURE)
 }
 
-/// What is read from the input; nothing where that fails.
+/// The text that is read from the input; nothing where that fails.
 pub fn read_text(rt: &HostRuntime) -> Option<Vec<u8>> {
     let mut input = rt.stdin();
     read_at_most(rt.alloc(), &mut input, MOST_READ).ok()

@@ -1,4 +1,4 @@
-//! What a host thread has beside its caller.
+//! The tools of a host thread beside its caller.
 use crate::choices::{any_call, until};
 use crate::dice::Dice;
 use crate::events::{Event, Step};
@@ -138,7 +138,7 @@ impl Tools {
         until(&mut self.dice, self.date)
     }
 
-    /// What it noted comes to the others' notes; false where there was no memory for that.
+    /// Its notes come to the others' notes; false where there was no memory for that.
     pub fn tells(&self, events: &mut Vec<Event>) -> bool {
         events.extend_from_slice(self.events.as_slice()).is_ok()
     }
@@ -159,7 +159,7 @@ impl Tools {
         self.staxes.len() >= STAXES_AT_ONCE
     }
 
-    /// Keeps a pass for later. Where there is no memory for it, what it is for stays held.
+    /// Keeps a pass for later. The thing that it is for stays held where there is no memory for it.
     pub fn keep_mutex(&mut self, pass: MutexPass) {
         let _ = self.mutexes.push(pass);
     }

@@ -4,7 +4,7 @@ use std::sync::Wait;
 use std::sync::atomic::{AtomicU32, Ordering};
 use std::thread;
 
-/// What the host threads show each other beside the machine: how many wait, how many are done, and how often those who
+/// All that host threads show each other beside the machine: how many wait, how many are done, and how often those who
 /// wait were helped; at how many takes of the kernel a mutex's word didn't say what is recorded; stamps; how many
 /// calls couldn't be reported; and how many have come to where all meet before they begin.
 #[derive(Drop)]

@@ -16,7 +16,7 @@ fn put_end(told: &mut String, name: &str, played: &Played) -> io::Result<()> {
     Ok(())
 }
 
-// What is reported of a text, over the program's callbacks. None where it isn't one.
+// The report of a text, over the program's callbacks. None where it isn't one.
 fn told_of<R: AllocGlobal>(rt: &R, name: &str, text: &[u8]) -> io::Result<Option<String>> {
     let bank = program_plans(rt.alloc())?;
     let Ok(asked) = read_callers(rt.alloc(), text, None) else {

@@ -49,7 +49,7 @@ const TOLD: &str = "board threads=2 sems=0 flags=0 xbufs=0 mutexes=1 groups=0 li
 6 T0 take -> done | core: taken by T0
 ";
 
-// What is made of marks.
+// The form in which marks are drawn.
 #[derive(Clone, Copy)]
 enum Form {
     Events,

@@ -22,7 +22,7 @@ do = "put"
 who = 0
 "#;
 
-// What is reported of it.
+// The report of it.
 const TOLD: &str = r#"a.toml:2:11: threads = 257: a number from 1 to 256 is wanted
 a.toml:6:1: step 1: arrive has no key "lien"; did you mean "line"? (keys: line)
 a.toml:8:6: step 2: there is no call "puut"; did you mean "put"?
@@ -40,7 +40,7 @@ threads = 2
 xbufs = [[8, 8], [0, 8]]
 "#;
 
-// What is reported of them.
+// The report of them.
 const LISTED_TOLD: &str =
     r#"a.toml:7:9: xbufs = [[8, 8], [0, 8]]: a list of at most 16 pairs of numbers from 1 to 256 is wanted
 a.toml:2:73: step 2: there is no call "puut"; did you mean "put"?
@@ -55,7 +55,7 @@ step = [ { do = "put", who = 0, sem = 0 } ]
 limit = 100
 "#;
 
-// What is reported of them.
+// The report of them.
 const BELOW_TOLD: &str =
     r#"a.toml:4:1: the board has no key "step"; it stands above [board] (keys: threads, sems, flags, xbufs, mutexes, groups)
 a.toml:5:1: the board has no key "limit"; it stands above [board] (keys: threads, sems, flags, xbufs, mutexes, groups)

@@ -8,14 +8,14 @@ do = [{ post_sem = 0 }, { every = 0, put_sem = 1 }]
 accept = 2
 "#;
 
-// What is reported of it.
+// The report of it.
 const BANK_TOLD: &str =
     r#"a.toml:2:35: row 2: every = 0: a number from 1 to 18446744073709551615, above 9223372036854775807 as a string, is wanted
 a.toml:2:38: row 2: no key "put_sem"; did you mean "post_sem"? (keys: every, post_sem, post_flags, bits, propagate, post_oob, stop_timer)
 a.toml:3:1: a callback: no key "accept"; did you mean "accepts"? (keys: accepts, do)
 "#;
 
-// What is reported of a text in a file `a.toml`, where it is of this kind.
+// The report of a text in a file `a.toml`, where it is of this kind.
 fn told(alloc: Global, kind: TextKind, text: &str) -> Result<String, AllocError> {
     let mut lines = String::new(alloc);
     if kind_of(alloc, text.as_bytes())? == kind {

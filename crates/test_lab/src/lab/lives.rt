@@ -106,7 +106,7 @@ fn are_forms_read(alloc: Global, session: &mut Session) -> bool {
     forms.as_str().lines().count() == STEP_WORDS.len()
 }
 
-// What is asked of a machine.
+// The question put to a machine.
 #[derive(Clone, Copy)]
 enum Asked<'a> {
     // Whether each line is answered so.
@@ -117,7 +117,7 @@ enum Asked<'a> {
     Forms,
 }
 
-// What a machine comes to.
+// Whether a machine comes to what is asked.
 fn comes_to(alloc: Global, session: &mut Session, asked: Asked<'_>) -> bool {
     match asked {
         Asked::Lines(lines) => are_answered(alloc, session, lines),
@@ -126,7 +126,7 @@ fn comes_to(alloc: Global, session: &mut Session, asked: Asked<'_>) -> bool {
     }
 }
 
-// What a new machine comes to: the one place where a machine is let go.
+// Whether a new machine comes to what is asked: the one place where a machine is let go.
 fn is_driven(alloc: Global, asked: Asked<'_>) -> bool {
     match open(alloc, FIRST) {
         Ok(mut session) => comes_to(alloc, &mut session, asked),
@@ -162,7 +162,7 @@ fn help_tells_what_keys_take(rt: HostRuntime) {
     assert!(rt; is_driven(rt.alloc(), Asked::Lines(&HELP)));
 }
 
-// What beginners type, and what they are answered.
+// Lines that beginners type, and the answers to them.
 const BEGINNERS: [(&str, &str); 13] = cases![
     "undo" => "undone: T0 put sem=0\n";
     "undo" => "! 1: nothing was asked so far\n";

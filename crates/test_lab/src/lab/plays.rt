@@ -1,4 +1,4 @@
-//! What is reported of scenarios that were played.
+//! The reports of scenarios that were played.
 use crate::rows::cases;
 use lab_reports::{find_differences, write_json};
 use lab_traces::read_lines;

@@ -1,4 +1,4 @@
-//! What is warned of.
+//! The warnings of a dry run.
 use evl_plans::Planned;
 use lab_reports::program_plans;
 use lab_warnings::warnings;

@@ -1,4 +1,4 @@
-//! What is asked of all orders.
+//! The questions about all orders.
 use super::orders::ONE_LEFT;
 use crate::rows::cases;
 use lab_orders::First;
@@ -34,7 +34,7 @@ fn first(alloc: Global, asked: &str) -> Result<Option<usize>, AskFault> {
     }
 }
 
-// What is asked, and the first outcome that is against it.
+// Questions, and the first outcome that is against them.
 const FIRST: [(&str, Option<usize>); 7] = cases![
     "" => None;
     "[ask]\nalways_ends = true\n" => Some(0);
@@ -95,7 +95,7 @@ fn means(alloc: Global, asked: &str, reports: &[(&str, bool)]) -> bool {
     true
 }
 
-// Of an answer of the first caller that is done.
+// Reports of which some have an answer of the first caller that is done.
 const ONE_ANSWER: [(&str, bool); 4] = cases![
     "T1 -> done\n" => true;
     "T2 -> begun\nT1 -> begun -> done -> Busy\n" => true;
@@ -123,7 +123,7 @@ fn orders_as_threads_are_picked_are_asked_for(rt: HostRuntime) {
     assert!(rt; !is_as_picked(rt.alloc(), "[ask]\nalways_ends = true\n"));
 }
 
-// Of a line that says that a thread waits.
+// Reports of which some have a line that says that a thread waits.
 const WAITS: [(&str, bool); 4] = cases![
     "T1 waits for sem 0\n" => true;
     "T2 -> begun\nT12 waits\n" => true;
@@ -136,14 +136,14 @@ fn waits_at_the_end_are_asked_for(rt: HostRuntime) {
     assert!(rt; means(rt.alloc(), "[ask]\nends_waits = true\n", &WAITS));
 }
 
-// What may be meant by the first answer that no step of its caller can have, or nothing; `None` where each is possible.
+// The answer that the first impossible one of its caller may mean, or nothing; `None` where each is possible.
 fn meant(alloc: Global, asked: &str) -> Option<&'static str> {
     let (callers, ask) = read(alloc, asked).ok()?;
     let never = first_impossible(alloc, &callers, &ask).ok()??;
     Some(near_answer(alloc, &callers, never).ok()?.unwrap_or(""))
 }
 
-// What is asked, and what may be meant by an answer that can't be.
+// Questions, and what may be meant by an answer that can't be.
 const MEANT: [(&str, Option<&str>); 10] = cases![
     "[ask]\nnever = [\"T1 -> timedout\"]\n" => Some("timed out");
     "[ask]\nnever = [\"T1 -> timed  out\"]\n" => Some("timed out");
@@ -164,7 +164,7 @@ fn answers_that_no_step_can_have_are_told(rt: HostRuntime) {
     }
 }
 
-// What is asked, and why it can't be read.
+// Questions, and why they can't be read.
 const REFUSED: [(&str, AskFault); 15] = cases![
     "[ask]\nnever = [\"T1 -> done\", \"T7 -> done\"]\n" => AskFault::Never(2);
     "[ask]\nnever = [\"T1 -> begun -> done\"]\n" => AskFault::Never(1);

@@ -17,7 +17,7 @@ const EACH_WORD: &str = "[board]\nthreads = 2\nmutexes = [\"normal\"]\nstaxes = 
 [[step]]\ndo = \"tick\"\nwho = 0\ndelta = 5
 [[step]]\ndo = \"give\"\nwho = 0\n";
 
-// What its steps are, as they are reported.
+// The report of its steps.
 const EACH_TOLD: &str = "T1 try_lock_stax stax=1 as=p-1
 T1 unlock_stax pass=p-1
 T0 try_lock_mutex mutex=0 as=m_0

@@ -9,7 +9,7 @@ use std::alloc::{AllocError, Global};
 #[derive(Clone, Copy, Drop)]
 struct Free;
 
-// What a step of a caller adds to the number of a state.
+// The worth of a caller's step, added to the number of a state.
 fn worth(caller: u16) -> u32
     ensures worth { result ≡ worth caller }
     ensures positive { 1 ≤ result }

@@ -232,7 +232,7 @@ fn are_counted(outcomes: &[Tally]) -> bool
     count < u128::MAX
 }
 
-// What is reported of the answers of each caller's steps, below the counts.
+// The report of the answers of each caller's steps, below the counts.
 fn told(alloc: Global, text: &str) -> Option<Vec<u8>> {
     let callers = read_callers(alloc, text.as_bytes()).ok()?;
     let found = outcomes_of(alloc, &callers, &NoCallbacks, &[], 1000).ok()?;

@@ -10,7 +10,7 @@ use std::alloc::{AllocError, Global};
 /// Nowhere.
 pub const NONE: u8 = 255;
 
-/// Where the steps of the two callers lead from each state.
+/// The states to which the steps of the two callers lead from each state.
 #[derive(Drop)]
 pub struct Table {
     pub rows: Vec<(u8, u8)>,
@@ -88,7 +88,7 @@ impl World for Table {
     }
 }
 
-// Where a step leads, or nowhere.
+// The state to which a step leads, or none.
 fn next_if(can: bool, state: u8) -> u8 {
     if can { state } else { NONE }
 }

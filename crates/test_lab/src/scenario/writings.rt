@@ -106,7 +106,7 @@ fn many_entries(alloc: Global, steps: usize) -> Result<Vec<Entry>, AllocError> {
     Ok(entries)
 }
 
-// What comes of writing so many steps of a board of one thread, with this limit and maybe a stage exclusion lock: the
+// The result of writing so many steps of a board of one thread, with this limit and maybe a stage exclusion lock: the
 // length of the text, or why there is none. None where the board or the entries aren't made.
 fn written(
     alloc: Global,

@@ -20,7 +20,7 @@ const THREE: &str =
 const FOUR: &str =
     "board threads=1 sems=1 flags=0 xbufs=0 mutexes=0 groups=0 limit=100\n1 T0 try_get sem=0 -> Again\n2 T0 put sem=0 -> done\n3 T0 try_get sem=0 -> done\n4 T0 peek sem=0 -> count 0\n";
 
-// What a front part of the file comes to: the trace of the steps that it has whole, or a fault.
+// The result of a front part of the file: the trace of the steps that it has whole, or a fault.
 type Came = Result<&'static str, Fault>;
 
 // The lines of the file: how long a line has to be at least, so that the part is TOML, and what it comes to then. A

@@ -10,7 +10,7 @@ use std::rt::Files;
 /// The program's name alone.
 pub(crate) const NO_WORDS: [&str; 1] = ["evl"];
 
-/// What the program does on words and an input: its status, and the writers that it had.
+/// The end of the program on words and an input: its status, and the writers that it had.
 pub(crate) fn ended<F: Files + AllocGlobal, I: Read, O: Write, E: Write>(
     rt: &F,
     words: &[&str],
@@ -63,7 +63,7 @@ pub(crate) fn ends<F: Files + AllocGlobal>(
     ends_by(rt, &NO_WORDS, text, status, written, said)
 }
 
-/// What a writer took of a run that ended at its fault, which the program reported; none where it ended otherwise.
+/// All that a writer took of a run that ended at its fault, which the program reported; none where it ended otherwise.
 pub(crate) fn taken_at_fault<F: Files + AllocGlobal>(
     rt: &F,
     words: &[&str],

@@ -65,7 +65,7 @@ pub(crate) fn spaces(alloc: Global, count: usize) -> Result<Vec<u8>, AllocError>
     Ok(text)
 }
 
-/// What a run of a text over no callbacks comes to, whether the sink has failed, and the writer that it had.
+/// The end of a run of a text over no callbacks, whether the sink has failed, and the writer that it had.
 pub(crate) fn came<W: Write>(
     alloc: Global,
     text: &[u8],

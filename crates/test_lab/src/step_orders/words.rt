@@ -112,7 +112,7 @@ pub(crate) struct Counts {
     pub(crate) with_answer: u128,
 }
 
-// What was found of them.
+// The counts of what was found of them.
 fn counted(found: &StepOutcomes, answer: &str) -> Counts {
     let mut with_answer: u128 = 0;
     for outcome in &found.all {
