@@ -249,7 +249,7 @@ class Words(Calls):
         return self._make("set_policy", who, call)
 
     def set_stage(self, who: int, *, stage: Stage = MISSING, **wrong: NoReturn) -> Answer:
-        """Moves the caller to this stage; if it is there already, nothing changes.
+        """Moves the caller to this stage, with its mutexes and its rank; if it is there already, nothing changes.
 
         `stage`: "inband" or "oob", out-of-band
 
