@@ -119,7 +119,7 @@ fn draw_marks(
     }
 }
 
-// The picture of the lines of a trace, with how the lanes stand as far as their source says.
+// The picture of the lines of a trace, with the lanes' states as far as their source says.
 fn draw_lines(
     alloc: Global,
     asked: Asked<'_>,

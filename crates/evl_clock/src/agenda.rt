@@ -7,7 +7,7 @@ use crate::due::Item;
 use evl_base::{ThreadId, TimerId};
 use std::alloc::Allocator;
 
-/// How many places there are for timers. Those of deadlines stand after them.
+/// How many places there are for timers. Those of deadlines come after them.
 pub const TIMERS: u16 = 64;
 
 /// A date at which the item of a place falls due.

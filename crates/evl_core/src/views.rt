@@ -1,4 +1,4 @@
-//! All that each thread knows. Views stand in proofs alone: no value of these types is made.
+//! All that each thread knows. Views are only in proofs: no value of these types is made.
 use evl_base::Entry;
 use evl_words::{View, WordEntry};
 use std::collections::LinkedList;
